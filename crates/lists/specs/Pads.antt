@@ -1,0 +1,57 @@
+-- A list filled up to a fixed length, as an array of slots holds it.
+-- Assumes nothing.
+use Prim.Native.Nat.{ℕ, zero, suc, _+_, _-_, _≤_, _<_}
+use native.Mathlib.Omega.{arith}
+use mathlib.Core.Path.{_≡_, refl, sym, ap, _∙_}
+use mathlib.Core.Bool.{Bool, true, false, cond}
+use mathlib.Core.List.{List, [], _∷_, _++_, append-assoc, append-nil}
+use lib.ListN.{length, getD, set, replicate, length-append, length-replicate, replicate-append-replicate}
+use lib.Seq.{set-at, set-append-left}
+use Rattle.lists.specs.Lists.{keep, sum, All, In, here, there, keep-append, keep-none, keep-all, sum-append, all-append}
+
+-- filled up with b to n elements
+unfoldable pub pad {ℓ} : {A : Type ℓ} → ℕ → A → List A → List A
+pad n b xs = xs ++ replicate (n - length xs) b
+
+module _ {A : Type 0} (n : ℕ) (b : A) where
+  pub length-pad : (xs : List A) → length xs ≤ n → length (pad n b xs) ≡ n
+  unfolding pad
+  length-pad xs h = omega (arith, length-append xs (replicate (n - length xs) b), length-replicate (n - length xs) b)
+
+  -- a store at the first unused place
+  pub pad-push : (xs : List A) (x : A) (k : ℕ) → length xs ≡ k → k < n → set (pad n b xs) k x ≡ pad n b (xs ++ (x ∷ []))
+  unfolding pad
+  pad-push xs x k e h =
+      let m : ℕ = n - suc k in
+      let e₁ : n - length xs ≡ suc m = omega arith in
+      let e₂ : n - length (xs ++ (x ∷ [])) ≡ m = omega (arith, length-append xs (x ∷ [])) in
+      rw (e₁, e₂, append-assoc) (set-at xs b (replicate m b) x k e)
+
+  in-same : (k : ℕ) {a : A} → In a (replicate k b) → a ≡ b
+  in-same zero i = elim i [ ]
+  in-same (suc k) (here e) = e
+  in-same (suc k) (there i) = in-same k i
+
+  sum-same : (f : A → ℕ) → f b ≡ 0 → (k : ℕ) → sum f (replicate k b) ≡ 0
+  sum-same f e zero = refl
+  sum-same f e (suc k) = omega (arith, sum-same f e k)
+
+  pub sum-pad : (f : A → ℕ) (xs : List A) → f b ≡ 0 → sum f (pad n b xs) ≡ sum f xs
+  unfolding pad
+  sum-pad f xs e = omega (arith, sum-append f xs (replicate (n - length xs) b), sum-same f e (n - length xs))
+
+  -- what passes no unused place is what passes the list
+  pub keep-pad : (p : A → Bool) (xs : List A) → p b ≡ false → keep p (pad n b xs) ≡ keep p xs
+  unfolding pad
+  keep-pad p xs e =
+      keep-append p xs (replicate (n - length xs) b)
+      ∙ ap (λ (l : List A). keep p xs ++ l) (keep-none p (replicate (n - length xs) b) (λ a i. ap p (in-same (n - length xs) i) ∙ e))
+      ∙ append-nil (keep p xs)
+
+  all-same : (P : A → Type 0) → P b → (k : ℕ) → All P (replicate k b)
+  all-same P h zero = tt
+  all-same P h (suc k) = (h, all-same P h k)
+
+  pub all-pad : (P : A → Type 0) (xs : List A) → P b → All P xs → All P (pad n b xs)
+  unfolding pad
+  all-pad P xs h a = all-append P xs (replicate (n - length xs) b) a (all-same P h (n - length xs))

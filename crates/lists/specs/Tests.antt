@@ -1,0 +1,47 @@
+-- Tests: what a Bool decides, and what its parts say.
+-- Assumes nothing.
+use Prim.Native.Nat.{ℕ, _≤_, _<_}
+use native.Mathlib.Omega.{arith}
+use mathlib.Core.Path.{_≡_, refl}
+use mathlib.Core.Bool.{Bool, true, false, _&&_, _||_}
+use mathlib.Core.Logic.{_⊎_, inl, inr}
+use lib.Dec.{leb}
+use borrow.Author.Tests.{leb-true, leb-false}
+
+-- a test decided, with the equation
+pub case {ℓ} : {A : Type ℓ} (b : Bool) → (b ≡ true → A) → (b ≡ false → A) → A
+case true f g = f refl
+case false f g = g refl
+
+pub true-false {ℓ} : {A : Type ℓ} (b : Bool) → b ≡ true → b ≡ false → A
+true-false true p q = absurd (let z : _≡_ {A = ℕ} 0 1 = cc in omega arith)
+true-false false p q = absurd (let z : _≡_ {A = ℕ} 0 1 = cc in omega arith)
+
+-- which of two comes first
+pub le-or : (a b : ℕ) → (a ≤ b) ⊎ (b < a)
+le-or a b = case (leb a b) (λ e. inl (leb-true a b e)) (λ e. inr (leb-false a b e))
+
+-- n if the test passes, and 0
+abbrev pub on : Bool → ℕ → ℕ
+on true n = n
+on false n = 0
+
+pub on-le : (b : Bool) (n : ℕ) → on b n ≤ n
+on-le true n = omega arith
+on-le false n = omega arith
+
+pub both : (a b : Bool) → (a && b) ≡ true → (a ≡ true) × (b ≡ true)
+both true b e = (refl, e)
+both false b e = true-false false e refl
+
+pub either : (a b : Bool) → (a || b) ≡ true → (a ≡ true) ⊎ (b ≡ true)
+either true b e = inl refl
+either false b e = inr e
+
+pub neither : (a b : Bool) → (a || b) ≡ false → (a ≡ false) × (b ≡ false)
+neither true b e = true-false true refl e
+neither false b e = (refl, e)
+
+pub and-right-false : (a : Bool) {b : Bool} → b ≡ false → (a && b) ≡ false
+and-right-false true e = e
+and-right-false false e = refl
