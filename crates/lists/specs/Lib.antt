@@ -3,3 +3,4 @@ pub mod Lists
 pub mod Least
 pub mod Loops
 pub mod Pads
+pub mod Tables
