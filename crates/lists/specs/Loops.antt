@@ -1,15 +1,16 @@
 -- Laws in the shape of a loop that goes over a list by its index: one element more has been passed (take) or is left (drop).
 -- Assumes nothing.
-use Prim.Native.Nat.{ℕ, zero, suc, _+_, _≤_, _<_}
+use Prim.Native.Nat.{ℕ, zero, suc, _+_, _-_, _≤_, _<_}
 use native.Mathlib.Omega.{arith}
 use native.Mathlib.Numerals.{add-one}
 use mathlib.Core.Path.{_≡_, refl, sym, ap, _∙_}
 use mathlib.Core.Bool.{Bool, true, false, cond}
 use mathlib.Core.Option.{Option, none, some}
 use mathlib.Core.List.{List, [], _∷_, _++_, append-nil}
-use lib.ListN.{length, getD, take, drop, set, drop-of-length-le}
+use lib.ListN.{length, getD, take, drop, set, replicate, drop-of-length-le}
 use lib.Seq.{take-suc, drop-cons}
 use Rattle.lists.specs.Tests.{case}
+use Rattle.lists.specs.Pads.{pad}
 use Rattle.lists.specs.Lists.{keep, sum, keep-append}
 
 -- the index of the first element that passes the test, counted from i
@@ -68,3 +69,17 @@ module _ {A : Type 0} (z : A) where
 
       later : Hit p xs (k + 1) j → Hit p (x ∷ xs) k j
       later h = record { at = suc (h .at); at-is = omega (arith, h .at-is); inside = omega (arith, h .inside); passes = h .passes }
+
+-- unused places are never found
+module _ {A : Type 0} (n : ℕ) (b : A) (p : A → Bool) (e : p b ≡ false) where
+  position-same : (i k : ℕ) → positionFrom p i (replicate k b) ≡ none
+  position-same i zero = refl
+  position-same i (suc k) = rw e (position-same (i + 1) k)
+
+  position-append : (xs : List A) (i k : ℕ) → positionFrom p i (xs ++ replicate k b) ≡ positionFrom p i xs
+  position-append [] i k = position-same i k
+  position-append (x ∷ xs) i k = rw (position-append xs (i + 1) k)
+
+  pub position-pad : (xs : List A) → position p (pad n b xs) ≡ position p xs
+  unfolding pad
+  position-pad xs = position-append xs 0 (n - length xs)

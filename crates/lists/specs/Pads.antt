@@ -5,9 +5,9 @@ use native.Mathlib.Omega.{arith}
 use mathlib.Core.Path.{_≡_, refl, sym, ap, _∙_}
 use mathlib.Core.Bool.{Bool, true, false, cond}
 use mathlib.Core.List.{List, [], _∷_, _++_, append-assoc, append-nil}
-use lib.ListN.{length, getD, set, replicate, length-append, length-replicate, replicate-append-replicate}
+use lib.ListN.{length, set, replicate, length-append, length-set, length-replicate, replicate-append-replicate}
 use lib.Seq.{set-at, set-append-left}
-use Rattle.lists.specs.Lists.{keep, sum, All, In, here, there, keep-append, keep-none, keep-all, sum-append, all-append}
+use Rattle.lists.specs.Lists.{keep, sum, All, In, here, there, keep-append, keep-none, keep-all, length-keep-le, sum-append, all-append}
 
 -- filled up with b to n elements
 unfoldable pub pad {ℓ} : {A : Type ℓ} → ℕ → A → List A → List A
@@ -55,3 +55,22 @@ module _ {A : Type 0} (n : ℕ) (b : A) where
   pub all-pad : (P : A → Type 0) (xs : List A) → P b → All P xs → All P (pad n b xs)
   unfolding pad
   all-pad P xs h a = all-append P xs (replicate (n - length xs) b) a (all-same P h (n - length xs))
+
+  -- a store among the elements
+  pub pad-set : (xs : List A) (i : ℕ) (x : A) → i < length xs → set (pad n b xs) i x ≡ pad n b (set xs i x)
+  unfolding pad
+  pad-set xs i x h = rw (length-set xs i x) (set-append-left xs (replicate (n - length xs) b) i x h)
+
+  keep-same : (p : A → Bool) → p b ≡ true → (k : ℕ) → keep p (replicate k b) ≡ replicate k b
+  keep-same p e k = keep-all p (replicate k b) (λ a i. ap p (in-same k i) ∙ e)
+
+  -- a selection that keeps unused places: filled up again, it is the selection of the list
+  pub pad-keep : (p : A → Bool) (xs : List A) → p b ≡ true → length xs ≤ n → pad n b (keep p (pad n b xs)) ≡ pad n b (keep p xs)
+  unfolding pad
+  pad-keep p xs e h =
+      let k = n - length xs in
+      let K = keep p xs in
+      let q : keep p (xs ++ replicate k b) ≡ K ++ replicate k b = keep-append p xs (replicate k b) ∙ ap (λ (l : List A). K ++ l) (keep-same p e k) in
+      let low = length-keep-le p xs in
+      let c : k + (n - length (K ++ replicate k b)) ≡ n - length K = omega (arith, length-append K (replicate k b), length-replicate k b) in
+      rw (q, append-assoc, replicate-append-replicate, c)

@@ -1,12 +1,12 @@
 -- Tests: what a Bool decides, and what its parts say.
 -- Assumes nothing.
-use Prim.Native.Nat.{ℕ, _≤_, _<_}
+use Prim.Native.Nat.{ℕ, _+_, _-_, _≤_, _<_}
 use native.Mathlib.Omega.{arith}
 use mathlib.Core.Path.{_≡_, refl}
 use mathlib.Core.Bool.{Bool, true, false, _&&_, _||_}
 use mathlib.Core.Logic.{_⊎_, inl, inr}
-use lib.Dec.{leb}
-use borrow.Author.Tests.{leb-true, leb-false}
+use lib.Dec.{leb, eqb}
+use borrow.Author.Tests.{leb-true, leb-false, eqb-true, eqb-false, eq-eqb, ne-eqb}
 
 -- a test decided, with the equation
 pub case {ℓ} : {A : Type ℓ} (b : Bool) → (b ≡ true → A) → (b ≡ false → A) → A
@@ -45,3 +45,10 @@ neither false b e = (refl, e)
 pub and-right-false : (a : Bool) {b : Bool} → b ≡ false → (a && b) ≡ false
 and-right-false true e = e
 and-right-false false e = refl
+
+-- a sum tested by a difference
+pub eqb-sub : (m w s : ℕ) → w ≤ m → eqb (m - w) s ≡ eqb (s + w) m
+eqb-sub m w s h =
+    case (eqb (s + w) m)
+    (λ e. rw e (eq-eqb (m - w) s (omega (arith, eqb-true (s + w) m e))))
+    (λ e. rw e (ne-eqb (m - w) s (λ q. eqb-false (s + w) m e (omega arith))))

@@ -1,0 +1,79 @@
+use native.Mathlib.Omega.{arith}
+use Rattle.scheduler.specs.Table.{slot}
+use mathlib.Core.Path.{ap}
+use mathlib.Core.Path.{_≡_, refl, sym, _∙_}
+use Prim.Native.Nat.{ℕ, _+_, _-_, _≤_, _<_}
+use lib.ListN.{length, getD, drop}
+use Rattle.lists.specs.Loops.{positionFrom, position, position-hit, position-miss, position-end}
+use Rattle.scheduler.proofs.Whole.{whole}
+use Rattle.scheduler.specs.Jobs.{unused, picks, held}
+use Rattle.scheduler.specs.Table.{counted, nodesHeld}
+use borrow.Author.Needs.{needs}
+use Rattle.scheduler.proofs.Scheduler.locate.Statement.{statement}
+use Rattle.scheduler.proofs.Scheduler.locate.Tie as tie
+
+abbrev Inv-loop : tie.InvT-loop
+Inv-loop which self i₀ i = (i ≤ 64) × (positionFrom (picks which) i (drop i (self .jobs)) ≡ position (picks which) (self .jobs))
+
+abbrev μ-loop : tie.MeasureT-loop
+μ-loop which self i₀ i = 64 - i
+
+loop-holds : tie.Need-loop-holds Inv-loop μ-loop
+loop-holds c = search needs
+
+mul-j : tie.Need-mul-j Inv-loop μ-loop
+mul-j c = search needs
+
+element-copy-out-j : tie.Need-element-copy-out-j Inv-loop μ-loop
+element-copy-out-j c = search needs
+
+picks-requires : tie.Need-picks-requires Inv-loop μ-loop
+picks-requires c κs = search needs
+
+returns : tie.Need-returns Inv-loop μ-loop
+returns c =
+    let l = c .before .before .before .before .loop in
+    let s = c .before .before .before .before .before in
+    let js = s .args .t1 .jobs in
+    let len = whole (s .args .t1) (s .good .0) in
+    let h : l .i < length js = omega arith in
+    sym (ap slot (sym (l .inv .1) ∙ position-hit unused (picks (s .args .which)) js (l .i) h (sym (c .before .picks .ensures) ∙ c .if1 .taken)))
+
+add-i : tie.Need-add-i Inv-loop μ-loop
+add-i c = search needs
+
+loop-less : tie.Need-loop-less Inv-loop μ-loop
+loop-less c = search needs
+
+loop-again : tie.Need-loop-again Inv-loop μ-loop
+loop-again c =
+    let l = c .before .before .before .before .loop in
+    let s = c .before .before .before .before .before in
+    let js = s .args .t1 .jobs in
+    let len = whole (s .args .t1) (s .good .0) in
+    let h : l .i < length js = omega arith in
+    (omega arith, sym (position-miss unused (picks (s .args .which)) js (l .i) h (sym (c .before .picks .ensures) ∙ c .if1 .left)) ∙ l .inv .1)
+
+returns-2 : tie.Need-returns-2 Inv-loop μ-loop
+returns-2 c =
+    let l = c .before .loop in
+    let s = c .before .before in
+    let js = s .args .t1 .jobs in
+    let len = whole (s .args .t1) (s .good .0) in
+    sym (ap slot (sym (l .inv .1) ∙ position-end unused (picks (s .args .which)) js (l .i) (omega arith)))
+
+pub locate-spec : {M : Type 1} → statement M
+locate-spec =
+    tie.close
+    (tie.spec
+    Inv-loop
+    μ-loop
+    loop-holds
+    mul-j
+    element-copy-out-j
+    picks-requires
+    returns
+    add-i
+    loop-less
+    loop-again
+    returns-2)

@@ -1,0 +1,167 @@
+-- `Scheduler::remove` meets its contract. The invariant says of the slots passed what `removed` says of all.
+-- Assumes nothing.
+use mathlib.Core.Path.{_≡_, refl, ap, sym, _∙_}
+use mathlib.Core.Bool.{Bool, true, false, not}
+use mathlib.Core.List.{List, [], _∷_, _++_, map, map-append}
+use mathlib.Core.Logic.{⊎-elim}
+use Prim.Native.Nat.{ℕ, _+_, _-_, _≤_, _<_}
+use native.Mathlib.Omega.{arith}
+use lib.ListN.{length, getD, take, set, length-append, length-map}
+use lib.Seq.{take-all}
+use Rattle.lists.specs.Lists.{keep}
+use Rattle.lists.specs.Loops.{keep-take-yes, keep-take-no}
+use Rattle.lists.specs.Pads.{pad, pad-push}
+use Rattle.scheduler.specs.declared.Job.{Job}
+use Rattle.scheduler.specs.declared.Scheduler.{Scheduler}
+use Rattle.scheduler.specs.declared.Select.{Select}
+use Rattle.scheduler.specs.Jobs.{unused, picks}
+use Rattle.scheduler.specs.Table.{withJobs, ticketOf, ticketsOf, tickets, staying, removed}
+use Rattle.scheduler.specs.Model.{store}
+use Rattle.scheduler.proofs.Whole.{whole}
+use borrow.Author.Needs.{needs}
+use Rattle.scheduler.proofs.Scheduler.remove.Statement.{statement}
+use Rattle.scheduler.proofs.Scheduler.remove.Tie as tie
+
+record Inv (s : Select) (self d : Scheduler) (list : List ℕ) (kept gone i : ℕ) : Type 0 where
+  low : i ≤ 64
+  parts : kept + gone ≡ i
+  kept-is : kept ≡ length (staying s (take i (self .jobs)))
+  gone-is : gone ≡ length (ticketsOf (keep (picks s) (take i (self .jobs))))
+  scheduler-is : d ≡ withJobs self (pad 64 unused (staying s (take i (self .jobs))))
+  list-is : list ≡ pad 64 0 (ticketsOf (keep (picks s) (take i (self .jobs))))
+
+module _ {s : Select} {self d : Scheduler} {list : List ℕ} {kept gone i : ℕ} (v : Inv s self d list kept gone i) (len : length (self .jobs) ≡ 64) (h : i < 64) where
+  abbrev xs : List Job
+  xs = self .jobs
+
+  abbrev x : Job
+  x = getD xs i unused
+
+  gone-step : picks s x ≡ true → Inv s self d (set list gone (x .ticket)) kept (gone + 1) (i + 1)
+  gone-step t =
+      let in₀ : i < length xs = omega arith in
+      let eG = keep-take-yes unused (picks s) xs i in₀ t in
+      let eK = keep-take-no unused (λ (j : Job). not (picks s j)) xs i in₀ (ap not t) in
+      record {
+        low = omega arith;
+        parts = omega (arith, v .parts);
+        kept-is = rw eK (v .kept-is);
+        gone-is = rw (eG, map-append, length-append) (ap (λ (n : ℕ). n + 1) (v .gone-is));
+        scheduler-is = rw eK (v .scheduler-is);
+        list-is =
+            rw (eG, map-append)
+            (ap (λ (l : List ℕ). set l gone (x .ticket)) (v .list-is)
+            ∙ pad-push 64 0 (ticketsOf (keep (picks s) (take i xs))) (x .ticket) gone (sym (v .gone-is)) (omega (arith, v .parts)));
+      }
+
+  kept-step : picks s x ≡ false → Inv s self (withJobs d (set (d .jobs) kept x)) list (kept + 1) gone (i + 1)
+  kept-step t =
+      let in₀ : i < length xs = omega arith in
+      let eG = keep-take-no unused (picks s) xs i in₀ t in
+      let eK = keep-take-yes unused (λ (j : Job). not (picks s j)) xs i in₀ (ap not t) in
+      record {
+        low = omega arith;
+        parts = omega (arith, v .parts);
+        kept-is = rw (eK, length-append) (ap (λ (n : ℕ). n + 1) (v .kept-is));
+        gone-is = rw eG (v .gone-is);
+        scheduler-is =
+            rw eK
+            (ap (λ (e : Scheduler). withJobs e (set (e .jobs) kept x)) (v .scheduler-is)
+            ∙ ap (withJobs self) (pad-push 64 unused (staying s (take i xs)) x kept (sym (v .kept-is)) (omega (arith, v .parts))));
+        list-is = rw eG (v .list-is);
+      }
+
+abbrev Inv-loop : tie.InvT-loop
+Inv-loop which self d₀ list₀ kept₀ gone₀ i₀ d list kept gone i = Inv which self d list kept gone i
+
+abbrev μ-loop : tie.MeasureT-loop
+μ-loop which self d₀ list₀ kept₀ gone₀ i₀ d list kept gone i = 64 - i
+
+empty-requires : tie.Need-empty-requires Inv-loop μ-loop
+empty-requires c κs = search needs
+
+loop-holds : tie.Need-loop-holds Inv-loop μ-loop
+unfolding pad store
+loop-holds c = record { low = search needs; parts = search needs; kept-is = refl; gone-is = refl; scheduler-is = c .empty .ensures; list-is = refl }
+
+mul-j : tie.Need-mul-j Inv-loop μ-loop
+mul-j c = search needs
+
+element-copy-out-j : tie.Need-element-copy-out-j Inv-loop μ-loop
+element-copy-out-j c = search needs
+
+picks-requires : tie.Need-picks-requires Inv-loop μ-loop
+picks-requires c κs = search needs
+
+mul-list : tie.Need-mul-list Inv-loop μ-loop
+mul-list c = search needs
+
+array-write-list : tie.Need-array-write-list Inv-loop μ-loop
+array-write-list c = search needs
+
+add-gone : tie.Need-add-gone Inv-loop μ-loop
+add-gone c = search needs
+
+mul-j-2 : tie.Need-mul-j-2 Inv-loop μ-loop
+mul-j-2 c = search needs
+
+element-set-from-j : tie.Need-element-set-from-j Inv-loop μ-loop
+element-set-from-j c = search needs
+
+add-kept : tie.Need-add-kept Inv-loop μ-loop
+add-kept c = search needs
+
+add-i : tie.Need-add-i Inv-loop μ-loop
+add-i c = search needs
+
+loop-less : tie.Need-loop-less Inv-loop μ-loop
+loop-less c = search needs
+
+loop-again : tie.Need-loop-again Inv-loop μ-loop
+loop-again c =
+    let l = c .before .before .before .before .loop in
+    let s = c .before .before .before .before .before .before in
+    let len = whole (s .args .t1) (s .good .0) in
+    let h : l .i < 64 = omega arith in
+    let e = c .before .picks .ensures in
+    ⊎-elim
+    (λ w. rw (w .1, w .2, w .3, w .4) (gone-step (l .inv) len h (sym e ∙ w .0 .taken)))
+    (λ w. rw (w .1, w .2, w .3, w .4) (kept-step (l .inv) len h (sym e ∙ w .0 .left)))
+    (c .if1 .came)
+
+returns : tie.Need-returns Inv-loop μ-loop
+unfolding removed tickets
+returns c =
+    let s = c .before .before .before in
+    let l = c .before .loop in
+    let v = l .inv in
+    let len = whole (s .args .t1) (s .good .0) in
+    let xs = s .args .t1 .jobs in
+    let le : length xs ≤ l .i = omega arith in
+    let all = take-all (l .i) xs le in
+    λ j. record {
+      tickets = record { count = (rw all at (v .gone-is)) j; list = (rw all at (v .list-is)) j };
+      scheduler = (rw all at (v .scheduler-is)) j;
+    }
+
+pub remove-spec : {M : Type 1} → statement M
+remove-spec =
+    tie.close
+    (tie.spec
+    Inv-loop
+    μ-loop
+    empty-requires
+    loop-holds
+    mul-j
+    element-copy-out-j
+    picks-requires
+    mul-list
+    array-write-list
+    add-gone
+    mul-j-2
+    element-set-from-j
+    add-kept
+    add-i
+    loop-less
+    loop-again
+    returns)

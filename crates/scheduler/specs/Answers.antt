@@ -1,0 +1,103 @@
+-- What calls answer. Document 01: "A refusal gives its number, no tickets, and the desk and any lent list unchanged."
+-- Assumes nothing.
+use mathlib.Core.Bool.{Bool, true, false, cond}
+use mathlib.Core.List.{List, [], _∷_}
+use mathlib.Core.Option.{Option, none, some}
+use Prim.Native.Nat.{ℕ}
+use Rattle.scheduler.specs.declared.Refusal.{Refusal}
+use Rattle.scheduler.specs.declared.Refusal.the-variants as refusal
+use Rattle.scheduler.specs.declared.Tickets.{Tickets}
+use Rattle.scheduler.specs.declared.Answer.{Answer}
+use Rattle.scheduler.specs.declared.Outcome.{Outcome}
+use Rattle.scheduler.specs.declared.Scheduler.{Scheduler}
+use Rattle.scheduler.specs.Table.{tickets}
+use Rattle.scheduler.specs.Model.{Model, store}
+
+-- document 01's number of each refusal; 0 where nothing is refused
+abbrev pub code : Refusal → ℕ
+code refusal.None = 0
+code refusal.NodesOutOfRange = 1
+code refusal.MinutesOutOfRange = 2
+code refusal.OpeningOutOfRange = 3
+code refusal.Full = 4
+code refusal.NoTicketLeft = 5
+code refusal.PastHorizon = 6
+code refusal.NotRunning = 7
+code refusal.ProfileTooLong = 8
+code refusal.Malformed = 9
+code refusal.TooShort = 10
+
+-- "Where several apply, order": the first test that holds decides
+abbrev pub verdict : List (Bool × Refusal) → Refusal
+verdict [] = refusal.None
+verdict (t ∷ ts) = cond (t .0) (t .1) (verdict ts)
+
+abbrev pub accepts : Refusal → Bool
+accepts refusal.None = true
+accepts refusal.NodesOutOfRange = false
+accepts refusal.MinutesOutOfRange = false
+accepts refusal.OpeningOutOfRange = false
+accepts refusal.Full = false
+accepts refusal.NoTicketLeft = false
+accepts refusal.PastHorizon = false
+accepts refusal.NotRunning = false
+accepts refusal.ProfileTooLong = false
+accepts refusal.Malformed = false
+accepts refusal.TooShort = false
+
+-- a job that is head now and was not before, with its forecast
+pub record Forecast : Type 0 where
+  pub ticket : ℕ
+  pub minute : ℕ
+
+-- An answer: the refusal; of a submission the ticket and the promise; the tickets ended and started; the new head.
+pub record Reply : Type 0 where
+  pub refusal : Refusal
+  pub ticket : ℕ
+  pub promise : ℕ
+  pub ended : List ℕ
+  pub started : List ℕ
+  pub head : Option Forecast
+
+pub record Result : Type 0 where
+  pub reply : Reply
+  pub model : Model
+
+abbrev pub headTicket : Option Forecast → ℕ
+headTicket none = 0
+headTicket (some f) = f .ticket
+
+abbrev pub headMinute : Option Forecast → ℕ
+headMinute none = 0
+headMinute (some f) = f .minute
+
+-- the answer as the code gives it: what a call does not give is 0
+abbrev pub answer : Reply → Answer
+answer r = record {
+  refusal = r .refusal;
+  ticket = r .ticket;
+  promise = r .promise;
+  ended = tickets (r .ended);
+  started = tickets (r .started);
+  head = headTicket (r .head);
+  forecast = headMinute (r .head);
+}
+
+abbrev pub outcome : Result → Outcome
+outcome r = record { answer = answer (r .reply); scheduler = store (r .model) }
+
+abbrev pub noTickets : Tickets
+noTickets = tickets []
+
+-- a refused call: its reason and nothing else, and the model as it was
+abbrev pub refusing : Refusal → Reply
+refusing r = record { refusal = r; ticket = 0; promise = 0; ended = []; started = []; head = none }
+
+abbrev pub refuse : Model → Refusal → Result
+refuse m r = record { reply = refusing r; model = m }
+
+abbrev pub refusedAnswer : Refusal → Answer
+refusedAnswer r = answer (refusing r)
+
+abbrev pub refusedOutcome : Scheduler → Refusal → Outcome
+refusedOutcome d r = record { answer = refusedAnswer r; scheduler = d }

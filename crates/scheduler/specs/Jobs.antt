@@ -1,0 +1,66 @@
+-- One job: its state, the nodes it holds, the minute from which they are free again, and the tests that calls pick jobs by.
+-- Assumes nothing.
+use mathlib.Core.Bool.{Bool, true, false, _&&_}
+use Prim.Native.Nat.{ℕ, _+_}
+use lib.Dec.{eqb}
+use Rattle.lists.specs.Tests.{on}
+use Rattle.walltime.specs.WallTime.{wallTime}
+use Rattle.scheduler.specs.declared.State.{State}
+use Rattle.scheduler.specs.declared.State.the-variants.{Unused, Waiting, Running}
+use Rattle.scheduler.specs.declared.Job.{Job}
+use Rattle.scheduler.specs.declared.Select.{Select}
+use Rattle.scheduler.specs.declared.Select.the-variants as select
+
+-- "unused ones all zero"
+abbrev pub unused : Job
+unused = record { ticket = 0; nodes = 0; estimate = 0; state = Unused; start = 0; promise = 0 }
+
+abbrev pub live? : State → Bool
+live? Unused = false
+live? Waiting = true
+live? Running = true
+
+abbrev pub waiting? : State → Bool
+waiting? Unused = false
+waiting? Waiting = true
+waiting? Running = false
+
+abbrev pub running? : State → Bool
+running? Unused = false
+running? Waiting = false
+running? Running = true
+
+abbrev pub isLive : Job → Bool
+isLive j = live? (j .state)
+
+abbrev pub isWaiting : Job → Bool
+isWaiting j = waiting? (j .state)
+
+abbrev pub isRunning : Job → Bool
+isRunning j = running? (j .state)
+
+-- the nodes that it holds now
+abbrev pub held : Job → ℕ
+held j = on (isRunning j) (j .nodes)
+
+-- the minutes for which a job of this estimate holds its nodes
+abbrev pub holdTime : ℕ → ℕ
+holdTime e = wallTime e
+
+-- "A stack that starts at minute s ends at s + held unless ended before. The desk ends it there, and its nodes are free in that
+-- same minute." The minute from which its nodes are free again:
+abbrev pub until : Job → ℕ
+until j = j .start + holdTime (j .estimate)
+
+abbrev pub runsAs : ℕ → Job → Bool
+runsAs t j = isRunning j && eqb (j .ticket) t
+
+abbrev pub endsAt : ℕ → Job → Bool
+endsAt t j = isRunning j && eqb (until j) t
+
+-- what each test picks
+abbrev pub picks : Select → Job → Bool
+picks select.Live j = isLive j
+picks select.Waiting j = isWaiting j
+picks (select.RunningTicket t) j = runsAs t j
+picks (select.EndingAt t) j = endsAt t j

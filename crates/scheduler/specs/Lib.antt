@@ -1,0 +1,7 @@
+pub mod Limits
+pub mod Jobs
+pub mod Table
+pub mod Model
+pub mod Answers
+pub mod Opening
+pub mod TableLaws

@@ -1,0 +1,34 @@
+-- The limits, each number named once. Document 01: "The limits belong to the desk and are named once, with it."
+-- Assumes nothing.
+use mathlib.Core.Bool.{Bool, _||_}
+use Prim.Native.Nat.{ℕ}
+use lib.Dec.{ltb}
+use Rattle.scheduler.specs.declared.Limits.{Limits}
+
+-- "Nodes of a rack: 1 to 1,024."
+abbrev pub maxNodes : ℕ
+maxNodes = 1024
+
+-- "Minutes of the clock: 0 to 1,000,000, the last minute."
+abbrev pub horizon : ℕ
+horizon = 1000000
+
+-- "At most 64 stacks are live, running and waiting together."
+abbrev pub slots : ℕ
+slots = 64
+
+-- "Estimate of a stack: 1 to 10,080 minutes."
+abbrev pub longest : ℕ
+longest = 10080
+
+-- "Tickets are numbered upward by one from the first, up to 999,999."
+abbrev pub lastTicket : ℕ
+lastTicket = 999999
+
+-- the constants of the code are these numbers (Scheduler::limits)
+abbrev pub limits : Limits
+limits = record { nodes = maxNodes; horizon = horizon; live = slots; longest = longest; «last_ticket» = lastTicket }
+
+-- x is outside low to high
+abbrev pub outside : ℕ → ℕ → ℕ → Bool
+outside low high x = ltb x low || ltb high x

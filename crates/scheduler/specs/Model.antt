@@ -1,0 +1,52 @@
+-- The model of a scheduler: its settings, clock, next ticket and the list of its live jobs. `store` writes it into the 64 slots,
+-- `view` reads it off them. Document 01: "holds its 64 records as one value, in ticket order, unused ones all zero".
+-- Assumes nothing.
+use mathlib.Core.Path.{_≡_, refl, ap, _∙_}
+use mathlib.Core.Bool.{Bool, true, false}
+use mathlib.Core.List.{List, []}
+use Prim.Native.Nat.{ℕ, _≤_}
+use lib.ListN.{length}
+use Rattle.lists.specs.Lists.{keep, All, all-in, keep-all}
+use Rattle.lists.specs.Pads.{pad, keep-pad, length-pad}
+use Rattle.scheduler.specs.declared.Kind.{Kind}
+use Rattle.scheduler.specs.declared.Job.{Job}
+use Rattle.scheduler.specs.declared.Scheduler.{Scheduler}
+use Rattle.scheduler.specs.Limits.{slots}
+use Rattle.scheduler.specs.Jobs.{unused, isLive}
+
+-- what an opening fixes
+pub record Settings : Type 0 where
+  pub kind : Kind
+  pub nodes : ℕ
+
+pub record Model : Type 0 where
+  pub settings : Settings
+  pub clock : ℕ
+  pub next : ℕ
+  pub jobs : List Job
+
+-- no job yet
+abbrev pub empty : Kind → ℕ → ℕ → ℕ → Model
+empty k n c t = record { settings = record { kind = k; nodes = n }; clock = c; next = t; jobs = [] }
+
+unfoldable pub store : Model → Scheduler
+store m = record { kind = m .settings .kind; nodes = m .settings .nodes; clock = m .clock; next = m .next; jobs = pad slots unused (m .jobs) }
+
+unfoldable pub view : Scheduler → Model
+view d = record { settings = record { kind = d .kind; nodes = d .nodes }; clock = d .clock; next = d .next; jobs = keep isLive (d .jobs) }
+
+abbrev pub Live : Job → Type 0
+Live j = isLive j ≡ true
+
+pub view-store : (m : Model) → All Live (m .jobs) → view (store m) ≡ m
+unfolding store view
+view-store m live = λ i. record {
+  settings = m .settings;
+  clock = m .clock;
+  next = m .next;
+  jobs = (keep-pad slots unused isLive (m .jobs) refl ∙ keep-all isLive (m .jobs) (λ j k. all-in Live live k)) i;
+}
+
+pub store-length : (m : Model) → length (m .jobs) ≤ slots → length (store m .jobs) ≡ slots
+unfolding store
+store-length m l = length-pad slots unused (m .jobs) l

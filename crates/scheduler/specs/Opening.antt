@@ -1,0 +1,27 @@
+-- Opening. Document 01: "A desk is opened with nodes, first minute and first ticket"; "A refused opening hands back an empty desk
+-- of its kind with 1 node, minute 0 and ticket 1"; order 1, 3.
+-- Assumes nothing.
+use mathlib.Core.Bool.{Bool, _||_, cond}
+use mathlib.Core.List.{List, [], _∷_}
+use lib.Dec.{ltb}
+use Rattle.scheduler.specs.declared.Refusal.{Refusal}
+use Rattle.scheduler.specs.declared.Refusal.the-variants as refusal
+use Rattle.scheduler.specs.declared.Opening.{Opening}
+use Rattle.scheduler.specs.declared.Opened.{Opened}
+use Rattle.scheduler.specs.Limits.{maxNodes, horizon, lastTicket, outside}
+use Rattle.scheduler.specs.Model.{Model, empty, store}
+use Rattle.scheduler.specs.Answers.{verdict, accepts}
+
+-- 1: "rack nodes outside 1 to 1,024"; 3: "first minute above 1,000,000, or first ticket outside 1 to 999,999"
+unfoldable pub openingRefusal : Opening → Refusal
+openingRefusal o =
+    verdict
+    ((outside 1 maxNodes (o .nodes), refusal.NodesOutOfRange)
+    ∷ (ltb horizon (o .minute) || outside 1 lastTicket (o .ticket), refusal.OpeningOutOfRange)
+    ∷ [])
+
+unfoldable pub opening : Opening → Model
+opening o = cond (accepts (openingRefusal o)) (empty (o .kind) (o .nodes) (o .minute) (o .ticket)) (empty (o .kind) 1 0 1)
+
+unfoldable pub opened : Opening → Opened
+opened o = record { refusal = openingRefusal o; scheduler = store (opening o) }

@@ -1,0 +1,67 @@
+-- What an operation on the slots of a stored model means for the model.
+-- Assumes nothing.
+use mathlib.Core.Path.{_≡_, refl, ap, sym, _∙_}
+use mathlib.Core.Bool.{Bool, true, false, not}
+use mathlib.Core.List.{List, [], _∷_, _++_}
+use Prim.Native.Nat.{ℕ, _≤_, _<_}
+use native.Mathlib.Omega.{arith}
+use lib.ListN.{length, set}
+use Rattle.lists.specs.Tests.{on}
+use Rattle.lists.specs.Lists.{keep, sum, All, all-in, length-keep, keep-all}
+use Rattle.lists.specs.Pads.{pad, sum-pad, keep-pad, pad-keep, pad-push, pad-set}
+use Rattle.lists.specs.Loops.{position, position-pad}
+use Rattle.scheduler.specs.declared.Job.{Job}
+use Rattle.scheduler.specs.declared.Scheduler.{Scheduler}
+use Rattle.scheduler.specs.declared.Removed.{Removed}
+use Rattle.scheduler.specs.declared.Select.{Select}
+use Rattle.scheduler.specs.declared.Select.the-variants as select
+use Rattle.scheduler.specs.Limits.{slots}
+use Rattle.scheduler.specs.Jobs.{unused, isLive, held, picks}
+use Rattle.scheduler.specs.Table.{withJobs, counted, located, slot, nodesHeld, ticketsOf, tickets, staying, appended, removed}
+use Rattle.scheduler.specs.Model.{Model, store, Live}
+
+-- no test picks an unused slot
+pub picks-unused : (s : Select) → picks s unused ≡ false
+picks-unused select.Live = refl
+picks-unused select.Waiting = refl
+picks-unused (select.RunningTicket t) = refl
+picks-unused (select.EndingAt t) = refl
+
+-- the model with other jobs
+abbrev pub withModelJobs : Model → List Job → Model
+withModelJobs m js = record { settings = m .settings; clock = m .clock; next = m .next; jobs = js }
+
+module _ (m : Model) where
+  pub counted-stored : (s : Select) → counted s (store m .jobs) ≡ counted s (m .jobs)
+  unfolding store
+  counted-stored s = sum-pad slots unused (λ (j : Job). on (picks s j) 1) (m .jobs) (ap (λ (b : Bool). on b 1) (picks-unused s))
+
+  pub located-stored : (s : Select) → located s (store m .jobs) ≡ located s (m .jobs)
+  unfolding store
+  located-stored s = ap slot (position-pad slots unused (picks s) (picks-unused s) (m .jobs))
+
+  pub nodesHeld-stored : nodesHeld (store m .jobs) ≡ nodesHeld (m .jobs)
+  unfolding store
+  nodesHeld-stored = sum-pad slots unused held (m .jobs) refl
+
+  pub live-stored : All Live (m .jobs) → counted select.Live (store m .jobs) ≡ length (m .jobs)
+  live-stored live =
+      counted-stored select.Live ∙ sym (length-keep isLive (m .jobs)) ∙ ap length (keep-all isLive (m .jobs) (λ j k. all-in Live live k))
+
+  pub appended-stored : (j : Job) → All Live (m .jobs) → length (m .jobs) < slots → appended (store m) j ≡ store (withModelJobs m (m .jobs ++ (j ∷ [])))
+  unfolding appended store
+  appended-stored j live few =
+      ap (λ (n : ℕ). withJobs (store m) (set (store m .jobs) n j)) (live-stored live)
+      ∙ ap (withJobs (store m)) (pad-push slots unused (m .jobs) j (length (m .jobs)) refl few)
+
+  pub put-stored : (i : ℕ) (j : Job) → i < length (m .jobs) → withJobs (store m) (set (store m .jobs) i j) ≡ store (withModelJobs m (set (m .jobs) i j))
+  unfolding store
+  put-stored i j h = ap (withJobs (store m)) (pad-set slots unused (m .jobs) i j h)
+
+  pub removed-stored : (s : Select) → length (m .jobs) ≤ slots
+      → removed (store m) s ≡ record { tickets = tickets (ticketsOf (keep (picks s) (m .jobs))); scheduler = store (withModelJobs m (staying s (m .jobs))) }
+  unfolding removed store
+  removed-stored s few = λ i. record {
+    tickets = tickets (ticketsOf (keep-pad slots unused (picks s) (m .jobs) (picks-unused s) i));
+    scheduler = withJobs (store m) (pad-keep slots unused (λ (j : Job). not (picks s j)) (m .jobs) (ap not (picks-unused s)) few i);
+  }

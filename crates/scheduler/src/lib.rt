@@ -1,0 +1,440 @@
+// The scheduler of one machine (document 01: "desk", "rack"): its limits, its job table by value, opening, and what calls answer.
+ghost use mathlib.Core.Path.{_≡_};
+ghost use Prim.Native.Nat.{_+_, _<_, _≤_};
+ghost use lib.ListN.{set};
+ghost use Rattle.scheduler.specs.Limits.{limits, outside};
+ghost use Rattle.scheduler.specs.Jobs.{unused, picks, held};
+ghost use Rattle.scheduler.specs.Table.{withJobs, counted, located, nodesHeld, removed, appended};
+ghost use Rattle.scheduler.specs.Model.{store, empty};
+ghost use Rattle.scheduler.specs.Answers.{code, refusedAnswer, refusedOutcome, noTickets};
+ghost use Rattle.scheduler.specs.Opening.{opened};
+
+// Which rules the scheduler follows: conservative backfilling ("Promise Desk") or EASY backfilling ("Loose Desk").
+pub enum Kind {
+    Conservative,
+    Easy,
+}
+
+pub enum State {
+    Unused,
+    Waiting,
+    Running,
+}
+
+// A live job (document 01: "stack", "record"), or an unused slot, which is all zero.
+pub struct Job {
+    pub ticket: u32,
+    pub nodes: u32,
+    pub estimate: u32,
+    pub state: State,
+    pub start: u32,
+    pub promise: u32,
+}
+
+// The live jobs stand first, in ticket order; the slots after them are unused.
+pub struct Scheduler {
+    pub kind: Kind,
+    pub nodes: u32,
+    pub clock: u32,
+    pub next: u32,
+    pub jobs: [Job; 64],
+}
+
+pub struct Limits {
+    pub nodes: u32,
+    pub horizon: u32,
+    pub live: usize,
+    pub longest: u32,
+    pub last_ticket: u32,
+}
+
+// Why a call is refused; `code` gives document 01's number.
+pub enum Refusal {
+    None,
+    NodesOutOfRange,
+    MinutesOutOfRange,
+    OpeningOutOfRange,
+    Full,
+    NoTicketLeft,
+    PastHorizon,
+    NotRunning,
+    ProfileTooLong,
+    Malformed,
+    TooShort,
+}
+
+// Tickets in order; the places past the count are 0.
+pub struct Tickets {
+    pub count: usize,
+    pub list: [u32; 64],
+}
+
+// What a call answers. What a call does not give is 0.
+pub struct Answer {
+    pub refusal: Refusal,
+    pub ticket: u32,
+    pub promise: u32,
+    pub ended: Tickets,
+    pub started: Tickets,
+    pub head: u32,
+    pub forecast: u32,
+}
+
+pub struct Outcome {
+    pub answer: Answer,
+    pub scheduler: Scheduler,
+}
+
+pub struct Opening {
+    pub kind: Kind,
+    pub nodes: u32,
+    pub minute: u32,
+    pub ticket: u32,
+}
+
+pub struct Opened {
+    pub refusal: Refusal,
+    pub scheduler: Scheduler,
+}
+
+// What a submission asks for (document 01: "intake").
+pub struct Submission {
+    pub nodes: u32,
+    pub estimate: u32,
+}
+
+// A test of a job, as a value.
+pub enum Select {
+    Live,
+    Waiting,
+    RunningTicket(u32),
+    EndingAt(u32),
+}
+
+pub enum Slot {
+    Nowhere,
+    At(usize),
+}
+
+pub struct Removed {
+    pub tickets: Tickets,
+    pub scheduler: Scheduler,
+}
+
+pub fn outside_range(x: u32, low: u32, high: u32) -> bool
+    ensures { λ r. ⌜ r ≡ outside low high x ⌝ }
+{
+    if x < low {
+        return true;
+    }
+    high < x
+}
+
+impl Refusal {
+    pub fn code(self) -> u32
+        ensures { λ r. ⌜ r ≡ code self ⌝ }
+    {
+        match self {
+            Refusal::None => 0,
+            Refusal::NodesOutOfRange => 1,
+            Refusal::MinutesOutOfRange => 2,
+            Refusal::OpeningOutOfRange => 3,
+            Refusal::Full => 4,
+            Refusal::NoTicketLeft => 5,
+            Refusal::PastHorizon => 6,
+            Refusal::NotRunning => 7,
+            Refusal::ProfileTooLong => 8,
+            Refusal::Malformed => 9,
+            Refusal::TooShort => 10,
+        }
+    }
+}
+
+impl Tickets {
+    pub fn none() -> Tickets
+        ensures { λ r. ⌜ r ≡ noTickets ⌝ }
+    {
+        Tickets {
+            count: 0,
+            list: [0u32; 64],
+        }
+    }
+}
+
+impl Answer {
+    pub fn refused(refusal: Refusal) -> Answer
+        ensures { λ r. ⌜ r ≡ refusedAnswer refusal ⌝ }
+    {
+        let none = Tickets::none();
+        Answer {
+            refusal: refusal,
+            ticket: 0,
+            promise: 0,
+            ended: none,
+            started: none,
+            head: 0,
+            forecast: 0,
+        }
+    }
+}
+
+impl Job {
+    pub fn unused() -> Job
+        ensures { λ r. ⌜ r ≡ unused ⌝ }
+    {
+        Job {
+            ticket: 0,
+            nodes: 0,
+            estimate: 0,
+            state: State::Unused,
+            start: 0,
+            promise: 0,
+        }
+    }
+
+    pub fn is_live(self) -> bool
+        ensures { λ r. ⌜ r ≡ picks Select.Live self ⌝ }
+    {
+        let s = self.state;
+        match s {
+            State::Unused => false,
+            State::Waiting => true,
+            State::Running => true,
+        }
+    }
+
+    pub fn is_waiting(self) -> bool
+        ensures { λ r. ⌜ r ≡ picks Select.Waiting self ⌝ }
+    {
+        let s = self.state;
+        match s {
+            State::Unused => false,
+            State::Waiting => true,
+            State::Running => false,
+        }
+    }
+
+    // Whether it runs and has this ticket.
+    pub fn runs_as(self, ticket: u32) -> bool
+        ensures { λ r. ⌜ r ≡ picks (Select.RunningTicket ticket) self ⌝ }
+    {
+        let s = self.state;
+        match s {
+            State::Unused => false,
+            State::Waiting => false,
+            State::Running => self.ticket == ticket,
+        }
+    }
+
+    // Whether it runs and its nodes are free again from this minute on. (A difference, so that no sum can leave its range.)
+    pub fn ends_at(self, minute: u32) -> bool
+        ensures { λ r. ⌜ r ≡ picks (Select.EndingAt minute) self ⌝ }
+    {
+        let s = self.state;
+        match s {
+            State::Unused => false,
+            State::Waiting => false,
+            State::Running => {
+                let hold = walltime::wall_time(self.estimate);
+                if minute < hold {
+                    return false;
+                }
+                minute - hold == self.start
+            }
+        }
+    }
+
+    // The nodes that it holds now.
+    pub fn held(self) -> u32
+        ensures { λ r. ⌜ r ≡ held self ⌝ }
+    {
+        let s = self.state;
+        match s {
+            State::Unused => 0,
+            State::Waiting => 0,
+            State::Running => self.nodes,
+        }
+    }
+}
+
+impl Select {
+    pub fn picks(self, job: Job) -> bool
+        ensures { λ r. ⌜ r ≡ picks self job ⌝ }
+    {
+        match self {
+            Select::Live => job.is_live(),
+            Select::Waiting => job.is_waiting(),
+            Select::RunningTicket(ticket) => job.runs_as(ticket),
+            Select::EndingAt(minute) => job.ends_at(minute),
+        }
+    }
+}
+
+impl Scheduler {
+    pub const NODES: u32 = 1024;
+
+    // Document 01: "last minute".
+    pub const HORIZON: u32 = 1_000_000;
+
+    pub const LIVE: usize = 64;
+
+    pub const LONGEST: u32 = 10_080;
+
+    pub const LAST_TICKET: u32 = 999_999;
+
+    pub fn limits() -> Limits
+        ensures { λ r. ⌜ r ≡ limits ⌝ }
+    {
+        Limits {
+            nodes: Scheduler::NODES,
+            horizon: Scheduler::HORIZON,
+            live: Scheduler::LIVE,
+            longest: Scheduler::LONGEST,
+            last_ticket: Scheduler::LAST_TICKET,
+        }
+    }
+
+    fn empty(kind: Kind, nodes: u32, clock: u32, next: u32) -> Scheduler
+        ensures { λ r. ⌜ r ≡ store (empty kind nodes clock next) ⌝ }
+    {
+        let j = Job::unused();
+        Scheduler {
+            kind: kind,
+            nodes: nodes,
+            clock: clock,
+            next: next,
+            jobs: [j; 64],
+        }
+    }
+
+    pub fn open(o: Opening) -> Opened
+        ensures { λ r. ⌜ r ≡ opened o ⌝ }
+    {
+        let kind = o.kind;
+        if outside_range(o.nodes, 1, Scheduler::NODES) {
+            return Opened {
+                refusal: Refusal::NodesOutOfRange,
+                scheduler: Scheduler::empty(kind, 1, 0, 1),
+            };
+        }
+        if Scheduler::HORIZON < o.minute {
+            return Opened {
+                refusal: Refusal::OpeningOutOfRange,
+                scheduler: Scheduler::empty(kind, 1, 0, 1),
+            };
+        }
+        if outside_range(o.ticket, 1, Scheduler::LAST_TICKET) {
+            return Opened {
+                refusal: Refusal::OpeningOutOfRange,
+                scheduler: Scheduler::empty(kind, 1, 0, 1),
+            };
+        }
+        Opened {
+            refusal: Refusal::None,
+            scheduler: Scheduler::empty(kind, o.nodes, o.minute, o.ticket),
+        }
+    }
+
+    // The outcome of a refused call: its reason, and the scheduler as it was.
+    pub fn refused(self, refusal: Refusal) -> Outcome
+        ensures { λ r. ⌜ r ≡ refusedOutcome self refusal ⌝ }
+    {
+        Outcome {
+            answer: Answer::refused(refusal),
+            scheduler: self,
+        }
+    }
+
+    pub fn count(self, which: Select) -> usize
+        ensures { λ r. ⌜ r ≡ counted which (self .jobs) ⌝ }
+    {
+        let mut n: usize = 0;
+        let mut i: usize = 0;
+        while i < Scheduler::LIVE {
+            let j = self.jobs[i];
+            if which.picks(j) {
+                n += 1;
+            }
+            i += 1;
+        }
+        n
+    }
+
+    // The slot of the first job that the test picks.
+    pub fn locate(self, which: Select) -> Slot
+        ensures { λ r. ⌜ r ≡ located which (self .jobs) ⌝ }
+    {
+        let mut i: usize = 0;
+        while i < Scheduler::LIVE {
+            let j = self.jobs[i];
+            if which.picks(j) {
+                return Slot::At(i);
+            }
+            i += 1;
+        }
+        Slot::Nowhere
+    }
+
+    pub fn nodes_held(self) -> u32
+        requires { ⌜ nodesHeld (self .jobs) ≤ self .nodes ⌝ }
+        ensures { λ r. ⌜ r ≡ nodesHeld (self .jobs) ⌝ }
+    {
+        let mut sum: u32 = 0;
+        let mut i: usize = 0;
+        while i < Scheduler::LIVE {
+            let j = self.jobs[i];
+            sum += j.held();
+            i += 1;
+        }
+        sum
+    }
+
+    pub fn put(self, i: usize, job: Job) -> Scheduler
+        requires { ⌜ i < 64 ⌝ }
+        ensures { λ d. ⌜ d ≡ withJobs self (set (self .jobs) i job) ⌝ }
+    {
+        let mut d = self;
+        d.jobs[i] = job;
+        d
+    }
+
+    // The job goes into the first unused slot.
+    pub fn append(self, job: Job) -> Scheduler
+        requires { ⌜ counted Select.Live (self .jobs) < 64 ⌝ }
+        ensures { λ d. ⌜ d ≡ appended self job ⌝ }
+    {
+        let live = self.count(Select::Live);
+        self.put(live, job)
+    }
+
+    // The jobs that the test picks leave, and their tickets are given in order; the others move up.
+    pub fn remove(self, which: Select) -> Removed
+        ensures { λ r. ⌜ r ≡ removed self which ⌝ }
+    {
+        let kind = self.kind;
+        let mut d = Scheduler::empty(kind, self.nodes, self.clock, self.next);
+        let mut list = [0u32; 64];
+        let mut kept: usize = 0;
+        let mut gone: usize = 0;
+        let mut i: usize = 0;
+        while i < Scheduler::LIVE {
+            let j = self.jobs[i];
+            if which.picks(j) {
+                list[gone] = j.ticket;
+                gone += 1;
+            } else {
+                d.jobs[kept] = j;
+                kept += 1;
+            }
+            i += 1;
+        }
+        let tickets = Tickets {
+            count: gone,
+            list: list,
+        };
+        Removed {
+            tickets: tickets,
+            scheduler: d,
+        }
+    }
+}
