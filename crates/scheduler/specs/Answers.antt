@@ -28,7 +28,7 @@ code refusal.Malformed = 9
 code refusal.TooShort = 10
 
 -- "Where several apply, order": the first test that holds decides
-abbrev pub verdict : List (Bool × Refusal) → Refusal
+unfoldable pub verdict : List (Bool × Refusal) → Refusal
 verdict [] = refusal.None
 verdict (t ∷ ts) = cond (t .0) (t .1) (verdict ts)
 

@@ -1,4 +1,4 @@
--- One job: its state, the nodes it holds, the minute from which they are free again, and the tests that calls pick jobs by.
+-- One job: its state, the nodes it holds, and the tests that calls pick jobs by.
 -- Assumes nothing.
 use mathlib.Core.Bool.{Bool, true, false, _&&_}
 use Prim.Native.Nat.{ℕ, _+_}
@@ -43,20 +43,13 @@ isRunning j = running? (j .state)
 abbrev pub held : Job → ℕ
 held j = on (isRunning j) (j .nodes)
 
--- the minutes for which a job of this estimate holds its nodes
-abbrev pub holdTime : ℕ → ℕ
-holdTime e = wallTime e
-
--- "A stack that starts at minute s ends at s + held unless ended before. The desk ends it there, and its nodes are free in that
--- same minute." The minute from which its nodes are free again:
-abbrev pub until : Job → ℕ
-until j = j .start + holdTime (j .estimate)
-
 abbrev pub runsAs : ℕ → Job → Bool
 runsAs t j = isRunning j && eqb (j .ticket) t
 
+-- "A stack that starts at minute s ends at s + held unless ended before. The desk ends it there, and its nodes are free in that
+-- same minute."
 abbrev pub endsAt : ℕ → Job → Bool
-endsAt t j = isRunning j && eqb (until j) t
+endsAt t j = isRunning j && eqb (j .start + wallTime (j .estimate)) t
 
 -- what each test picks
 abbrev pub picks : Select → Job → Bool

@@ -1,7 +1,9 @@
 pub mod Limits
 pub mod Jobs
 pub mod Table
+pub mod Settings
 pub mod Model
 pub mod Answers
+pub mod Refusals
 pub mod Opening
 pub mod TableLaws

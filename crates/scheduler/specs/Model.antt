@@ -12,12 +12,8 @@ use Rattle.scheduler.specs.declared.Kind.{Kind}
 use Rattle.scheduler.specs.declared.Job.{Job}
 use Rattle.scheduler.specs.declared.Scheduler.{Scheduler}
 use Rattle.scheduler.specs.Limits.{slots}
+use Rattle.scheduler.specs.Settings.{Settings}
 use Rattle.scheduler.specs.Jobs.{unused, isLive}
-
--- what an opening fixes
-pub record Settings : Type 0 where
-  pub kind : Kind
-  pub nodes : ℕ
 
 pub record Model : Type 0 where
   pub settings : Settings

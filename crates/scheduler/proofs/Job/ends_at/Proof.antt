@@ -2,7 +2,7 @@ use Rattle.walltime.specs.WallTime.{wallTime}
 use Rattle.lists.specs.Tests.{eqb-sub}
 use mathlib.Core.Path.{_≡_}
 use native.Mathlib.Omega.{arith}
-use Rattle.scheduler.specs.Jobs.{until}
+use Prim.Native.Nat.{_+_}
 use borrow.Author.Tests.{ne-eqb}
 use borrow.Author.Needs.{needs}
 use Rattle.scheduler.proofs.Job.ends_at.Statement.{statement}
@@ -25,7 +25,7 @@ returns c =
     let j = c .before .before .before .before .args .self in
     let m = c .before .before .before .before .args .minute in
     let w = c .before .wall-time .ensures in
-    rw (c .before .before .enum-told3 .given .1, ne-eqb (until j) m (λ e. omega arith))
+    rw (c .before .before .enum-told3 .given .1, ne-eqb (j .start + wallTime (j .estimate)) m (λ e. omega arith))
 
 returns-2 : tie.Need-returns-2
 returns-2 c = search needs

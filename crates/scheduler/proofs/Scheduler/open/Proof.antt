@@ -2,6 +2,7 @@ use borrow.Author.Tests.{lt-ltb, le-ltb}
 use Rattle.scheduler.specs.Limits.{outside, maxNodes, horizon, lastTicket}
 use mathlib.Core.Bool.{true, false}
 use mathlib.Core.Path.{_≡_, sym, _∙_}
+use Rattle.scheduler.specs.Answers.{verdict}
 use Rattle.scheduler.specs.Opening.{openingRefusal, opening, opened}
 use borrow.Author.Needs.{needs}
 use Rattle.scheduler.proofs.Scheduler.open.Statement.{statement}
@@ -14,7 +15,7 @@ empty-requires : tie.Need-empty-requires
 empty-requires c κs = search needs
 
 returns : tie.Need-returns
-unfolding openingRefusal opening opened
+unfolding openingRefusal opening opened verdict
 returns c =
     let t : outside 1 maxNodes (c .before .before .before .args .o .nodes) ≡ true = sym (c .before .before .outside-range .ensures) ∙ c .before .if1 .taken in
     rw (t, c .empty .ensures)
@@ -23,7 +24,7 @@ empty-requires-2 : tie.Need-empty-requires-2
 empty-requires-2 c κs = search needs
 
 returns-2 : tie.Need-returns-2
-unfolding openingRefusal opening opened
+unfolding openingRefusal opening opened verdict
 returns-2 c =
     let s = c .before .before .before .before .before in
     let e1 = c .before .before .before in
@@ -37,7 +38,7 @@ empty-requires-3 : tie.Need-empty-requires-3
 empty-requires-3 c κs = search needs
 
 returns-3 : tie.Need-returns-3
-unfolding openingRefusal opening opened
+unfolding openingRefusal opening opened verdict
 returns-3 c =
     let s = c .before .before .before .before .before .before .before in
     let e1 = c .before .before .before .before .before in
@@ -49,7 +50,7 @@ empty-requires-4 : tie.Need-empty-requires-4
 empty-requires-4 c κs = search needs
 
 returns-4 : tie.Need-returns-4
-unfolding openingRefusal opening opened
+unfolding openingRefusal opening opened verdict
 returns-4 c =
     let s = c .before .before .before .before .before .before .before in
     let e1 = c .before .before .before .before .before in

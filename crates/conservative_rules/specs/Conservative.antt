@@ -1,0 +1,156 @@
+-- Conservative backfilling: what each call gives (document 01: "Promise Desk", "When a desk says no").
+-- Assumes nothing.
+use mathlib.Core.Bool.{Bool, true, false, not, _&&_, cond}
+use mathlib.Core.List.{List, [], _∷_, _++_, map}
+use mathlib.Core.Option.{none}
+use Prim.Native.Nat.{ℕ, suc, _+_}
+use lib.Dec.{leb, ltb, eqb}
+use lib.ListN.{length, drop}
+use Rattle.lists.specs.Lists.{keep}
+use Rattle.plan.specs.Spans.{Span, Point, earliest, profile}
+use Rattle.scheduler.specs.declared.State.{State}
+use Rattle.scheduler.specs.declared.State.the-variants.{Waiting, Running}
+use Rattle.scheduler.specs.declared.Job.{Job}
+use Rattle.scheduler.specs.declared.Refusal.{Refusal}
+use Rattle.scheduler.specs.declared.Refusal.the-variants as refusal
+use Rattle.scheduler.specs.declared.Select.{Select}
+use Rattle.scheduler.specs.declared.Select.the-variants as select
+use Rattle.scheduler.specs.Jobs.{isWaiting, isRunning, picks}
+use Rattle.scheduler.specs.Settings.{Settings, horizon, holdTime, until}
+use Rattle.scheduler.specs.Table.{ticketsOf, staying}
+use Rattle.scheduler.specs.Model.{Model}
+use Rattle.scheduler.specs.Answers.{Reply, Result, verdict, refuse}
+use Rattle.scheduler.specs.Refusals.{judged, submitTests, completeRefusal, tickRefusal}
+use Rattle.history.specs.Calls.{Call, Rules, submit, complete, tick, profile as profileCall, refusedWait}
+
+-- a running job holds its nodes from its start, a waiting one from its planned start on, until they are free again
+abbrev pub span : Settings → Job → Span
+span S j = record { from = j .start; until = until S j; nodes = j .nodes }
+
+abbrev pub spans : Settings → List Job → List Span
+spans S js = map (span S) js
+
+-- ## Submission (document 01: "Intake")
+
+-- "The planned start is the smallest minute, now or later, such that the stack's nodes are free in every minute of its held time."
+unfoldable pub planned : Model → ℕ → ℕ → ℕ
+planned m n e = earliest (m .settings .nodes) (spans (m .settings) (m .jobs)) (m .clock) n (holdTime (m .settings) e)
+
+-- "If it is now, the stack starts."
+abbrev pub stateAt : ℕ → ℕ → State
+stateAt now s = cond (eqb s now) Running Waiting
+
+-- "This start is its promise and never changes."
+abbrev pub newJob : Model → ℕ → ℕ → ℕ → Job
+newJob m n e s = record { ticket = m .next; nodes = n; estimate = e; state = stateAt (m .clock) s; start = s; promise = s }
+
+abbrev pub jobsWith : Model → ℕ → ℕ → List Job
+jobsWith m n e = m .jobs ++ (newJob m n e (planned m n e) ∷ [])
+
+abbrev pub points : Model → List Job → List Point
+points m js = profile (m .settings .nodes) (spans (m .settings) js) (m .clock)
+
+-- "more than 129 points": with the new job in it
+abbrev pub maxPoints : ℕ
+maxPoints = 129
+
+-- "intake 1, 2, 4, 5, 6, 8"
+unfoldable pub submitRefusal : Model → ℕ → ℕ → Refusal
+submitRefusal m n e =
+    verdict
+    (submitTests m n e
+    ((ltb (horizon (m .settings)) (planned m n e + holdTime (m .settings) e), refusal.PastHorizon)
+    ∷ (ltb maxPoints (length (points m (jobsWith m n e))), refusal.ProfileTooLong)
+    ∷ []))
+
+unfoldable pub submitted : Model → ℕ → ℕ → Result
+submitted m n e = record {
+  reply = record {
+    refusal = refusal.None;
+    ticket = m .next;
+    promise = planned m n e;
+    ended = [];
+    started = cond (eqb (planned m n e) (m .clock)) (m .next ∷ []) [];
+    head = none;
+  };
+  model = record { settings = m .settings; clock = m .clock; next = suc (m .next); jobs = jobsWith m n e };
+}
+
+-- ## What an early end and a tick share
+
+-- a job with the planned start s; it starts if that is now
+abbrev pub placed : ℕ → ℕ → Job → Job
+placed now s j = record {
+  ticket = j .ticket;
+  nodes = j .nodes;
+  estimate = j .estimate;
+  state = stateAt now s;
+  start = s;
+  promise = j .promise;
+}
+
+-- the tickets that wait before and run after
+abbrev pub begun : List Job → List Job → List ℕ
+begun [] ks = []
+begun (j ∷ js) [] = []
+begun (j ∷ js) (k ∷ ks) = cond (isWaiting j && isRunning k) (j .ticket ∷ begun js ks) (begun js ks)
+
+-- those that a test picks leave, and the others become `after`
+unfoldable pub advanced : Model → ℕ → Select → List Job → Result
+advanced m clock s after = record {
+  reply = record {
+    refusal = refusal.None;
+    ticket = 0;
+    promise = 0;
+    ended = ticketsOf (keep (picks s) (m .jobs));
+    started = begun (staying s (m .jobs)) after;
+    head = none;
+  };
+  model = record { settings = m .settings; clock = clock; next = m .next; jobs = after };
+}
+
+-- ## Early completion (document 01: "Early end")
+
+-- "taken out of the plan and put in again at its smallest minute, the others staying at their places. One that comes to now starts."
+abbrev pub moved : Settings → ℕ → List Job → Job → Job
+moved S now others j =
+    cond (isWaiting j)
+    (placed now (earliest (S .nodes) (spans S others) now (j .nodes) (holdTime S (j .estimate))) j)
+    j
+
+-- "each waiting stack, once, in ticket order"; `done` are those that have had their turn
+unfoldable pub pass : Settings → ℕ → List Job → List Job → List Job
+pass S now done [] = []
+pass S now done (j ∷ js) = let k : Job = moved S now (done ++ js) j in k ∷ pass S now (k ∷ done) js
+
+unfoldable pub completed : Model → ℕ → Result
+completed m t =
+    advanced m (m .clock) (select.RunningTicket t)
+    (pass (m .settings) (m .clock) [] (staying (select.RunningTicket t) (m .jobs)))
+
+-- ## Tick (document 01: "Minute step")
+
+-- "waiting stacks whose planned start is now start. Nothing else moves."
+abbrev pub turned : ℕ → Job → Job
+turned now j = cond (isWaiting j) (placed now (j .start) j) j
+
+-- "The clock rises by one, stacks whose end is now leave"
+unfoldable pub ticked : Model → Result
+ticked m =
+    advanced m (suc (m .clock)) (select.EndingAt (suc (m .clock)))
+    (map (turned (suc (m .clock))) (staying (select.EndingAt (suc (m .clock))) (m .jobs)))
+
+-- ## Profile
+
+-- 10: "the lent list, page or text is shorter than what goes into it"
+unfoldable pub profileRefusal : Model → ℕ → Refusal
+profileRefusal m room = verdict ((ltb room (length (points m (m .jobs))), refusal.TooShort) ∷ [])
+
+-- ## All calls
+
+unfoldable pub call : Rules
+call m (submit n e) = judged m (submitRefusal m n e) (submitted m n e)
+call m (complete t) = judged m (completeRefusal m t) (completed m t)
+call m tick = judged m (tickRefusal m) (ticked m)
+call m (profileCall room) = refuse m (profileRefusal m room)
+call m (refusedWait r) = refuse m r

@@ -1,0 +1,175 @@
+-- EASY backfilling: what each call gives (document 01: "Loose Desk", "When a desk says no").
+-- Assumes nothing.
+use mathlib.Core.Bool.{Bool, true, false, not, _&&_, _||_, cond}
+use mathlib.Core.List.{List, [], _∷_, _++_, map, head?}
+use mathlib.Core.Option.{Option, none, some}
+use Prim.Native.Nat.{ℕ, zero, suc, _+_, _-_, _*_}
+use lib.Dec.{leb, ltb, eqb}
+use lib.ListN.{length}
+use Rattle.lists.specs.Tests.{on}
+use Rattle.lists.specs.Lists.{keep, first, sum}
+use Rattle.lists.specs.Least.{least}
+use Rattle.scheduler.specs.declared.State.{State}
+use Rattle.scheduler.specs.declared.State.the-variants.{Waiting, Running}
+use Rattle.scheduler.specs.declared.Job.{Job}
+use Rattle.scheduler.specs.declared.Refusal.{Refusal}
+use Rattle.scheduler.specs.declared.Refusal.the-variants as refusal
+use Rattle.scheduler.specs.declared.Select.{Select}
+use Rattle.scheduler.specs.declared.Select.the-variants as select
+use Rattle.scheduler.specs.Jobs.{isWaiting, isRunning, picks, held}
+use Rattle.scheduler.specs.Settings.{Settings, horizon, holdTime, unit, until}
+use Rattle.scheduler.specs.Table.{nodesHeld, ticketsOf, staying}
+use Rattle.scheduler.specs.Model.{Model}
+use Rattle.scheduler.specs.Answers.{Reply, Result, Forecast, verdict, refuse}
+use Rattle.scheduler.specs.Refusals.{judged, submitTests, completeRefusal, tickRefusal}
+use Rattle.history.specs.Calls.{Call, Rules, submit, complete, tick, profile, refusedWait}
+
+-- ## The queue and the nodes
+
+-- "Waiting stacks stand in ticket order; the first is the head."
+abbrev pub queue : List Job → List Job
+queue js = keep isWaiting js
+
+abbrev pub head : Model → Option Job
+head m = head? (queue (m .jobs))
+
+-- the nodes free now
+abbrev pub free : Model → ℕ
+free m = m .settings .nodes - nodesHeld (m .jobs)
+
+-- "running stacks with end ≤ that minute"
+abbrev pub overBy : Settings → ℕ → Job → Bool
+overBy S t j = isRunning j && leb (until S j) t
+
+abbrev pub freed : Settings → ℕ → Job → ℕ
+freed S t j = on (overBy S t j) (j .nodes)
+
+-- "the nodes free now and those of running stacks with end ≤ that minute together"
+abbrev pub avail : Model → ℕ → ℕ
+avail m t = free m + sum (freed (m .settings) t) (m .jobs)
+
+-- "the shadow is the smallest minute at which" these "suffice for it". (By the longest hold time from now on all that run have ended.)
+unfoldable pub shadow : Model → ℕ → ℕ
+shadow m n = least (λ (t : ℕ). leb n (avail m t)) (unit (m .settings)) (m .clock)
+
+-- "Extra is what is then free beyond the head's need, counting every stack that has ended by the shadow."
+unfoldable pub extra : Model → ℕ → ℕ
+extra m n = avail m (shadow m n) - n
+
+-- ## Settling
+
+-- "needs no more than the free nodes and either (i) has now + held ≤ shadow or (ii) needs no more than extra"
+unfoldable pub qualifies : Model → Job → Job → Bool
+qualifies m h j =
+    leb (j .nodes) (free m)
+    && (leb (m .clock + holdTime (m .settings) (j .estimate)) (shadow m (h .nodes)) || leb (j .nodes) (extra m (h .nodes)))
+
+-- the job that starts next: the head "while the head's nodes are free now", else "the first later stack" that qualifies
+unfoldable pub pick : Model → List Job → Option Job
+pick m [] = none
+pick m (h ∷ later) = cond (leb (h .nodes) (free m)) (some h) (first (qualifies m h) later)
+
+abbrev pub choice : Model → Option Job
+choice m = pick m (queue (m .jobs))
+
+-- a job that starts now
+abbrev pub begun : ℕ → Job → Job
+begun now j = record {
+  ticket = j .ticket;
+  nodes = j .nodes;
+  estimate = j .estimate;
+  state = Running;
+  start = now;
+  promise = j .promise;
+}
+
+abbrev pub mark : ℕ → ℕ → Job → Job
+mark now t j = cond (eqb (j .ticket) t) (begun now j) j
+
+-- the job with that ticket starts now
+abbrev pub begin : ℕ → Model → Model
+begin t m = record { settings = m .settings; clock = m .clock; next = m .next; jobs = map (mark (m .clock) t) (m .jobs) }
+
+pub record Settling : Type 0 where
+  pub model : Model
+  pub started : List ℕ
+
+abbrev pub onChoice : {A B : Type 0} → Option A → B → (A → B) → B
+onChoice none b f = b
+onChoice (some a) b f = f a
+
+-- "worked out afresh after each stack passed forward, until none qualifies": start one job and settle again, at most n times
+unfoldable pub settle : ℕ → Model → Settling
+settle zero m = record { model = m; started = [] }
+settle (suc n) m =
+    onChoice (choice m) (record { model = m; started = [] }) λ j.
+    let rest = settle n (begin (j .ticket) m) in
+    record { model = rest .model; started = j .ticket ∷ rest .started }
+
+-- each start leaves one job fewer waiting
+abbrev pub settled : Model → Settling
+settled m = settle (length (queue (m .jobs))) m
+
+-- ## Calls
+
+abbrev pub headIs : Option Job → Job → Bool
+headIs none j = false
+headIs (some h) j = eqb (h .ticket) (j .ticket)
+
+-- "A stack that is head after a call and was not before gets the shadow then as its forecast."
+unfoldable pub forecast : Model → Model → Option Forecast
+forecast before after =
+    onChoice (head after) none λ h.
+    cond (headIs (head before) h) none (some (record { ticket = h .ticket; minute = shadow after (h .nodes) }))
+
+-- a call that found the scheduler as `before` and has done its own part: it settles, and answers
+unfoldable pub finished : Model → Model → ℕ → List ℕ → Result
+finished before m ticket ended =
+    let s = settled m in
+    record {
+      reply = record {
+        refusal = refusal.None;
+        ticket = ticket;
+        promise = 0;
+        ended = ended;
+        started = s .started;
+        head = forecast before (s .model);
+      };
+      model = s .model;
+    }
+
+-- "on the Loose Desk the promise, and a waiting stack's start, are 0"
+abbrev pub newJob : ℕ → ℕ → ℕ → Job
+newJob t n e = record { ticket = t; nodes = n; estimate = e; state = Waiting; start = 0; promise = 0 }
+
+-- "an intake (at the end of the queue)"
+abbrev pub joined : Model → ℕ → ℕ → Model
+joined m n e = record { settings = m .settings; clock = m .clock; next = suc (m .next); jobs = m .jobs ++ (newJob (m .next) n e ∷ []) }
+
+-- "r being the number waiting before plus one"
+abbrev pub rank : Model → ℕ
+rank m = suc (length (queue (m .jobs)))
+
+-- "intake 1, 2, 4, 5, 6"; 6: "now + r × 10,080 + held above it"
+unfoldable pub submitRefusal : Model → ℕ → ℕ → Refusal
+submitRefusal m n e =
+    verdict
+    (submitTests m n e
+    ((ltb (horizon (m .settings)) (m .clock + rank m * unit (m .settings) + holdTime (m .settings) e), refusal.PastHorizon)
+    ∷ []))
+
+-- those that a test picks leave, and the clock is set
+abbrev pub without : Model → ℕ → Select → Model
+without m clock s = record { settings = m .settings; clock = clock; next = m .next; jobs = staying s (m .jobs) }
+
+-- an early end, or a tick: those that a test picks leave, and the others settle
+unfoldable pub advanced : Model → ℕ → Select → Result
+advanced m clock s = finished m (without m clock s) 0 (ticketsOf (keep (picks s) (m .jobs)))
+
+-- "The Loose Desk has no profile": asking for it gives nothing and changes nothing
+unfoldable pub call : Rules
+call m (submit n e) = judged m (submitRefusal m n e) (finished m (joined m n e) (m .next) [])
+call m (complete t) = judged m (completeRefusal m t) (advanced m (m .clock) (select.RunningTicket t))
+call m tick = judged m (tickRefusal m) (advanced m (suc (m .clock)) (select.EndingAt (suc (m .clock))))
+call m (profile room) = refuse m refusal.None
+call m (refusedWait r) = refuse m r

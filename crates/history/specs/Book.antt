@@ -1,0 +1,152 @@
+-- What a list of calls and their answers says, and nothing else: document 01, "The words go by the calls and their answers".
+-- Assumes nothing.
+use mathlib.Core.Bool.{Bool, true, false, not, _&&_, cond}
+use mathlib.Core.List.{List, [], _∷_, _++_, map, foldr}
+use mathlib.Core.Option.{Option, none, some}
+use Prim.Native.Nat.{ℕ, suc, _+_, _*_, min}
+use lib.Dec.{eqb}
+use lib.ListN.{length}
+use Rattle.lists.specs.Lists.{keep, elem}
+use Rattle.scheduler.specs.Answers.{Reply, Forecast, accepts}
+use Rattle.history.specs.Calls.{Call, submit, complete, tick, profile, refusedWait, Event}
+
+-- "It has started once a call, its intake or a later one, gives its ticket among those started; the start is the clock after that
+-- call. It runs from then until a call gives its ticket among those ended. It waits from intake until it has started."
+pub data Fate : Type 0 where
+  waiting : Fate
+  running : (start : ℕ) → Fate
+  ended : (start : ℕ) → Fate
+
+-- A job taken in.
+pub record Entry : Type 0 where
+  -- "Its ticket and promise are what that intake answered, its nodes those last asked for it in a call not refused."
+  pub ticket : ℕ
+  pub nodes : ℕ
+  pub promise : ℕ
+  -- "Its bound is the clock at intake + r × 10,080."
+  pub bound : ℕ
+  pub fate : Fate
+  -- it has been head after a call
+  pub headed : Bool
+  -- "Its forecast is the minute given by the call after which it is head for the first time."
+  pub forecast : Option ℕ
+
+pub record Book : Type 0 where
+  pub clock : ℕ
+  pub entries : List Entry
+
+abbrev pub waits : Fate → Bool
+waits waiting = true
+waits (running s) = false
+waits (ended s) = false
+
+abbrev pub runs : Fate → Bool
+runs waiting = false
+runs (running s) = true
+runs (ended s) = false
+
+abbrev pub start : Fate → Option ℕ
+start waiting = none
+start (running s) = some s
+start (ended s) = some s
+
+abbrev pub isWaiting : Entry → Bool
+isWaiting x = waits (x .fate)
+
+-- "The clock is the opened desk's minute, plus one for each step not refused."
+abbrev pub clockAfter : Call → Reply → ℕ → ℕ
+clockAfter (submit n e) r m = m
+clockAfter (complete t) r m = m
+clockAfter tick r m = cond (accepts (r .refusal)) (suc m) m
+clockAfter (profile room) r m = m
+clockAfter (refusedWait w) r m = m
+
+-- "r is one more than the number of stacks waiting just before its intake."
+abbrev pub rank : List Entry → ℕ
+rank xs = suc (length (keep isWaiting xs))
+
+-- "A stack is taken in by an intake not refused." u is the unit of the bound
+abbrev pub entry : ℕ → Book → ℕ → Reply → Entry
+entry u b n r = record {
+  ticket = r .ticket;
+  nodes = n;
+  promise = r .promise;
+  bound = b .clock + rank (b .entries) * u;
+  fate = waiting;
+  headed = false;
+  forecast = none;
+}
+
+abbrev pub newcomers : ℕ → Book → Call → Reply → List Entry
+newcomers u b (submit n w) r = cond (accepts (r .refusal)) (entry u b n r ∷ []) []
+newcomers u b (complete t) r = []
+newcomers u b tick r = []
+newcomers u b (profile room) r = []
+newcomers u b (refusedWait w) r = []
+
+-- the fate of the job with ticket t, after a call that left the clock at c
+abbrev pub fateAfter : ℕ → Reply → ℕ → Fate → Fate
+fateAfter c r t waiting = cond (elem t (r .started)) (running c) waiting
+fateAfter c r t (running s) = cond (elem t (r .ended)) (ended s) (running s)
+fateAfter c r t (ended s) = ended s
+
+abbrev pub withFate : Entry → Fate → Entry
+withFate x f = record {
+  ticket = x .ticket;
+  nodes = x .nodes;
+  promise = x .promise;
+  bound = x .bound;
+  fate = f;
+  headed = x .headed;
+  forecast = x .forecast;
+}
+
+abbrev pub marked : ℕ → Reply → Entry → Entry
+marked c r x = withFate x (fateAfter c r (x .ticket) (x .fate))
+
+-- "The head is the waiting stack with the lowest ticket."
+abbrev pub lowest : List ℕ → Option ℕ
+lowest [] = none
+lowest (t ∷ ts) = some (foldr min t ts)
+
+abbrev pub entryTicket : Entry → ℕ
+entryTicket x = x .ticket
+
+abbrev pub headOf : List Entry → Option ℕ
+headOf xs = lowest (map entryTicket (keep isWaiting xs))
+
+abbrev pub is : Option ℕ → ℕ → Bool
+is none t = false
+is (some h) t = eqb h t
+
+-- the minute that an answer gives for the job with ticket t
+abbrev pub given : Option Forecast → ℕ → Option ℕ
+given none t = none
+given (some f) t = cond (eqb (f .ticket) t) (some (f .minute)) none
+
+-- the entry, where it is head after a call for the first time
+abbrev pub hearing : Option Forecast → Entry → Entry
+hearing f x = record {
+  ticket = x .ticket;
+  nodes = x .nodes;
+  promise = x .promise;
+  bound = x .bound;
+  fate = x .fate;
+  headed = true;
+  forecast = given f (x .ticket);
+}
+
+abbrev pub heard : Option ℕ → Option Forecast → Entry → Entry
+heard h f x = cond (isWaiting x && is h (x .ticket) && not (x .headed)) (hearing f x) x
+
+abbrev pub told : ℕ → Reply → List Entry → List Entry
+told c r xs = map (heard (headOf (map (marked c r) xs)) (r .head)) (map (marked c r) xs)
+
+unfoldable pub enter : ℕ → Book → Event → Book
+enter u b e =
+    let c = clockAfter (e .call) (e .reply) (b .clock) in
+    record { clock = c; entries = told c (e .reply) (b .entries ++ newcomers u b (e .call) (e .reply)) }
+
+abbrev pub enterAll : ℕ → Book → List Event → Book
+enterAll u b [] = b
+enterAll u b (e ∷ es) = enterAll u (enter u b e) es

@@ -1,0 +1,52 @@
+-- Lists of calls. Document 01, "The list of calls in demand 3": "Each call, taken or refused, gets the desk that the last one handed
+-- back"; "a `wait` as its steps or as one refused call"; "A profile leaves the desk as it is".
+-- Assumes nothing.
+use mathlib.Core.Bool.{cond}
+use mathlib.Core.List.{List, [], _∷_, _++_}
+use Prim.Native.Nat.{ℕ}
+use lib.ListN.{replicate}
+use Rattle.scheduler.specs.declared.Refusal.{Refusal}
+use Rattle.scheduler.specs.Model.{Model}
+use Rattle.scheduler.specs.Answers.{Reply, Result, accepts}
+use Rattle.scheduler.specs.Refusals.{waitRefusal}
+
+pub data Call : Type 0 where
+  submit : (nodes estimate : ℕ) → Call
+  complete : (ticket : ℕ) → Call
+  tick : Call
+  -- the lists lent to it have room for so many points
+  profile : (room : ℕ) → Call
+  -- a wait that was refused
+  refusedWait : Refusal → Call
+
+-- what each call gives
+abbrev pub Rules : Type 0
+Rules = Model → Call → Result
+
+pub record Event : Type 0 where
+  pub call : Call
+  pub reply : Reply
+
+abbrev pub event : Rules → Model → Call → Event
+event R m c = record { call = c; reply = R m c .reply }
+
+abbrev pub after : Rules → Model → List Call → Model
+after R m [] = m
+after R m (c ∷ cs) = after R (R m c .model) cs
+
+abbrev pub events : Rules → Model → List Call → List Event
+events R m [] = []
+events R m (c ∷ cs) = event R m c ∷ events R (R m c .model) cs
+
+-- what is asked of a scheduler from outside: a call, or a wait
+pub data Request : Type 0 where
+  ask : Call → Request
+  wait : (minutes : ℕ) → Request
+
+abbrev pub callsOf : Model → Request → List Call
+callsOf m (ask c) = c ∷ []
+callsOf m (wait n) = cond (accepts (waitRefusal m n)) (replicate n tick) (refusedWait (waitRefusal m n) ∷ [])
+
+abbrev pub allCalls : Rules → Model → List Request → List Call
+allCalls R m [] = []
+allCalls R m (q ∷ qs) = callsOf m q ++ allCalls R (after R m (callsOf m q)) qs

@@ -1,0 +1,34 @@
+-- The guarantees (document 01: "demand 3"), of a book.
+-- Assumes nothing.
+use mathlib.Core.Path.{_≡_}
+use mathlib.Core.Bool.{true}
+use mathlib.Core.Option.{Option, none, some}
+use mathlib.Core.List.{List, []}
+use Prim.Native.Nat.{ℕ, _≤_}
+use Rattle.lists.specs.Tests.{on}
+use Rattle.lists.specs.Lists.{sum, In}
+use Rattle.scheduler.specs.declared.Kind.{Kind}
+use Rattle.scheduler.specs.declared.Kind.the-variants.{Conservative, Easy}
+use Rattle.history.specs.Book.{Entry, Book, Fate, runs, start, isWaiting, headOf}
+
+-- it has started, no later than b
+pub record StartedBy (x : Entry) (b : ℕ) : Type 0 where
+  pub minute : ℕ
+  pub started : start (x .fate) ≡ some minute
+  pub by : minute ≤ b
+
+-- the nodes of a job that runs
+abbrev pub running-nodes : Entry → ℕ
+running-nodes x = on (runs (x .fate)) (x .nodes)
+
+pub record Guarantee (kind : Kind) (nodes : ℕ) (b : Book) : Type 0 where
+  -- on the Promise Desk, once the clock has reached its promise, a job has started, no later than promised
+  pub promises : kind ≡ Conservative → (x : Entry) → In x (b .entries) → x .promise ≤ b .clock → StartedBy x (x .promise)
+  -- on the Loose Desk, once the clock has reached its bound, it has started within it
+  pub bounds : kind ≡ Easy → (x : Entry) → In x (b .entries) → x .bound ≤ b .clock → StartedBy x (x .bound)
+  -- and once the clock has reached its forecast, it has started no later
+  pub forecasts : kind ≡ Easy → (x : Entry) (f : ℕ) → In x (b .entries) → x .forecast ≡ some f → f ≤ b .clock → StartedBy x f
+  -- and whoever is head hears a forecast
+  pub heads : kind ≡ Easy → (x : Entry) → In x (b .entries) → isWaiting x ≡ true → headOf (b .entries) ≡ some (x .ticket) → (f : ℕ) × (x .forecast ≡ some f)
+  -- on both, running jobs together hold at most the machine's nodes
+  pub within : sum running-nodes (b .entries) ≤ nodes

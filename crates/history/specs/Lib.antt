@@ -1,0 +1,5 @@
+pub mod Calls
+pub mod Book
+pub mod Guarantee
+pub mod Lawful
+pub mod Leaving

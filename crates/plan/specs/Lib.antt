@@ -1,0 +1,8 @@
+pub mod Spans
+pub mod Computed
+pub mod Used
+pub mod Earliest
+pub mod Profile
+pub mod Steps
+pub mod Scan
+pub mod Overlay

@@ -1,0 +1,35 @@
+-- What an opening fixes, and every limit that calls go by, read from it through one definition each.
+-- Assumes nothing.
+use Prim.Native.Nat.{ℕ, _+_}
+use Rattle.walltime.specs.WallTime.{wallTime}
+use Rattle.scheduler.specs.declared.Kind.{Kind}
+use Rattle.scheduler.specs.declared.Job.{Job}
+use Rattle.scheduler.specs.Limits as limit
+
+pub record Settings : Type 0 where
+  pub kind : Kind
+  pub nodes : ℕ
+
+-- "Minutes of the clock: 0 to 1,000,000, the last minute."
+abbrev pub horizon : Settings → ℕ
+horizon S = limit.horizon
+
+-- "At most 64 stacks are live, running and waiting together."
+abbrev pub slots : Settings → ℕ
+slots S = limit.slots
+
+-- "Estimate of a stack: 1 to 10,080 minutes."
+abbrev pub longest : Settings → ℕ
+longest S = limit.longest
+
+-- the minutes for which a job of this estimate holds its nodes (document 01: "held time")
+abbrev pub holdTime : Settings → ℕ → ℕ
+holdTime S e = wallTime e
+
+-- the longest of these: the unit of the bound, "r × 10,080"
+abbrev pub unit : Settings → ℕ
+unit S = holdTime S (longest S)
+
+-- the minute from which the nodes of a job are free again: "A stack that starts at minute s ends at s + held unless ended before"
+abbrev pub until : Settings → Job → ℕ
+until S j = j .start + holdTime S (j .estimate)

@@ -1,0 +1,10 @@
+pub mod Upto
+pub mod Fields
+pub mod FieldLaws
+pub mod Numbers
+pub mod NumberLaws
+pub mod WriterLaws
+pub mod Words
+pub mod WordLaws
+pub mod Lines
+pub mod LineLaws

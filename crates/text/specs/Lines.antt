@@ -1,0 +1,17 @@
+-- The lines of a text.
+-- Assumes nothing.
+use Prim.Native.Nat.{ℕ, _+_}
+use mathlib.Core.List.{List}
+use lib.Dec.{ltb}
+use lib.ListN.{length, drop}
+use Rattle.text.specs.declared.Line.{Line}
+use Rattle.text.specs.Upto.{upto}
+
+-- where the line that begins at a place ends: at the next byte 10, or at the text's end; past that, at the place itself
+abbrev pub lineEnd : List ℕ → ℕ → ℕ
+lineEnd text from = from + length (upto 10 (drop from text))
+
+-- the line that begins at a place
+-- document 01: "Text lines, each closed by byte 10", "An unclosed last line is refused by 9."
+unfoldable pub lineAt : List ℕ → ℕ → Line
+lineAt text from = record { end = lineEnd text from; closed = ltb (lineEnd text from) (length text) }

@@ -1,0 +1,187 @@
+// The text that scripts are written in: lines, their fields, numbers and words, read from byte slices and written to them.
+ghost use mathlib.Core.Path.{_≡_};
+ghost use mathlib.Core.List.{[], _∷_};
+ghost use Prim.Native.Nat.{_+_, _≤_};
+ghost use lib.ListN.{length, drop};
+ghost use lib.Seq.{sets};
+ghost use Rattle.text.specs.Fields.{fieldsOf, fieldOf};
+ghost use Rattle.text.specs.Upto.{upto};
+ghost use Rattle.text.specs.Lines.{lineAt};
+ghost use Rattle.text.specs.Numbers.{digitsFrom, numberOf, decimalOf};
+ghost use Rattle.text.specs.Words.{isWord};
+
+const TAB: u8 = 9;
+
+const NEWLINE: u8 = 10;
+
+// The place of the first such byte at or after a place, or the end. A place past the end is given back.
+fn find_byte(s: &[u8], from: usize, byte: u8) -> usize
+    ensures { λ r. ⌜ r ≡ from + length (upto byte (drop from (now (s .entry)))) ⌝ }
+{
+    let mut i = from;
+    while i < s.len() {
+        if s[i] == byte {
+            return i;
+        }
+        i += 1;
+    }
+    i
+}
+
+// The field k of a line, counted from 0: a part of the caller's slice. Past the last: the empty part at the line's end.
+pub fn field(line: &[u8], k: usize) -> &[u8]
+    ensures { λ r. ⌜ now r ≡ fieldOf (now (line .entry)) k ⌝ }
+{
+    let mut start: usize = 0;
+    let mut n: usize = 0;
+    while n < k {
+        let t = find_byte(line, start, TAB);
+        if t == line.len() {
+            let end = line.len();
+            return &line[end..end];
+        }
+        start = t + 1;
+        n += 1;
+    }
+    let e = find_byte(line, start, TAB);
+    &line[start..e]
+}
+
+// How many fields a line has: one more than its tabs.
+pub fn field_count(line: &[u8]) -> usize
+    ensures { λ r. ⌜ r ≡ length (fieldsOf (now (line .entry))) ⌝ }
+{
+    let mut n: usize = 1;
+    let mut i: usize = 0;
+    while i < line.len() {
+        if line[i] == TAB {
+            n += 1;
+        }
+        i += 1;
+    }
+    n
+}
+
+// What a part says as a number.
+pub enum Parsed {
+    Is(u32),
+    Not,
+}
+
+// One to seven digits, with no leading zero but 0 itself.
+pub fn number(part: &[u8]) -> Parsed
+    ensures { λ r. ⌜ r ≡ numberOf (now (part .entry)) ⌝ }
+{
+    let n = part.len();
+    if n < 1 {
+        return Parsed::Not;
+    }
+    if 7 < n {
+        return Parsed::Not;
+    }
+    if 1 < n {
+        if part[0] == 48 {
+            return Parsed::Not;
+        }
+    }
+    digits(part)
+}
+
+// The value of at most seven digits, or Not where a byte is no digit.
+fn digits(part: &[u8]) -> Parsed
+    requires { ⌜ length (now part) ≤ 7 ⌝ }
+    ensures { λ r. ⌜ r ≡ digitsFrom 0 (now (part .entry)) ⌝ }
+{
+    let mut v: u32 = 0;
+    let mut i: usize = 0;
+    while i < part.len() {
+        let b = part[i];
+        if b < 48 {
+            return Parsed::Not;
+        }
+        if 57 < b {
+            return Parsed::Not;
+        }
+        v = v * 10 + ((b - 48) as u32);
+        i += 1;
+    }
+    Parsed::Is(v)
+}
+
+// A field that is a number.
+pub fn field_number(line: &[u8], k: usize) -> Parsed
+    ensures { λ r. ⌜ r ≡ numberOf (fieldOf (now (line .entry)) k) ⌝ }
+{
+    let part = field(line, k);
+    number(part)
+}
+
+// Whether a part is this word.
+pub fn is_word(part: &[u8], word: &[u8]) -> bool
+    ensures { λ r. ⌜ r ≡ isWord (now (word .entry)) (now (part .entry)) ⌝ }
+{
+    if part.len() != word.len() {
+        return false;
+    }
+    let mut i: usize = 0;
+    while i < word.len() {
+        if part[i] != word[i] {
+            return false;
+        }
+        i += 1;
+    }
+    true
+}
+
+// The writers write at a place, where the caller has room, and give back the place after what they wrote.
+pub fn put_byte(out: &mut [u8], at: usize, byte: u8) -> usize
+    requires { ⌜ at + 1 ≤ length (now out) ⌝ }
+    ensures { λ r. ⌜ (r ≡ at + 1) × (now (out .exit) ≡ sets (now (out .entry)) at (byte ∷ [])) ⌝ }
+{
+    out[at] = byte;
+    at + 1
+}
+
+pub fn put_word(out: &mut [u8], at: usize, word: &[u8]) -> usize
+    requires { ⌜ at + length (now word) ≤ length (now out) ⌝ }
+    ensures { λ r. ⌜ (r ≡ at + length (now (word .entry))) × (now (out .exit) ≡ sets (now (out .entry)) at (now (word .entry))) ⌝ }
+{
+    let mut i: usize = 0;
+    while i < word.len() {
+        out[at + i] = word[i];
+        i += 1;
+    }
+    at + i
+}
+
+// In decimal: first what stands before the last digit, then the last digit.
+pub fn put_number(out: &mut [u8], at: usize, v: u32) -> usize
+    requires { ⌜ at + length (decimalOf v) ≤ length (now out) ⌝ }
+    ensures { λ r. ⌜ (r ≡ at + length (decimalOf v)) × (now (out .exit) ≡ sets (now (out .entry)) at (decimalOf v)) ⌝ }
+{
+    if v < 10 {
+        out[at] = 48 + (v as u8);
+        at + 1
+    } else {
+        let p = put_number(out, at, v / 10);
+        out[p] = 48 + ((v % 10) as u8);
+        p + 1
+    }
+}
+
+// Where a line ends, and whether byte 10 closes it there.
+pub struct Line {
+    pub end: usize,
+    pub closed: bool,
+}
+
+// The line that begins at a place. Past the text's end: the empty, unclosed one.
+pub fn next_line(text: &[u8], from: usize) -> Line
+    ensures { λ r. ⌜ r ≡ lineAt (now (text .entry)) from ⌝ }
+{
+    let end = find_byte(text, from, NEWLINE);
+    Line {
+        end: end,
+        closed: end < text.len(),
+    }
+}
