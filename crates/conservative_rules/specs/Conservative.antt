@@ -18,7 +18,7 @@ use Rattle.scheduler.specs.declared.Select.the-variants as select
 use Rattle.scheduler.specs.Jobs.{isWaiting, isRunning, picks}
 use Rattle.scheduler.specs.Settings.{Settings, horizon, holdTime, until}
 use Rattle.scheduler.specs.Table.{ticketsOf, staying}
-use Rattle.scheduler.specs.Model.{Model}
+use Rattle.scheduler.specs.Model.{Model, joined}
 use Rattle.scheduler.specs.Answers.{Reply, Result, verdict, refuse}
 use Rattle.scheduler.specs.Refusals.{judged, submitTests, completeRefusal, tickRefusal}
 use Rattle.history.specs.Calls.{Call, Rules, submit, complete, tick, profile as profileCall, refusedWait}
@@ -44,36 +44,36 @@ stateAt now s = cond (eqb s now) Running Waiting
 abbrev pub newJob : Model → ℕ → ℕ → ℕ → Job
 newJob m n e s = record { ticket = m .next; nodes = n; estimate = e; state = stateAt (m .clock) s; start = s; promise = s }
 
-abbrev pub jobsWith : Model → ℕ → ℕ → List Job
-jobsWith m n e = m .jobs ++ (newJob m n e (planned m n e) ∷ [])
+abbrev pub withNew : Model → ℕ → ℕ → ℕ → Model
+withNew m n e s = joined m (newJob m n e s)
 
-abbrev pub points : Model → List Job → List Point
-points m js = profile (m .settings .nodes) (spans (m .settings) js) (m .clock)
+abbrev pub points : Model → List Point
+points m = profile (m .settings .nodes) (spans (m .settings) (m .jobs)) (m .clock)
 
 -- "more than 129 points": with the new job in it
 abbrev pub maxPoints : ℕ
 maxPoints = 129
 
--- "intake 1, 2, 4, 5, 6, 8"
-unfoldable pub submitRefusal : Model → ℕ → ℕ → Refusal
-submitRefusal m n e =
+-- "intake 1, 2, 4, 5, 6, 8", where s is the planned start
+unfoldable pub submitRefusal : Model → ℕ → ℕ → ℕ → Refusal
+submitRefusal m n e s =
     verdict
     (submitTests m n e
-    ((ltb (horizon (m .settings)) (planned m n e + holdTime (m .settings) e), refusal.PastHorizon)
-    ∷ (ltb maxPoints (length (points m (jobsWith m n e))), refusal.ProfileTooLong)
+    ((ltb (horizon (m .settings)) (s + holdTime (m .settings) e), refusal.PastHorizon)
+    ∷ (ltb maxPoints (length (points (withNew m n e s))), refusal.ProfileTooLong)
     ∷ []))
 
-unfoldable pub submitted : Model → ℕ → ℕ → Result
-submitted m n e = record {
+unfoldable pub submitted : Model → ℕ → ℕ → ℕ → Result
+submitted m n e s = record {
   reply = record {
     refusal = refusal.None;
     ticket = m .next;
-    promise = planned m n e;
+    promise = s;
     ended = [];
-    started = cond (eqb (planned m n e) (m .clock)) (m .next ∷ []) [];
+    started = cond (eqb s (m .clock)) (m .next ∷ []) [];
     head = none;
   };
-  model = record { settings = m .settings; clock = m .clock; next = suc (m .next); jobs = jobsWith m n e };
+  model = withNew m n e s;
 }
 
 -- ## What an early end and a tick share
@@ -114,9 +114,8 @@ advanced m clock s after = record {
 -- "taken out of the plan and put in again at its smallest minute, the others staying at their places. One that comes to now starts."
 abbrev pub moved : Settings → ℕ → List Job → Job → Job
 moved S now others j =
-    cond (isWaiting j)
-    (placed now (earliest (S .nodes) (spans S others) now (j .nodes) (holdTime S (j .estimate))) j)
-    j
+    let s = earliest (S .nodes) (spans S others) now (j .nodes) (holdTime S (j .estimate)) in
+    cond (isWaiting j) (placed now s j) j
 
 -- "each waiting stack, once, in ticket order"; `done` are those that have had their turn
 unfoldable pub pass : Settings → ℕ → List Job → List Job → List Job
@@ -144,12 +143,12 @@ ticked m =
 
 -- 10: "the lent list, page or text is shorter than what goes into it"
 unfoldable pub profileRefusal : Model → ℕ → Refusal
-profileRefusal m room = verdict ((ltb room (length (points m (m .jobs))), refusal.TooShort) ∷ [])
+profileRefusal m room = verdict ((ltb room (length (points m)), refusal.TooShort) ∷ [])
 
 -- ## All calls
 
 unfoldable pub call : Rules
-call m (submit n e) = judged m (submitRefusal m n e) (submitted m n e)
+call m (submit n e) = let s = planned m n e in judged m (submitRefusal m n e s) (submitted m n e s)
 call m (complete t) = judged m (completeRefusal m t) (completed m t)
 call m tick = judged m (tickRefusal m) (ticked m)
 call m (profileCall room) = refuse m (profileRefusal m room)

@@ -18,8 +18,8 @@ use Rattle.scheduler.specs.declared.Select.{Select}
 use Rattle.scheduler.specs.declared.Select.the-variants as select
 use Rattle.scheduler.specs.Jobs.{isWaiting, isRunning, picks, held}
 use Rattle.scheduler.specs.Settings.{Settings, horizon, holdTime, unit, until}
-use Rattle.scheduler.specs.Table.{nodesHeld, ticketsOf, staying}
-use Rattle.scheduler.specs.Model.{Model}
+use Rattle.scheduler.specs.Table.{nodesHeld, ticketsOf}
+use Rattle.scheduler.specs.Model.{Model, joined, without}
 use Rattle.scheduler.specs.Answers.{Reply, Result, Forecast, verdict, refuse}
 use Rattle.scheduler.specs.Refusals.{judged, submitTests, completeRefusal, tickRefusal}
 use Rattle.history.specs.Calls.{Call, Rules, submit, complete, tick, profile, refusedWait}
@@ -142,10 +142,6 @@ finished before m ticket ended =
 abbrev pub newJob : ℕ → ℕ → ℕ → Job
 newJob t n e = record { ticket = t; nodes = n; estimate = e; state = Waiting; start = 0; promise = 0 }
 
--- "an intake (at the end of the queue)"
-abbrev pub joined : Model → ℕ → ℕ → Model
-joined m n e = record { settings = m .settings; clock = m .clock; next = suc (m .next); jobs = m .jobs ++ (newJob (m .next) n e ∷ []) }
-
 -- "r being the number waiting before plus one"
 abbrev pub rank : Model → ℕ
 rank m = suc (length (queue (m .jobs)))
@@ -158,17 +154,14 @@ submitRefusal m n e =
     ((ltb (horizon (m .settings)) (m .clock + rank m * unit (m .settings) + holdTime (m .settings) e), refusal.PastHorizon)
     ∷ []))
 
--- those that a test picks leave, and the clock is set
-abbrev pub without : Model → ℕ → Select → Model
-without m clock s = record { settings = m .settings; clock = clock; next = m .next; jobs = staying s (m .jobs) }
-
 -- an early end, or a tick: those that a test picks leave, and the others settle
 unfoldable pub advanced : Model → ℕ → Select → Result
 advanced m clock s = finished m (without m clock s) 0 (ticketsOf (keep (picks s) (m .jobs)))
 
+-- "After an intake (at the end of the queue), an early end or a minute step as above, the desk settles".
 -- "The Loose Desk has no profile": asking for it gives nothing and changes nothing
 unfoldable pub call : Rules
-call m (submit n e) = judged m (submitRefusal m n e) (finished m (joined m n e) (m .next) [])
+call m (submit n e) = judged m (submitRefusal m n e) (finished m (joined m (newJob (m .next) n e)) (m .next) [])
 call m (complete t) = judged m (completeRefusal m t) (advanced m (m .clock) (select.RunningTicket t))
 call m tick = judged m (tickRefusal m) (advanced m (suc (m .clock)) (select.EndingAt (suc (m .clock))))
 call m (profile room) = refuse m refusal.None

@@ -27,16 +27,13 @@ pub record Event : Type 0 where
   pub call : Call
   pub reply : Reply
 
-abbrev pub event : Rules → Model → Call → Event
-event R m c = record { call = c; reply = R m c .reply }
-
 abbrev pub after : Rules → Model → List Call → Model
 after R m [] = m
 after R m (c ∷ cs) = after R (R m c .model) cs
 
 abbrev pub events : Rules → Model → List Call → List Event
 events R m [] = []
-events R m (c ∷ cs) = event R m c ∷ events R (R m c .model) cs
+events R m (c ∷ cs) = let r = R m c in record { call = c; reply = r .reply } ∷ events R (r .model) cs
 
 -- what is asked of a scheduler from outside: a call, or a wait
 pub data Request : Type 0 where

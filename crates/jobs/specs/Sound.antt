@@ -20,8 +20,8 @@ use Rattle.scheduler.specs.declared.Select.the-variants as select
 use Rattle.scheduler.specs.Limits.{maxNodes, lastTicket, outside}
 use Rattle.scheduler.specs.Jobs.{isLive, isRunning, held, picks}
 use Rattle.scheduler.specs.Settings.{Settings, horizon, slots, longest, holdTime, until}
-use Rattle.scheduler.specs.Table.{nodesHeld, staying}
-use Rattle.scheduler.specs.Model.{Model, Live, empty}
+use Rattle.scheduler.specs.Table.{nodesHeld}
+use Rattle.scheduler.specs.Model.{Model, Live, empty, joined, without}
 use Rattle.scheduler.specs.Answers.{verdict, accepts}
 use Rattle.scheduler.specs.Refusals.{submitTests}
 use Rattle.scheduler.specs.Opening.{openingRefusal, opening}
@@ -122,11 +122,7 @@ submit-fit m n e more h =
       d .1,
     )
 
--- the new job stands last
-abbrev pub with-job : Model → Job → Model
-with-job m j = record { settings = m .settings; clock = m .clock; next = suc (m .next); jobs = m .jobs ++ (j ∷ []) }
-
-pub sound-join : (m : Model) (n e : ℕ) (j : Job) → Sound m → Fit m n e → SoundJob (m .settings) (m .clock) j → j .ticket ≡ m .next → nodesHeld (m .jobs) + held j ≤ m .settings .nodes → Sound (with-job m j)
+pub sound-join : (m : Model) (n e : ℕ) (j : Job) → Sound m → Fit m n e → SoundJob (m .settings) (m .clock) j → j .ticket ≡ m .next → nodesHeld (m .jobs) + held j ≤ m .settings .nodes → Sound (joined m j)
 sound-join m n e j s f sj t c = record {
   nodes-from = s .nodes-from;
   nodes-to = s .nodes-to;
@@ -156,10 +152,6 @@ sound-join m n e j s f sj t c = record {
     one k (inr i) = rw (last k i) sj
 
 -- ## Jobs leave
-
--- those that a test picks leave, and the clock is set
-abbrev pub without : Model → ℕ → Select → Model
-without m clock s = record { settings = m .settings; clock = clock; next = m .next; jobs = staying s (m .jobs) }
 
 -- the clock that an early end leaves, and that of a tick; and which jobs they pick
 pub data Leaving (m : Model) : ℕ → Select → Type 0 where

@@ -3,17 +3,19 @@
 -- Assumes nothing.
 use mathlib.Core.Path.{_≡_, refl, ap, _∙_}
 use mathlib.Core.Bool.{Bool, true, false}
-use mathlib.Core.List.{List, []}
-use Prim.Native.Nat.{ℕ, _≤_}
+use mathlib.Core.List.{List, [], _∷_, _++_}
+use Prim.Native.Nat.{ℕ, suc, _≤_}
 use lib.ListN.{length}
 use Rattle.lists.specs.Lists.{keep, All, all-in, keep-all}
 use Rattle.lists.specs.Pads.{pad, keep-pad, length-pad}
 use Rattle.scheduler.specs.declared.Kind.{Kind}
 use Rattle.scheduler.specs.declared.Job.{Job}
 use Rattle.scheduler.specs.declared.Scheduler.{Scheduler}
+use Rattle.scheduler.specs.declared.Select.{Select}
 use Rattle.scheduler.specs.Limits.{slots}
 use Rattle.scheduler.specs.Settings.{Settings}
 use Rattle.scheduler.specs.Jobs.{unused, isLive}
+use Rattle.scheduler.specs.Table.{staying}
 
 pub record Model : Type 0 where
   pub settings : Settings
@@ -24,6 +26,18 @@ pub record Model : Type 0 where
 -- no job yet
 abbrev pub empty : Kind → ℕ → ℕ → ℕ → Model
 empty k n c t = record { settings = record { kind = k; nodes = n }; clock = c; next = t; jobs = [] }
+
+-- with other jobs
+abbrev pub withModelJobs : Model → List Job → Model
+withModelJobs m js = record { settings = m .settings; clock = m .clock; next = m .next; jobs = js }
+
+-- a job taken in stands last, and the next ticket is one more
+abbrev pub joined : Model → Job → Model
+joined m j = record { settings = m .settings; clock = m .clock; next = suc (m .next); jobs = m .jobs ++ (j ∷ []) }
+
+-- those that a test picks leave, and the clock is set
+abbrev pub without : Model → ℕ → Select → Model
+without m clock s = record { settings = m .settings; clock = clock; next = m .next; jobs = staying s (m .jobs) }
 
 unfoldable pub store : Model → Scheduler
 store m = record { kind = m .settings .kind; nodes = m .settings .nodes; clock = m .clock; next = m .next; jobs = pad slots unused (m .jobs) }

@@ -18,7 +18,7 @@ use Rattle.scheduler.specs.declared.Select.the-variants as select
 use Rattle.scheduler.specs.Limits.{slots}
 use Rattle.scheduler.specs.Jobs.{unused, isLive, held, picks}
 use Rattle.scheduler.specs.Table.{withJobs, counted, located, slot, nodesHeld, ticketsOf, tickets, staying, appended, removed}
-use Rattle.scheduler.specs.Model.{Model, store, Live}
+use Rattle.scheduler.specs.Model.{Model, store, withModelJobs, Live}
 
 -- no test picks an unused slot
 pub picks-unused : (s : Select) → picks s unused ≡ false
@@ -26,10 +26,6 @@ picks-unused select.Live = refl
 picks-unused select.Waiting = refl
 picks-unused (select.RunningTicket t) = refl
 picks-unused (select.EndingAt t) = refl
-
--- the model with other jobs
-abbrev pub withModelJobs : Model → List Job → Model
-withModelJobs m js = record { settings = m .settings; clock = m .clock; next = m .next; jobs = js }
 
 module _ (m : Model) where
   pub counted-stored : (s : Select) → counted s (store m .jobs) ≡ counted s (m .jobs)
