@@ -7,7 +7,7 @@ use mathlib.Core.Logic.{_⊎_}
 use mathlib.Core.Option.{Option, none, some}
 use Prim.Native.Nat.{ℕ, suc, _+_, _*_, _≤_, _<_}
 use lib.ListN.{length}
-use Rattle.lists.specs.Lists.{keep, elem}
+use Rattle.lists.specs.Lists.{keep, elem, All}
 use Rattle.scheduler.specs.declared.Kind.{Kind}
 use Rattle.scheduler.specs.declared.Kind.the-variants.{Conservative, Easy}
 use Rattle.scheduler.specs.declared.State.{State}
@@ -16,7 +16,7 @@ use Rattle.scheduler.specs.declared.Job.{Job}
 use Rattle.scheduler.specs.Jobs.{isWaiting}
 use Rattle.scheduler.specs.Settings.{unit}
 use Rattle.scheduler.specs.Table.{nodesHeld, ticketsOf}
-use Rattle.scheduler.specs.Model.{Model}
+use Rattle.scheduler.specs.Model.{Model, Live}
 use Rattle.scheduler.specs.Answers.{Reply, Forecast, accepts}
 use Rattle.history.specs.Calls.{Call, submit, complete, tick, profile, refusedWait, Rules}
 use Rattle.history.specs.Book.{Fate, waiting, running, ended, fateAfter, clockAfter, lowest}
@@ -83,6 +83,7 @@ Kept OnCourse u b r m = ((elem u (r .started) ≡ true) × (m .clock ≤ b)) ⊎
 
 pub record Lawful (k : Kind) (R : Rules) (Valid : Model → Type 0) (OnCourse : Model → ℕ → ℕ → Type 0) : Type 0 where
   pub kind-is : (m : Model) → Valid m → m .settings .kind ≡ k
+  pub all-live : (m : Model) → Valid m → All Live (m .jobs)
   pub capacity : (m : Model) → Valid m → nodesHeld (m .jobs) ≤ m .settings .nodes
   -- each call hands back a valid model with the same settings
   pub valid : (m : Model) (c : Call) → Valid m → Valid (R m c .model)

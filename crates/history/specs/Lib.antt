@@ -3,3 +3,4 @@ pub mod Book
 pub mod Guarantee
 pub mod Lawful
 pub mod Leaving
+pub mod Proof

@@ -158,6 +158,10 @@ module _ {A : Type 0} where
   sum-append f [] ys = omega arith
   sum-append f (x ∷ xs) ys = omega (arith, sum-append f xs ys)
 
+  pub sum-map : {B : Type 0} (f : B → ℕ) (g : A → B) (xs : List A) → sum f (map g xs) ≡ sum (λ (a : A). f (g a)) xs
+  sum-map f g [] = refl
+  sum-map f g (x ∷ xs) = ap (λ (n : ℕ). f (g x) + n) (sum-map f g xs)
+
   -- what is not kept is what passes the test
   pub sum-keep : (f : A → ℕ) (p : A → Bool) (xs : List A) → sum f (keep (λ (a : A). not (p a)) xs) + sum (λ (a : A). on (p a) (f a)) xs ≡ sum f xs
   sum-keep f p [] = omega arith
