@@ -4,7 +4,9 @@
 use Prim.Native.Nat.{ℕ}
 use mathlib.Core.Path.{_≡_, refl}
 use mathlib.Core.List.{[], _∷_}
-use Rattle.plan.specs.Spans.{Span, takes, lastEnd, fits, earliest, Point, changes, points, profile}
+use Rattle.plan.specs.declared.Span.{Span}
+use Rattle.plan.specs.declared.Point.{Point}
+use Rattle.plan.specs.Spans.{takes, lastEnd, fits, earliest, changes, points, profile}
 
 abbrev running : Span
 running = record { from = 0; until = 20; nodes = 6 }

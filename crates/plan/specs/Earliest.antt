@@ -10,7 +10,8 @@ use lib.Dec.{leb}
 use borrow.Author.Tests.{leb-true, le-leb}
 use Rattle.lists.specs.Tests.{le-or, both}
 use Rattle.lists.specs.Least.{least, least-from, least-holds, least-min}
-use Rattle.plan.specs.Spans.{Span, used, free, lastEnd, fits, earliest, Fits, Earliest}
+use Rattle.plan.specs.declared.Span.{Span}
+use Rattle.plan.specs.Spans.{used, free, lastEnd, fits, earliest, Fits, Earliest}
 use Rattle.plan.specs.Used.{used-last}
 
 -- the test says what it is for

@@ -14,7 +14,9 @@ use lib.ListN.{length, getD, length-append}
 use lib.Seq.{getD-at}
 use borrow.Author.Tests.{ltb-true, lt-ltb, le-ltb, ne-eqb}
 use Rattle.lists.specs.Tests.{case, on}
-use Rattle.plan.specs.Spans.{Span, takes, free, lastEnd, Point, point, changes, points, profile}
+use Rattle.plan.specs.declared.Span.{Span}
+use Rattle.plan.specs.declared.Point.{Point}
+use Rattle.plan.specs.Spans.{takes, free, lastEnd, point, changes, points, profile}
 use Rattle.plan.specs.Used.{takes-still}
 use Rattle.plan.specs.Profile.{true-changes, changes-false, points-append, points-still, points-length, profile-to}
 use Rattle.plan.specs.Steps.{Steps, steps-first, steps-rise, steps-value}

@@ -13,7 +13,9 @@ use borrow.Author.Tests.{eqb-true, eqb-false, eq-eqb, ne-eqb, not-true, not-fals
 use Rattle.lists.specs.Tests.{case, on, on-le, neither, le-or}
 use Rattle.lists.specs.Lists.{keep, sum, All, In, here, there, in-nil, all-of, all-keep, in-map, map-in}
 use Rattle.lists.specs.Lists.{keep-in, in-keep, keep-append, keep-cong, keep-none, sum-le, sum-zero, length-keep}
-use Rattle.plan.specs.Spans.{Span, takes, used, free, lastEnd, Point, point, minutes, changes, points, profile, IsPoint, Ascend, Profile}
+use Rattle.plan.specs.declared.Span.{Span}
+use Rattle.plan.specs.declared.Point.{Point}
+use Rattle.plan.specs.Spans.{takes, used, free, lastEnd, point, minutes, changes, points, profile, IsPoint, Ascend, Profile}
 use Rattle.plan.specs.Used.{takes-still, used-last}
 
 -- Minutes

@@ -12,7 +12,9 @@ use lib.ListN.{length, getD, drop, drop-of-length-le}
 use lib.Seq.{drop-cons}
 use borrow.Author.Tests.{leb-true, leb-false, le-leb, lt-leb}
 use Rattle.lists.specs.Tests.{case, le-or}
-use Rattle.plan.specs.Spans.{Span, free, lastEnd, earliest, Fits, Earliest, Point, profile}
+use Rattle.plan.specs.declared.Span.{Span}
+use Rattle.plan.specs.declared.Point.{Point}
+use Rattle.plan.specs.Spans.{free, lastEnd, earliest, Fits, Earliest, profile}
 use Rattle.plan.specs.Used.{used-last}
 use Rattle.plan.specs.Earliest.{earliest-is, earliest-unique}
 use Rattle.plan.specs.Steps.{StepsFrom, Steps, profile-steps}

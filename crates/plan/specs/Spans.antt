@@ -10,12 +10,8 @@ use lib.Dec.{leb, ltb, eqb}
 use Rattle.lists.specs.Tests.{on}
 use Rattle.lists.specs.Lists.{keep, sum, In}
 use Rattle.lists.specs.Least.{least}
-
--- Nodes that are taken from one minute on until another, in which they are free again.
-pub record Span : Type 0 where
-  pub from : ℕ
-  pub until : ℕ
-  pub nodes : ℕ
+use Rattle.plan.specs.declared.Span.{Span}
+use Rattle.plan.specs.declared.Point.{Point}
 
 -- the nodes that x takes in minute t
 unfoldable pub takes : ℕ → Span → ℕ
@@ -58,10 +54,6 @@ pub record Earliest (f : ℕ → ℕ) (now n h s : ℕ) : Type 0 where
 -- The profile
 
 -- Document 01: "points, each a minute and the free nodes from it on".
-pub record Point : Type 0 where
-  pub minute : ℕ
-  pub free : ℕ
-
 abbrev pub point : (ℕ → ℕ) → ℕ → Point
 point f t = record { minute = t; free = f t }
 

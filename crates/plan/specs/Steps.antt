@@ -12,7 +12,9 @@ use lib.ListN.{length, getD, drop, drop-of-length-le}
 use lib.Seq.{drop-cons}
 use Rattle.lists.specs.Tests.{case, le-or}
 use Rattle.lists.specs.Lists.{keep}
-use Rattle.plan.specs.Spans.{Span, free, lastEnd, Point, point, minutes, changes, points, profile}
+use Rattle.plan.specs.declared.Span.{Span}
+use Rattle.plan.specs.declared.Point.{Point}
+use Rattle.plan.specs.Spans.{free, lastEnd, point, minutes, changes, points, profile}
 use Rattle.plan.specs.Used.{used-last}
 use Rattle.plan.specs.Profile.{true-changes, changes-false}
 

@@ -11,7 +11,8 @@ use lib.Dec.{leb, ltb}
 use borrow.Author.Tests.{lt-ltb, le-ltb, le-leb, lt-leb}
 use Rattle.lists.specs.Tests.{on-le, le-or, and-right-false}
 use Rattle.lists.specs.Lists.{All, sum-append}
-use Rattle.plan.specs.Spans.{Span, takes, used, free, lastEnd}
+use Rattle.plan.specs.declared.Span.{Span}
+use Rattle.plan.specs.Spans.{takes, used, free, lastEnd}
 
 module _ (t : ℕ) (x : Span) where
   pub takes-in : x .from ≤ t → t < x .until → takes t x ≡ x .nodes
