@@ -4,3 +4,4 @@ pub mod Guarantee
 pub mod Lawful
 pub mod Leaving
 pub mod Proof
+pub mod Breaks

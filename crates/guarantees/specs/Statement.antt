@@ -1,0 +1,65 @@
+-- The guarantees of both kinds of scheduler (document 01: "demand 3", "a single claim about the whole list"): the statement, and
+-- from what a kind owes of each call, its proof.
+-- Assumes nothing.
+use mathlib.Core.Path.{_≡_, refl, sym, ap, subst, _∙_}
+use mathlib.Core.List.{List, [], _∷_}
+use Prim.Native.Nat.{ℕ}
+use lib.ListN.{take}
+use Rattle.lists.specs.Lists.{in-nil}
+use Rattle.scheduler.specs.declared.Kind.{Kind}
+use Rattle.scheduler.specs.declared.Opening.{Opening}
+use Rattle.scheduler.specs.Settings.{Settings, unit}
+use Rattle.scheduler.specs.Model.{Model}
+use Rattle.scheduler.specs.Opening.{opening}
+use Rattle.history.specs.Calls.{Call, Request, Rules, Event, after, events, allCalls}
+use Rattle.history.specs.Book.{Book, enterAll}
+use Rattle.history.specs.Guarantee.{Guarantee}
+use Rattle.history.specs.Lawful.{Lawful}
+use Rattle.history.specs.Proof.{Agrees, Follows, guaranteed, settings-after}
+use Rattle.guarantees.specs.Rules.{rulesOf, call}
+
+-- "It starts from the desk that an opening hands back": nothing has been taken in
+abbrev pub blank : Model → Book
+blank m = record { clock = m .clock; entries = [] }
+
+-- what the calls and their answers say, from a model and a book on
+abbrev pub bookFrom : Model → Book → List Call → Book
+bookFrom m b cs = enterAll (unit (m .settings)) b (events call m cs)
+
+-- For every opening, a refused one too, and every list of calls: with the words by the calls and their answers, promises are kept,
+-- bounds and forecasts are kept, every head hears one, and running jobs never hold more nodes than the machine has. ("After every
+-- call": every front of a list is a list.)
+abbrev pub Demand3 : Type 0
+Demand3 = (o : Opening) (cs : List Call) → Guarantee (o .kind) (opening o .settings .nodes) (bookFrom (opening o) (blank (opening o)) cs)
+
+-- the same with waits, "as its steps or as one refused call", after each single step
+abbrev pub Demand3WithWaits : Type 0
+Demand3WithWaits =
+    (o : Opening) (qs : List Request) (i : ℕ)
+    → Guarantee (o .kind) (opening o .settings .nodes) (bookFrom (opening o) (blank (opening o)) (take i (allCalls call (opening o) qs)))
+
+module _ {k : Kind} {Valid : Model → Type 0} {OnCourse : Model → ℕ → ℕ → Type 0} (L : Lawful k (rulesOf k) Valid OnCourse) where
+  -- a valid model of the kind goes by the kind's rules
+  by-rules : (m : Model) (c : Call) → Valid m → call m c ≡ rulesOf k m c
+  by-rules m c v = ap (λ (j : Kind). rulesOf j m c) (L .kind-is m v)
+
+  same-events : (m : Model) (cs : List Call) → Valid m → events call m cs ≡ events (rulesOf k) m cs
+  same-events m [] v = refl
+  same-events m (c ∷ cs) v = rw (by-rules m c v) (ap (λ (es : List Event). record { call = c; reply = rulesOf k m c .reply } ∷ es) (same-events (rulesOf k m c .model) cs (L .valid m c v)))
+
+  -- from any book that agrees with a valid model
+  pub from-seed : (m : Model) (b : Book) (cs : List Call) → Valid m → Agrees k OnCourse m b → Guarantee k (m .settings .nodes) (bookFrom m b cs)
+  from-seed m b cs v a =
+      let g = guaranteed L (unit (m .settings)) m b cs (record { valid = v; agrees = a; unit-is = refl }) in
+      rw (same-events m cs v) (subst (λ (S : Settings). Guarantee k (S .nodes) (enterAll (unit (m .settings)) b (events (rulesOf k) m cs))) (settings-after L m cs v) g)
+
+  -- a model with no job agrees with the blank book
+  pub from-blank : (m : Model) (cs : List Call) → Valid m → m .jobs ≡ [] → Guarantee k (m .settings .nodes) (bookFrom m (blank m) cs)
+  from-blank m cs v e = from-seed m (blank m) cs v (record {
+    clock-is = refl;
+    jobs-are = rw e;
+    deadlines = λ x i. in-nil i;
+    forecasts = λ x f i q. in-nil i;
+    heard-one = λ q x i h. in-nil i;
+    heads = λ x i w h. in-nil i;
+  })
