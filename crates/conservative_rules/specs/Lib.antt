@@ -1,1 +1,3 @@
 pub mod Conservative
+pub mod Valid
+pub mod Lawful

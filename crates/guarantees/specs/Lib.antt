@@ -1,3 +1,4 @@
 pub mod Rules
 pub mod Statement
+pub mod Proof
 pub mod Marked

@@ -1,0 +1,224 @@
+-- What every model of this kind is, that an opening or a call hands back; and what each call does.
+-- Assumes nothing.
+use Prim.Native.Nat.{ℕ, suc, _+_, _*_, _≤_}
+use native.Mathlib.Omega.{arith}
+use mathlib.Core.Path.{_≡_, refl, sym, subst}
+use mathlib.Core.Bool.{Bool, true, false, not, cond}
+use mathlib.Core.Option.{none}
+use mathlib.Core.List.{List, [], _∷_}
+use mathlib.Core.Logic.{_⊎_, inl, inr, ⊎-elim}
+use lib.Dec.{ltb, eqb}
+use borrow.Author.Tests.{ltb-false, eqb-false, not-false}
+use Rattle.lists.specs.Tests.{case, true-false}
+use Rattle.lists.specs.Lists.{keep, any, elem, In, in-nil, in-cons, in-append, keep-in}
+use Rattle.scheduler.specs.declared.Kind.{Kind}
+use Rattle.scheduler.specs.declared.Kind.the-variants.{Easy}
+use Rattle.scheduler.specs.declared.Job.{Job}
+use Rattle.scheduler.specs.declared.Opening.{Opening}
+use Rattle.scheduler.specs.declared.Refusal.{Refusal}
+use Rattle.scheduler.specs.declared.Refusal.the-variants as refusal
+use Rattle.scheduler.specs.declared.Select.{Select}
+use Rattle.scheduler.specs.declared.Select.the-variants as select
+use Rattle.scheduler.specs.Jobs.{isWaiting, picks}
+use Rattle.scheduler.specs.Settings.{horizon, holdTime, unit}
+use Rattle.scheduler.specs.Table.{ticketsOf}
+use Rattle.scheduler.specs.Model.{Model, empty, joined, without}
+use Rattle.scheduler.specs.Answers.{Result, accepts, refusing, refuse}
+use Rattle.scheduler.specs.Refusals.{judged, completeRefusal, tickRefusal}
+use Rattle.scheduler.specs.Opening.{openingRefusal, opening}
+use Rattle.jobs.specs.Sound.{Sound, SoundJob, opening-sound, Fit, passed, submit-fit, sound-join, Leaving, early, in-time, sound-leave}
+use Rattle.history.specs.Calls.{Call, submit, complete, tick, profile, refusedWait}
+use Rattle.history.specs.Book.{clockAfter}
+use Rattle.history.specs.Lawful.{comers}
+use Rattle.easy_rules.specs.Easy.{pick, choice, begin, forecast, finished, newJob, rank, submitRefusal, advanced, call}
+use Rattle.easy_rules.specs.Settling.{Chosen, chosen, each-begin, sound-begin, Settles, rest, start, settles, settles-rest, settles-clock}
+use Rattle.easy_rules.specs.Course.{OnCourse, course-clock, begin-keeps, Eases, eased, leave-eases, join-eases, join-course}
+
+-- ready to settle
+pub record Ready (m : Model) : Type 0 where
+  pub kind : m .settings .kind ≡ Easy
+  pub sound : Sound m
+  -- "on the Loose Desk the promise, and a waiting stack's start, are 0"
+  pub promises : (j : Job) → In j (m .jobs) → j .promise ≡ 0
+  pub starts : (j : Job) → In j (m .jobs) → isWaiting j ≡ true → j .start ≡ 0
+  -- however late a waiting job starts, its hold does not pass the last minute
+  pub room : (j : Job) → In j (m .jobs) → isWaiting j ≡ true → (b : ℕ) × OnCourse m (j .ticket) b × (b + holdTime (m .settings) (j .estimate) ≤ horizon (m .settings))
+
+pub record Valid (m : Model) : Type 0 where
+  pub ready : Ready m
+  -- no job can start
+  pub rests : choice m ≡ none
+
+-- ## Opening
+
+empty-ready : (k : Kind) (n c t : ℕ) → k ≡ Easy → Sound (empty k n c t) → Ready (empty k n c t)
+empty-ready k n c t e s = record { kind = e; sound = s; promises = λ j i. in-nil i; starts = λ j i. in-nil i; room = λ j i. in-nil i }
+
+pub opening-valid : (o : Opening) → o .kind ≡ Easy → Valid (opening o)
+unfolding opening pick
+opening-valid o e =
+    by (accepts (openingRefusal o)) (opening-sound o)
+  where
+    by : (b : Bool) → Sound (cond b (empty (o .kind) (o .nodes) (o .minute) (o .ticket)) (empty (o .kind) 1 0 1)) → Valid (cond b (empty (o .kind) (o .nodes) (o .minute) (o .ticket)) (empty (o .kind) 1 0 1))
+    by true s = record { ready = empty-ready (o .kind) (o .nodes) (o .minute) (o .ticket) e s; rests = refl }
+    by false s = record { ready = empty-ready (o .kind) 1 0 1 e s; rests = refl }
+
+-- ## Settling
+
+begin-ready : (m : Model) (j : Job) → Ready m → Chosen m j → Ready (begin (j .ticket) m)
+begin-ready m j r c = record {
+  kind = r .kind;
+  sound =
+      let w = r .room j (c .isin) (c .waits) in
+      sound-begin m j (r .sound) c (omega (arith, course-clock m (j .ticket) (w .0) (w .1), w .2));
+  promises = each-begin (λ (k : Job). k .promise ≡ 0) (j .ticket) m (λ k i n. r .promises k i) (λ k i e. r .promises k i);
+  starts = each-begin (λ (k : Job). isWaiting k ≡ true → k .start ≡ 0) (j .ticket) m (λ k i n. r .starts k i) (λ k i e w. true-false false w refl);
+  room =
+      each-begin (λ (k : Job). isWaiting k ≡ true → (b : ℕ) × OnCourse (begin (j .ticket) m) (k .ticket) b × (b + holdTime (m .settings) (k .estimate) ≤ horizon (m .settings))) (j .ticket) m
+      (λ k i n w. let x = r .room k i w in (x .0, begin-keeps m j (r .sound) c (k .ticket) (x .0) (λ e. n (sym e)) (x .1), x .2))
+      (λ k i e w. true-false false w refl);
+}
+
+pub settles-ready : {m m′ : Model} {ts : List ℕ} → Settles m m′ ts → Ready m → Ready m′
+settles-ready (rest e) r = r
+settles-ready (start {m = m} j e s) r = settles-ready s (begin-ready m j r (chosen m j e))
+
+-- a job on course is among those started, and the clock has not passed b; or it goes on waiting, on course still
+pub settles-keeps : (u b : ℕ) {m m′ : Model} {ts : List ℕ} → Settles m m′ ts → Ready m → OnCourse m u b → ((elem u ts ≡ true) × (m′ .clock ≤ b)) ⊎ ((elem u ts ≡ false) × OnCourse m′ u b)
+settles-keeps u b (rest e) r o = inr (refl, o)
+settles-keeps u b (start {m = m} j e s) r o =
+    case (eqb u (j .ticket))
+    (λ q. inl (rw q, omega (arith, settles-clock s, course-clock m u b o)))
+    (λ q. rw q (settles-keeps u b s (begin-ready m j r (chosen m j e)) (begin-keeps m j (r .sound) (chosen m j e) u b (λ z. eqb-false u (j .ticket) q (sym z)) o)))
+
+-- ## What a call does before it settles
+
+pub data Moved (m : Model) : Call → Model → ℕ → List ℕ → Type 0 where
+  submits : (n e : ℕ) → Fit m n e → m .clock + rank m * unit (m .settings) + holdTime (m .settings) e ≤ horizon (m .settings) → Moved m (submit n e) (joined m (newJob (m .next) n e)) (m .next) []
+  completes : (t : ℕ) → any (picks (select.RunningTicket t)) (m .jobs) ≡ true → Moved m (complete t) (without m (m .clock) (select.RunningTicket t)) 0 (ticketsOf (keep (picks (select.RunningTicket t)) (m .jobs)))
+  ticks : suc (m .clock) ≤ horizon (m .settings) → Moved m tick (without m (suc (m .clock)) (select.EndingAt (suc (m .clock)))) 0 (ticketsOf (keep (picks (select.EndingAt (suc (m .clock)))) (m .jobs)))
+
+module _ (m : Model) (v : Valid m) where
+  leave-ready : (c : ℕ) (p : Select) → Leaving m c p → Ready (without m c p)
+  leave-ready c p l = record {
+    kind = v .ready .kind;
+    sound = sound-leave m c p (v .ready .sound) l;
+    promises = λ j i. v .ready .promises j (old j i);
+    starts = λ j i. v .ready .starts j (old j i);
+    room = λ j i w. let x = v .ready .room j (old j i) w in
+        (x .0, eased m (without m c p) (j .ticket) (x .0) (v .ready .sound) (v .rests) (leave-eases m c p (v .ready .sound) l) (x .1), x .2);
+  }
+    where
+      old : (j : Job) → In j (without m c p .jobs) → In j (m .jobs)
+      old j i = keep-in (λ (j : Job). not (picks p j)) (m .jobs) i .0
+
+  join-ready : (n e : ℕ) → Fit m n e → m .clock + rank m * unit (m .settings) + holdTime (m .settings) e ≤ horizon (m .settings) → Ready (joined m (newJob (m .next) n e))
+  join-ready n e f room = record {
+    kind = v .ready .kind;
+    sound = sound-join m n e (newJob (m .next) n e) (v .ready .sound) f fresh refl (omega (arith, v .ready .sound .capacity));
+    promises = each (λ (k : Job). k .promise ≡ 0) (v .ready .promises) refl;
+    starts = each (λ (k : Job). isWaiting k ≡ true → k .start ≡ 0) (v .ready .starts) (λ w. refl);
+    room =
+        each (λ (k : Job). isWaiting k ≡ true → (b : ℕ) × OnCourse (joined m (newJob (m .next) n e)) (k .ticket) b × (b + holdTime (m .settings) (k .estimate) ≤ horizon (m .settings)))
+        (λ k i w. let x = v .ready .room k i w in
+        (x .0, eased m (joined m (newJob (m .next) n e)) (k .ticket) (x .0) (v .ready .sound) (v .rests) (join-eases m n e) (x .1), x .2))
+        (λ w. (m .clock + rank m * unit (m .settings), join-course m n e, room));
+  }
+    where
+      each : (P : Job → Type 0) → ((j : Job) → In j (m .jobs) → P j) → P (newJob (m .next) n e) → (k : Job) → In k (joined m (newJob (m .next) n e) .jobs) → P k
+      each P f p k i = by (in-append (m .jobs) i)
+        where
+          last : (k ≡ newJob (m .next) n e) ⊎ In k [] → P k
+          last (inl q) = subst P (sym q) p
+          last (inr u) = in-nil u
+
+          by : In k (m .jobs) ⊎ In k (newJob (m .next) n e ∷ []) → P k
+          by (inl o) = f k o
+          by (inr o) = last (in-cons o)
+
+      fresh : SoundJob (m .settings) (m .clock) (newJob (m .next) n e)
+      fresh = record {
+        is-live = refl;
+        nodes-from = f .nodes-from;
+        nodes-to = f .nodes-to;
+        estimate-from = f .estimate-from;
+        estimate-to = f .estimate-to;
+        ends = omega (arith, room);
+        runs = λ r. true-false false r refl;
+      }
+
+pub moved-ready : {m : Model} {c : Call} {mid : Model} {t : ℕ} {ts : List ℕ} → Moved m c mid t ts → Valid m → Ready mid
+moved-ready {m} (submits n e f room) v = join-ready m v n e f room
+moved-ready {m} (completes t a) v = leave-ready m v (m .clock) (select.RunningTicket t) (early t)
+moved-ready {m} (ticks l) v = leave-ready m v (suc (m .clock)) (select.EndingAt (suc (m .clock))) (in-time l)
+
+pub moved-eases : {m : Model} {c : Call} {mid : Model} {t : ℕ} {ts : List ℕ} → Moved m c mid t ts → Sound m → Eases m mid
+moved-eases {m} (submits n e f room) s = join-eases m n e
+moved-eases {m} (completes t a) s = leave-eases m (m .clock) (select.RunningTicket t) s (early t)
+moved-eases {m} (ticks l) s = leave-eases m (suc (m .clock)) (select.EndingAt (suc (m .clock))) s (in-time l)
+
+-- ## Each call is accepted or refused
+
+pub record Taken (m : Model) (c : Call) (o : Result) : Type 0 where
+  -- the model before it settles
+  pub mid : Model
+  pub moved : Moved m c mid (o .reply .ticket) (o .reply .ended)
+  pub trace : Settles mid (o .model) (o .reply .started)
+  pub accepted : o .reply .refusal ≡ refusal.None
+  pub promise : o .reply .promise ≡ 0
+  pub head : o .reply .head ≡ forecast m (o .model)
+
+-- nothing has changed: the call was refused, or asked for a profile
+pub record Quiet (m : Model) (c : Call) (o : Result) : Type 0 where
+  pub why : Refusal
+  pub same : o ≡ refuse m why
+  pub clock : clockAfter c (refusing why) (m .clock) ≡ m .clock
+  pub none-comes : comers c (refusing why) ≡ []
+
+finished-taken : (m : Model) (c : Call) (mid : Model) (t : ℕ) (ts : List ℕ) → Moved m c mid t ts → Ready mid → Taken m c (finished m mid t ts)
+unfolding finished
+finished-taken m c mid t ts x r = record { mid = mid; moved = x; trace = settles mid (r .sound); accepted = refl; promise = refl; head = refl }
+
+judge : (m : Model) (c : Call) (r : Refusal) (o : Result) → (accepts r ≡ true → Taken m c o) → Taken m c (judged m r o) ⊎ Quiet m c (judged m r o)
+judge m c r o f = case (accepts r) (λ e. rw e (inl (f e))) (λ e. rw e (inr (record { why = r; same = refl; clock = clock-is c e; none-comes = comers-are c e })))
+  where
+    clock-is : (c : Call) → accepts r ≡ false → clockAfter c (refusing r) (m .clock) ≡ m .clock
+    clock-is (submit n e) q = refl
+    clock-is (complete t) q = refl
+    clock-is tick q = rw q
+    clock-is (profile room) q = refl
+    clock-is (refusedWait w) q = refl
+
+    comers-are : (c : Call) → accepts r ≡ false → comers c (refusing r) ≡ []
+    comers-are (submit n e) q = rw q
+    comers-are (complete t) q = refl
+    comers-are tick q = refl
+    comers-are (profile room) q = refl
+    comers-are (refusedWait w) q = refl
+
+pub called : (m : Model) (c : Call) → Valid m → Taken m c (call m c) ⊎ Quiet m c (call m c)
+unfolding call advanced submitRefusal completeRefusal tickRefusal
+called m (submit n e) v =
+    judge m (submit n e) (submitRefusal m n e) (finished m (joined m (newJob (m .next) n e)) (m .next) [])
+    (λ a. let f = submit-fit m n e _ a in
+    let p = passed (ltb (horizon (m .settings)) (m .clock + rank m * unit (m .settings) + holdTime (m .settings) e)) refusal.PastHorizon [] refl (f .1) in
+    let x = submits n e (f .0) (ltb-false (horizon (m .settings)) (m .clock + rank m * unit (m .settings) + holdTime (m .settings) e) (p .0)) in
+    finished-taken m (submit n e) (joined m (newJob (m .next) n e)) (m .next) [] x (moved-ready x v))
+called m (complete t) v =
+    judge m (complete t) (completeRefusal m t) (advanced m (m .clock) (select.RunningTicket t))
+    (λ a. let p = passed (not (any (picks (select.RunningTicket t)) (m .jobs))) refusal.NotRunning [] refl a in
+    let x = completes t (not-false (any (picks (select.RunningTicket t)) (m .jobs)) (p .0)) in
+    finished-taken m (complete t) _ 0 _ x (moved-ready x v))
+called m tick v =
+    judge m tick (tickRefusal m) (advanced m (suc (m .clock)) (select.EndingAt (suc (m .clock))))
+    (λ a. let p = passed (ltb (horizon (m .settings)) (suc (m .clock))) refusal.PastHorizon [] refl a in
+    let x = ticks (ltb-false (horizon (m .settings)) (suc (m .clock)) (p .0)) in
+    finished-taken m tick _ 0 _ x (moved-ready x v))
+called m (profile room) v = inr (record { why = refusal.None; same = refl; clock = refl; none-comes = refl })
+called m (refusedWait r) v = inr (record { why = r; same = refl; clock = refl; none-comes = refl })
+
+pub call-valid : (m : Model) (c : Call) → Valid m → Valid (call m c .model)
+call-valid m c v =
+    ⊎-elim (λ (t : Taken m c (call m c)). record { ready = settles-ready (t .trace) (moved-ready (t .moved) v); rests = settles-rest (t .trace) })
+    (λ (q : Quiet m c (call m c)). subst (λ (o : Result). Valid (o .model)) (sym (q .same)) v)
+    (called m c v)

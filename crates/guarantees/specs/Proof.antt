@@ -1,0 +1,39 @@
+-- The guarantees hold, of both kinds: the theorem.
+-- Assumes nothing.
+use mathlib.Core.Path.{_≡_, refl, sym, ap, subst}
+use mathlib.Core.Bool.{Bool, true, false, cond}
+use mathlib.Core.List.{List, []}
+use lib.ListN.{take}
+use Rattle.scheduler.specs.declared.Kind.{Kind}
+use Rattle.scheduler.specs.declared.Kind.the-variants.{Conservative, Easy}
+use Rattle.scheduler.specs.declared.Opening.{Opening}
+use Rattle.scheduler.specs.Model.{Model, empty}
+use Rattle.scheduler.specs.Answers.{accepts}
+use Rattle.scheduler.specs.Opening.{openingRefusal, opening}
+use Rattle.history.specs.Calls.{Call, allCalls}
+use Rattle.history.specs.Guarantee.{Guarantee}
+use Rattle.conservative_rules.specs.Valid as conservative
+use Rattle.conservative_rules.specs.Lawful.{conservative-lawful}
+use Rattle.easy_rules.specs.Valid as easy
+use Rattle.easy_rules.specs.Lawful.{easy-lawful}
+use Rattle.guarantees.specs.Rules.{call}
+use Rattle.guarantees.specs.Statement.{blank, bookFrom, Demand3, Demand3WithWaits, from-blank}
+
+-- an opening takes in no job
+opening-empty : (o : Opening) → opening o .jobs ≡ []
+unfolding opening
+opening-empty o = by (accepts (openingRefusal o))
+  where
+    by : (b : Bool) → cond b (empty (o .kind) (o .nodes) (o .minute) (o .ticket)) (empty (o .kind) 1 0 1) .jobs ≡ []
+    by true = refl
+    by false = refl
+
+pub demand3 : Demand3
+demand3 o cs = by (o .kind) refl
+  where
+    by : (k : Kind) → o .kind ≡ k → Guarantee k (opening o .settings .nodes) (bookFrom (opening o) (blank (opening o)) cs)
+    by Conservative e = from-blank conservative-lawful (opening o) cs (conservative.opening-valid o e) (opening-empty o)
+    by Easy e = from-blank easy-lawful (opening o) cs (easy.opening-valid o e) (opening-empty o)
+
+pub demand3-with-waits : Demand3WithWaits
+demand3-with-waits o qs i = demand3 o (take i (allCalls call (opening o) qs))
