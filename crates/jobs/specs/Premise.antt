@@ -3,6 +3,8 @@
 use mathlib.Core.Path.{_≡_, sym, ap, subst, _∙_}
 use Rattle.lists.specs.Lists.{All}
 use Rattle.scheduler.specs.declared.Scheduler.{Scheduler}
+use Rattle.scheduler.specs.declared.Refusal.{Refusal}
+use Rattle.scheduler.specs.Answers.{outcome, refuse, refusedAnswer, refusedOutcome}
 use Rattle.scheduler.specs.Model.{Model, store, view, Live, view-store}
 
 -- d holds a model of which P holds
@@ -19,3 +21,7 @@ store-holds P m live p =
 -- a stronger fact holds a weaker one
 pub holds-as : (P Q : Model → Type 0) (d : Scheduler) → ((m : Model) → P m → Q m) → Holds P d → Holds Q d
 holds-as P Q d f h = record { stored = h .stored; holds = f (view d) (h .holds) }
+
+-- a refused call leaves the scheduler as it was
+pub refused-held : (P : Model → Type 0) (d : Scheduler) (r : Refusal) → Holds P d → refusedOutcome d r ≡ outcome (refuse (view d) r)
+refused-held P d r h = λ i. record { answer = refusedAnswer r; scheduler = h .stored i }

@@ -1,0 +1,118 @@
+// Conservative backfilling (document 01: "Promise Desk"), by value: submission, early completion, tick and profile.
+ghost use mathlib.Core.Path.{_≡_};
+ghost use Rattle.scheduler.specs.Model.{view};
+ghost use Rattle.scheduler.specs.Answers.{outcome};
+ghost use Rattle.jobs.specs.Premise.{Holds};
+ghost use Rattle.history.specs.Calls as calls;
+ghost use Rattle.conservative_rules.specs.Conservative.{call, placed};
+ghost use Rattle.conservative_rules.specs.Valid.{Valid};
+ghost use Rattle.conservative.specs.Turn.{startsAt, turn};
+use scheduler::Answer;
+use scheduler::Job;
+use scheduler::Outcome;
+use scheduler::Refusal;
+use scheduler::Scheduler;
+use scheduler::Select;
+use scheduler::State;
+use scheduler::Tickets;
+
+// A scheduler whose waiting jobs have been placed anew, and those that started by it.
+pub struct Moved {
+    pub started: Tickets,
+    pub scheduler: Scheduler,
+}
+
+// Whether it waits and its planned start is this minute.
+fn starts_at(job: Job, now: u32) -> bool
+    ensures { λ r. ⌜ r ≡ startsAt now job ⌝ }
+{
+    let s = job.state;
+    match s {
+        State::Unused => false,
+        State::Waiting => job.start == now,
+        State::Running => false,
+    }
+}
+
+// The job with the planned start s; it runs if that is now.
+fn place(job: Job, now: u32, s: u32) -> Job
+    ensures { λ r. ⌜ r ≡ placed now s job ⌝ }
+{
+    if s == now {
+        return Job {
+            ticket: job.ticket,
+            nodes: job.nodes,
+            estimate: job.estimate,
+            state: State::Running,
+            start: s,
+            promise: job.promise,
+        };
+    }
+    Job {
+        ticket: job.ticket,
+        nodes: job.nodes,
+        estimate: job.estimate,
+        state: State::Waiting,
+        start: s,
+        promise: job.promise,
+    }
+}
+
+// The waiting jobs whose planned start is now start.
+fn start_due(d: Scheduler, now: u32) -> Moved
+    ensures { λ r. ⌜ r ≡ turn now d ⌝ }
+{
+    let mut e = d;
+    let mut list = [0u32; 64];
+    let mut n: usize = 0;
+    let mut i: usize = 0;
+    while i < Scheduler::LIVE {
+        let j = d.jobs[i];
+        if starts_at(j, now) {
+            e.jobs[i] = place(j, now, now);
+            list[n] = j.ticket;
+            n += 1;
+        }
+        i += 1;
+    }
+    let started = Tickets {
+        count: n,
+        list: list,
+    };
+    Moved {
+        started: started,
+        scheduler: e,
+    }
+}
+
+pub fn tick(d: Scheduler) -> Outcome
+    requires { ⌜ Holds Valid d ⌝ }
+    ensures { λ r. ⌜ r ≡ outcome (call (view d) calls.tick) ⌝ }
+{
+    let clock = d.clock;
+    if Scheduler::HORIZON <= clock {
+        return d.refused(Refusal::PastHorizon);
+    }
+    let now = clock + 1;
+    let mut later = d;
+    later.clock = now;
+    let left = later.remove(Select::EndingAt(now));
+    let rest = left.scheduler;
+    let moved = start_due(rest, now);
+    let ended = left.tickets;
+    let started = moved.started;
+    let scheduler = moved.scheduler;
+    let answer = Answer {
+        refusal: Refusal::None,
+        ticket: 0,
+        promise: 0,
+        ended: ended,
+        started: started,
+        head: 0,
+        forecast: 0,
+    };
+    Outcome {
+        answer: answer,
+        scheduler: scheduler,
+    }
+}
