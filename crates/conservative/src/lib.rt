@@ -4,9 +4,13 @@ ghost use Rattle.scheduler.specs.Model.{view};
 ghost use Rattle.scheduler.specs.Answers.{outcome};
 ghost use Rattle.jobs.specs.Premise.{Holds};
 ghost use Rattle.history.specs.Calls as calls;
-ghost use Rattle.conservative_rules.specs.Conservative.{call, placed};
+ghost use Rattle.conservative_rules.specs.Conservative.{call, placed, points};
 ghost use Rattle.conservative_rules.specs.Valid.{Valid};
+ghost use Prim.Native.Nat.{_≤_};
+ghost use Rattle.profile.specs.Stored.{stored};
+ghost use Rattle.conservative.specs.Slots.{spanOf, Planned};
 ghost use Rattle.conservative.specs.Turn.{startsAt, turn};
+use profile::Profile;
 use scheduler::Answer;
 use scheduler::Job;
 use scheduler::Outcome;
@@ -14,12 +18,43 @@ use scheduler::Refusal;
 use scheduler::Scheduler;
 use scheduler::Select;
 use scheduler::State;
+use scheduler::Submission;
 use scheduler::Tickets;
 
 // A scheduler whose waiting jobs have been placed anew, and those that started by it.
 pub struct Moved {
     pub started: Tickets,
     pub scheduler: Scheduler,
+}
+
+// The nodes that a job takes, from its start until they are free again.
+fn span_of(job: Job) -> plan::Span
+    requires { ⌜ job .start ≤ 1000000 ⌝ }
+    ensures { λ r. ⌜ r ≡ spanOf job ⌝ }
+{
+    plan::Span {
+        from: job.start,
+        until: job.start + walltime::wall_time(job.estimate),
+        nodes: job.nodes,
+    }
+}
+
+// The free nodes from now on: each live job's span is laid over the idle machine's profile.
+fn profile_of(d: Scheduler) -> Profile
+    requires { ⌜ Holds Planned d ⌝ }
+    ensures { λ r. ⌜ r ≡ stored (points (view d)) ⌝ }
+{
+    let mut p = Profile::idle(d.nodes, d.clock);
+    let mut i: usize = 0;
+    while i < Scheduler::LIVE {
+        let j = d.jobs[i];
+        if j.is_live() {
+            let x = span_of(j);
+            p = p.overlay(x, false);
+        }
+        i += 1;
+    }
+    p
 }
 
 // Whether it waits and its planned start is this minute.

@@ -1,0 +1,4 @@
+pub mod Stored
+pub mod Seek
+pub mod Laid
+pub mod Pass
