@@ -1,3 +1,4 @@
 pub mod Slots
+pub mod Submit
 pub mod Turn
 pub mod Tick

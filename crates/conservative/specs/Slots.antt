@@ -82,7 +82,7 @@ start-low {S} {js = js} s i h = omega (arith, all-at (λ (k : Job). until S k �
 
 -- ## The profile of the slots
 
-all-spans : (S : Settings) (js : List Job) → All (λ (j : Job). until S j ≤ horizon S) js → All (λ (x : Span). x .until ≤ horizon S) (spans S js)
+pub all-spans : (S : Settings) (js : List Job) → All (λ (j : Job). until S j ≤ horizon S) js → All (λ (x : Span). x .until ≤ horizon S) (spans S js)
 all-spans S [] a = tt
 all-spans S (j ∷ js) a = (a .0, all-spans S js (a .1))
 

@@ -6,9 +6,11 @@ ghost use Rattle.jobs.specs.Premise.{Holds};
 ghost use Rattle.history.specs.Calls as calls;
 ghost use Rattle.conservative_rules.specs.Conservative.{call, placed, points};
 ghost use Rattle.conservative_rules.specs.Valid.{Valid};
-ghost use Prim.Native.Nat.{_≤_};
+ghost use Prim.Native.Nat.{_≤_, _<_};
+ghost use Rattle.scheduler.specs.Table.{counted};
 ghost use Rattle.profile.specs.Stored.{stored};
 ghost use Rattle.conservative.specs.Slots.{spanOf, Planned};
+ghost use Rattle.conservative.specs.Submit.{accepted};
 ghost use Rattle.conservative.specs.Turn.{startsAt, turn};
 use profile::Profile;
 use scheduler::Answer;
@@ -91,6 +93,58 @@ fn place(job: Job, now: u32, s: u32) -> Job
         start: s,
         promise: job.promise,
     }
+}
+
+// The outcome of a submission that is taken in with the planned start: that start is its promise.
+fn accept(d: Scheduler, s: Submission, start: u32) -> Outcome
+    requires { ⌜ (counted Select.Live (d .jobs) < 64) × (d .next ≤ 999999) ⌝ }
+    ensures { λ r. ⌜ r ≡ accepted d (s .nodes) (s .estimate) start ⌝ }
+{
+    let now = d.clock;
+    let ticket = d.next;
+    let order = Job {
+        ticket: ticket,
+        nodes: s.nodes,
+        estimate: s.estimate,
+        state: State::Waiting,
+        start: start,
+        promise: start,
+    };
+    let job = place(order, now, start);
+    let mut later = d;
+    later.next = ticket + 1;
+    let scheduler = later.append(job);
+    let none = Tickets::none();
+    let started = Tickets::one_if(start == now, ticket);
+    let answer = Answer {
+        refusal: Refusal::None,
+        ticket: ticket,
+        promise: start,
+        ended: none,
+        started: started,
+        head: 0,
+        forecast: 0,
+    };
+    Outcome {
+        answer: answer,
+        scheduler: scheduler,
+    }
+}
+
+pub fn submit(d: Scheduler, s: Submission) -> Outcome
+    requires { ⌜ Holds Valid d ⌝ }
+    ensures { λ r. ⌜ r ≡ outcome (call (view d) (calls.submit (s .nodes) (s .estimate))) ⌝ }
+{
+    let refusal = d.check(s);
+    if refusal.is_none() {
+        let hold = walltime::wall_time(s.estimate);
+        let start = profile_of(d).earliest(s.nodes, hold);
+        if Scheduler::HORIZON < start + hold {
+            return d.refused(Refusal::PastHorizon);
+        }
+        return accept(d, s, start);
+    }
+    d.refused(refusal)
 }
 
 // The waiting jobs whose planned start is now start.

@@ -114,14 +114,14 @@ module _ (c : ℕ) (r : Reply) where
 not-new : (s c t n : ℕ) → t < n → elem t (cond (eqb s c) (n ∷ []) []) ≡ false
 not-new s c t n l = case (eqb s c) (λ q. rw (q, ne-eqb t n (λ e. omega arith))) (λ q. rw q)
 
--- a job that waits does not leave
-waits-stays : (m : Model) (c : ℕ) (s : Select) → Leaving m c s → (j : Job) → isWaiting j ≡ true → picks s j ≡ false
-waits-stays m c s l j w = case (picks s j) (λ p. absurd (never (j .state) w (leaving-runs m c s l j p))) (λ p. p)
-  where
-    never : (x : State) → waiting? x ≡ true → running? x ≡ true → ⊥
-    never Unused p q = true-false false p refl
-    never Waiting p q = true-false false q refl
-    never Running p q = true-false false p refl
+-- a job that runs does not wait, so one that waits does not leave
+pub runs-waits : (s : State) → running? s ≡ true → waiting? s ≡ false
+runs-waits Unused r = refl
+runs-waits Waiting r = true-false false r refl
+runs-waits Running r = refl
+
+pub waits-stays : (m : Model) (c : ℕ) (s : Select) → Leaving m c s → (j : Job) → isWaiting j ≡ true → picks s j ≡ false
+waits-stays m c s l j w = case (picks s j) (λ p. true-false (isWaiting j) w (runs-waits (j .state) (leaving-runs m c s l j p))) (λ p. p)
 
 -- those that stay, beside the jobs after
 module _ (m : Model) (c : ℕ) (s : Select) (ks : List Job) (v : Valid m) (g : Moved (m .settings) c (staying s (m .jobs)) ks) where

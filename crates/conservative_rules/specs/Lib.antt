@@ -1,3 +1,6 @@
 pub mod Conservative
+pub mod Computed
 pub mod Valid
 pub mod Lawful
+pub mod Loops
+pub mod Faithful

@@ -11,7 +11,7 @@ use lib.Dec.{ltb, eqb}
 use lib.ListN.{length}
 use borrow.Author.Tests.{ltb-false, eqb-true, eqb-false}
 use Rattle.lists.specs.Tests.{case, true-false, le-or}
-use Rattle.lists.specs.Lists.{sum, In, here, there, in-nil, in-cons, in-append, keep-in, sum-append, sum-keep, sum-le}
+use Rattle.lists.specs.Lists.{sum, In, here, there, in-nil, in-cons, in-append, keep-in, sum-append, sum-map, sum-keep, sum-le}
 use Rattle.walltime.specs.Laws.{wallTime-pos}
 use Rattle.plan.specs.declared.Span.{Span}
 use Rattle.plan.specs.Spans.{takes, used, free, earliest, Fits, Earliest}
@@ -104,8 +104,7 @@ module _ (S : Settings) (t : ℕ) where
   taken j = takes t (span S j)
 
   pub used-jobs : (js : List Job) → used t (spans S js) ≡ sum taken js
-  used-jobs [] = refl
-  used-jobs (j ∷ js) = omega (arith, used-jobs js)
+  used-jobs js = sum-map (takes t) (span S) js
 
   pub used-append : (xs ys : List Job) → used t (spans S (xs ++ ys)) ≡ used t (spans S xs) + used t (spans S ys)
   used-append xs ys = rw (map-append (span S) xs ys) (sum-append (takes t) (spans S xs) (spans S ys))
@@ -260,7 +259,8 @@ module _ (S : Settings) (now : ℕ) where
 
 -- ### Every call comes out in one of these ways
 
-judged-by : (P : Result → Type 0) (m : Model) (r : Refusal) (o : Result) → (accepts r ≡ true → P o) → (accepts r ≡ false → P (refuse m r)) → P (judged m r o)
+-- what holds of an outcome where no test refuses it, and of the refusal where one does, holds of the call
+pub judged-by : (P : Result → Type 0) (m : Model) (r : Refusal) (o : Result) → (accepts r ≡ true → P o) → (accepts r ≡ false → P (refuse m r)) → P (judged m r o)
 judged-by P m r o f g = case (accepts r) (λ e. rw e (f e)) (λ e. rw e (g e))
 
 pub outcome : (m : Model) (c : Call) → Valid m → Outcome m c (call m c)

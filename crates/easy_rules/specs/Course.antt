@@ -6,7 +6,7 @@ use native.Mathlib.Omega.{arith}
 use native.Mathlib.Nat.{mul-le-mul-right}
 use mathlib.Core.Path.{_≡_, refl, sym, ap, subst, _∙_}
 use mathlib.Core.Bool.{true, false, not, _&&_, _||_}
-use mathlib.Core.Option.{none, some}
+use mathlib.Core.Option.{none}
 use mathlib.Core.List.{List, [], _∷_, _++_, append-nil}
 use mathlib.Core.Logic.{⊎-elim}
 use lib.Dec.{leb, ltb, eqb}
@@ -22,8 +22,8 @@ use Rattle.scheduler.specs.Table.{ticketOf, staying}
 use Rattle.scheduler.specs.Model.{Model, joined, without}
 use Rattle.jobs.specs.Order.{Asc, asc-in, asc-keep}
 use Rattle.jobs.specs.Sound.{Sound, Leaving, leaving-runs, leaving-clock}
-use Rattle.easy_rules.specs.Easy.{queue, free, freed, avail, shadow, extra, qualifies, pick, choice, mark, begin, newJob}
-use Rattle.easy_rules.specs.Settling.{shadow-from, shadow-to, shadow-min, shadow-holds, avail-now, How, as-head, passing, Chosen, chosen, each-begin, Settles, rest, start, idle, mark-same, sum-mark, queue-mark}
+use Rattle.easy_rules.specs.Easy.{queue, free, freed, avail, shadow, extra, qualifies, pick, choice, mark, begin, newJob, rank}
+use Rattle.easy_rules.specs.Settling.{shadow-from, shadow-to, shadow-min, shadow-holds, avail-now, none-starts, How, as-head, passing, Chosen, chosen, each-begin, Settles, rest, start, idle, mark-same, sum-mark, queue-mark}
 
 -- the job with ticket u waits
 pub record Waits (m : Model) (u : ℕ) : Type 0 where
@@ -111,13 +111,7 @@ module _ (m : Model) (h : Job) (later : List Job) (e : queue (m .jobs) ≡ h ∷
 
   -- At rest the head's nodes are not free, and the clock stands before the shadow.
   pub head-lacks : choice m ≡ none → free m < h .nodes
-  unfolding pick
-  head-lacks r =
-      case (leb (h .nodes) (free m))
-      (λ l. absurd (let s : pick m (h ∷ later) ≡ some h = rw l in
-      let t : pick m (h ∷ later) ≡ none = ap (pick m) (sym e) ∙ r in
-      let z : _≡_ {A = ℕ} 0 1 = cc in omega arith))
-      (λ l. leb-false (h .nodes) (free m) l)
+  head-lacks r = none-starts m h later (ap (pick m) (sym e) ∙ r) .0
 
   pub rest-shadow : Sound m → choice m ≡ none → m .clock < shadow m (h .nodes)
   rest-shadow s r =
@@ -172,7 +166,8 @@ module _ (m : Model) (j : Job) (s : Sound m) (c : Chosen m j) where
         }
 
     -- the head starts: the next one's shadow is at most a unit from now, and one job fewer waits before u
-    by-head : (later : List Job) → queue (m .jobs) ≡ j ∷ later → (k : Job) → shadow (begin (j .ticket) m) (k .nodes) + ahead u (begin (j .ticket) m .jobs) * unit (m .settings) ≤ b
+    by-head : (later : List Job) → queue (m .jobs) ≡ j ∷ later → (k : Job)
+        → shadow (begin (j .ticket) m) (k .nodes) + ahead u (begin (j .ticket) m .jobs) * unit (m .settings) ≤ b
     by-head later e k =
         let l = head-before m j later e u (s .asc) (o .waits) n in
         let a = sum-mark (before u) (m .clock) 1 (m .jobs) (s .asc) (c .isin) in
@@ -194,7 +189,8 @@ module _ (m : Model) (j : Job) (s : Sound m) (c : Chosen m j) where
     pub begin-keeps : OnCourse (begin (j .ticket) m) u b
     begin-keeps = record { waits = waits-begin; by = go (queue (m .jobs)) refl (c .way) }
       where
-        go : (q : List Job) → queue (m .jobs) ≡ q → How m j q → (k : Job) (r : List Job) → queue (begin (j .ticket) m .jobs) ≡ k ∷ r → shadow (begin (j .ticket) m) (k .nodes) + ahead u (begin (j .ticket) m .jobs) * unit (m .settings) ≤ b
+        go : (q : List Job) → queue (m .jobs) ≡ q → How m j q → (k : Job) (r : List Job) → queue (begin (j .ticket) m .jobs) ≡ k ∷ r
+            → shadow (begin (j .ticket) m) (k .nodes) + ahead u (begin (j .ticket) m .jobs) * unit (m .settings) ≤ b
         go q e (as-head later l) k r e′ = by-head later e k
         go q e (passing h later l f) k r e′ = let i = first-in (qualifies m h) later f in by-passing h later e (i .0) (i .1) k r e′
 
@@ -276,7 +272,7 @@ module _ (m : Model) (n e : ℕ) where
   }
 
   -- and is on course for its bound: "the clock at intake + r × 10,080"
-  pub join-course : OnCourse (joined m (newJob (m .next) n e)) (m .next) (m .clock + suc (length (queue (m .jobs))) * unit (m .settings))
+  pub join-course : OnCourse (joined m (newJob (m .next) n e)) (m .next) (m .clock + rank m * unit (m .settings))
   join-course = record {
     waits = record { job = newJob (m .next) n e; isin = in-right (m .jobs) (here refl); waits = refl; named = refl };
     by = λ h q x.

@@ -35,7 +35,8 @@ use Rattle.easy_rules.specs.Valid.{Valid, Moved, submits, completes, tic
 
 -- ## The clock and the settings
 
-moved-clock : {m : Model} {c : Call} {mid : Model} {t : ℕ} {ts : List ℕ} → Moved m c mid t ts → (r : Reply) → r .refusal ≡ refusal.None → mid .clock ≡ clockAfter c r (m .clock)
+moved-clock : {m : Model} {c : Call} {mid : Model} {t : ℕ} {ts : List ℕ} → Moved m c mid t ts → (r : Reply) → r .refusal ≡ refusal.None
+    → mid .clock ≡ clockAfter c r (m .clock)
 moved-clock (submits n e f room) r q = refl
 moved-clock (completes t a) r q = refl
 moved-clock (ticks l) r q = rw q
@@ -54,24 +55,28 @@ module _ (now : ℕ) (r : Reply) where
   fate-stays Waiting b t e q = rw e
   fate-stays Running b t e q = rw q
 
-  shown-marks : (j : Job) → (elem (j .ticket) (r .started) ≡ true → isWaiting j ≡ true) → elem (j .ticket) (r .ended) ≡ false → shown (marks now (r .started) j) ≡ remark now r (shown j)
+  shown-marks : (j : Job) → (elem (j .ticket) (r .started) ≡ true → isWaiting j ≡ true) → elem (j .ticket) (r .ended) ≡ false
+      → shown (marks now (r .started) j) ≡ remark now r (shown j)
   shown-marks j w n =
       case (elem (j .ticket) (r .started))
       (λ e. rw (e, fate-waits (j .state) (j .start) (w e), e))
       (λ e. rw (e, fate-stays (j .state) (j .start) (j .ticket) e n))
 
-  shown-after : (js : List Job) → ((j : Job) → In j js → elem (j .ticket) (r .started) ≡ true → isWaiting j ≡ true) → ((j : Job) → In j js → elem (j .ticket) (r .ended) ≡ false)
+  shown-after : (js : List Job) → ((j : Job) → In j js → elem (j .ticket) (r .started) ≡ true → isWaiting j ≡ true)
+      → ((j : Job) → In j js → elem (j .ticket) (r .ended) ≡ false)
       → map shown (map (marks now (r .started)) js) ≡ map (remark now r) (map shown js)
   shown-after [] w n = refl
   shown-after (j ∷ js) w n = rw (shown-marks j (w j (here refl)) (n j (here refl)), shown-after js (λ k i. w k (there i)) (λ k i. n k (there i)))
 
   -- what the call did before it settled
-  leave-tells : (m : Model) (c : ℕ) (p : Select) (call : Call) (after : List Job) → Sound m → Leaving m c p → comers call r ≡ [] → r .ended ≡ ticketsOf (keep (picks p) (m .jobs))
+  leave-tells : (m : Model) (c : ℕ) (p : Select) (call : Call) (after : List Job) → Sound m → Leaving m c p → comers call r ≡ []
+      → r .ended ≡ ticketsOf (keep (picks p) (m .jobs))
       → map shown after ≡ map (remark now r) (map shown (staying p (m .jobs))) → map shown after ≡ shownAfter now r (map shown (m .jobs) ++ comers call r)
   leave-tells m c p call after s l n e h =
       tells-by now r call (picks p) (m .jobs) after (s .asc) e (leaving-runs m c p l) (rw n (h ∙ sym (append-nil (map (remark now r) (map shown (staying p (m .jobs)))))))
 
-  moved-tells : {m : Model} {c : Call} {mid : Model} {t : ℕ} {ts : List ℕ} → Moved m c mid t ts → Sound m → r .ticket ≡ t → r .ended ≡ ts → r .refusal ≡ refusal.None → r .promise ≡ 0
+  moved-tells : {m : Model} {c : Call} {mid : Model} {t : ℕ} {ts : List ℕ} → Moved m c mid t ts → Sound m → r .ticket ≡ t → r .ended ≡ ts
+      → r .refusal ≡ refusal.None → r .promise ≡ 0
       → (after : List Job) → map shown after ≡ map (remark now r) (map shown (mid .jobs)) → map shown after ≡ shownAfter now r (map shown (m .jobs) ++ comers c r)
   moved-tells {m} (submits n e f room) s q d a p after h =
       tells-by now r (submit n e) (λ (j : Job). false) (m .jobs) after (s .asc)
@@ -173,7 +178,8 @@ forecast-says b m f e = by (queue (m .jobs)) refl
     by [] x = absurd (let y : none ≡ some f = rw x at e in let z : _≡_ {A = ℕ} 0 1 = cc in omega arith)
     by (k ∷ later) x = told (rw x at e)
       where
-        told : cond (headIs (head b) k) none (some (record { ticket = k .ticket; minute = shadow m (k .nodes) })) ≡ some f → (h : Head m) × (f .ticket ≡ h .job .ticket) × (f .minute ≡ shadow m (h .job .nodes))
+        told : cond (headIs (head b) k) none (some (record { ticket = k .ticket; minute = shadow m (k .nodes) })) ≡ some f
+            → (h : Head m) × (f .ticket ≡ h .job .ticket) × (f .minute ≡ shadow m (h .job .nodes))
         told y =
             case (headIs (head b) k)
             (λ p. absurd (let w : none ≡ some f = rw p at y in let z : _≡_ {A = ℕ} 0 1 = cc in omega arith))
@@ -182,7 +188,8 @@ forecast-says b m f e = by (queue (m .jobs)) refl
             (record { job = k; later = later; first = x }, ap (λ (g : Forecast). g .ticket) (sym z), ap (λ (g : Forecast). g .minute) (sym z)))
 
 -- a head of another ticket than before hears one
-forecast-told : (b m : Model) (h : Head m) → Asc 1 (b .jobs) → (lowestWaiting b ≡ some (h .job .ticket) → ⊥) → forecast b m ≡ some (record { ticket = h .job .ticket; minute = shadow m (h .job .nodes) })
+forecast-told : (b m : Model) (h : Head m) → Asc 1 (b .jobs) → (lowestWaiting b ≡ some (h .job .ticket) → ⊥)
+    → forecast b m ≡ some (record { ticket = h .job .ticket; minute = shadow m (h .job .nodes) })
 unfolding forecast
 forecast-told b m h a n = rw (h .first, other (queue (b .jobs)) refl)
   where
@@ -207,7 +214,8 @@ module _ (m : Model) (c : Call) (o : Result) (v : Valid m) where
       on : (h : Head (o .model)) → f .ticket ≡ h .job .ticket → f .minute ≡ shadow (o .model) (h .job .nodes) → OnCourse (o .model) (f .ticket) (f .minute)
       on h p q = rw (p, q) (head-course (o .model) (h .job) (h .later) (h .first) (w .ready .sound))
 
-  head-hears : (h : ℕ) → Taken m c o → Valid (o .model) → lowestWaiting (o .model) ≡ some h → (lowestWaiting m ≡ some h → ⊥) → (f : Forecast) × (o .reply .head ≡ some f) × (f .ticket ≡ h)
+  head-hears : (h : ℕ) → Taken m c o → Valid (o .model) → lowestWaiting (o .model) ≡ some h → (lowestWaiting m ≡ some h → ⊥)
+      → (f : Forecast) × (o .reply .head ≡ some f) × (f .ticket ≡ h)
   head-hears h t w e n =
       let x = lowest-head (o .model) h (w .ready .sound .asc) e in (
         record { ticket = x .0 .job .ticket; minute = shadow (o .model) (x .0 .job .nodes) },

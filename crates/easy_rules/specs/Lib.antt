@@ -1,5 +1,8 @@
 pub mod Easy
+pub mod First
 pub mod Settling
 pub mod Course
 pub mod Valid
 pub mod Lawful
+pub mod Code
+pub mod Faithful

@@ -3,7 +3,7 @@
 use Prim.Native.Nat.{ℕ, zero, suc, _+_, _≤_, _<_}
 use native.Mathlib.Omega.{arith}
 use mathlib.Core.Path.{_≡_, refl, sym, ap, subst, _∙_}
-use mathlib.Core.Bool.{true, false, not, _||_, cond}
+use mathlib.Core.Bool.{true, false, not, cond}
 use mathlib.Core.Option.{Option, none, some}
 use mathlib.Core.List.{List, [], _∷_, map}
 use lib.Dec.{leb, eqb}
@@ -22,7 +22,8 @@ use Rattle.scheduler.specs.Table.{ticketOf, ticketsOf}
 use Rattle.scheduler.specs.Model.{Model}
 use Rattle.jobs.specs.Order.{Asc, asc-in, asc-same, asc-one}
 use Rattle.jobs.specs.Sound.{Sound, SoundJob}
-use Rattle.easy_rules.specs.Easy.{queue, free, freed, avail, shadow, extra, qualifies, pick, choice, begun, mark, begin, settle, settled}
+use Rattle.easy_rules.specs.First.{first-none}
+use Rattle.easy_rules.specs.Easy.{queue, free, overBy, freed, avail, shadow, qualifies, pick, choice, begun, mark, begin, settle, settled}
 
 -- ## The shadow is the smallest minute, now or later, at which the nodes suffice
 
@@ -46,8 +47,15 @@ hold-short S e l = wallTime-mono e (longest S) l
 pub hold-positive : (S : Settings) (e : ℕ) → 1 ≤ e → 1 ≤ holdTime S e
 hold-positive S e l = wallTime-pos e l
 
+-- a running job has ended by its end, and not before
+pub ended-by : (S : Settings) (t : ℕ) (j : Job) → isRunning j ≡ true → until S j ≤ t → overBy S t j ≡ true
+ended-by S t j r l = rw r (le-leb _ t (omega arith))
+
+pub not-ended : (S : Settings) (t : ℕ) (j : Job) → (isRunning j ≡ true → t < until S j) → overBy S t j ≡ false
+not-ended S t j l = case (isRunning j) (λ r. rw r (lt-leb _ t (omega (arith, l r)))) (λ r. rw r)
+
 -- a unit from now all nodes are free
-avail-all : (m : Model) → Sound m → avail m (m .clock + unit (m .settings)) ≡ m .settings .nodes
+pub avail-all : (m : Model) → Sound m → avail m (m .clock + unit (m .settings)) ≡ m .settings .nodes
 avail-all m s =
     let e = sum-cong (freed (m .settings) (m .clock + unit (m .settings))) held (m .jobs) (λ j i. ended j (s .each j i)) in
     omega (arith, s .capacity)
@@ -55,7 +63,7 @@ avail-all m s =
     ended : (j : Job) → SoundJob (m .settings) (m .clock) j → freed (m .settings) (m .clock + unit (m .settings)) j ≡ held j
     ended j f =
         case (isRunning j)
-        (λ r. rw (r, le-leb (until (m .settings) j) (m .clock + unit (m .settings)) (omega (arith, f .runs r, hold-short (m .settings) (j .estimate) (f .estimate-to)))))
+        (λ r. rw (ended-by (m .settings) (m .clock + unit (m .settings)) j r (omega (arith, f .runs r, hold-short (m .settings) (j .estimate) (f .estimate-to))), r))
         (λ r. rw r)
 
 pub shadow-holds : (m : Model) (n : ℕ) → Sound m → n ≤ m .settings .nodes → n ≤ avail m (shadow m n)
@@ -69,9 +77,17 @@ pub avail-now : (m : Model) (t : ℕ) → Sound m → t ≤ m .clock → avail m
 avail-now m t s l = omega (arith, sum-zero (freed (m .settings) t) (m .jobs) (λ j i. later j (s .each j i)))
   where
     later : (j : Job) → SoundJob (m .settings) (m .clock) j → freed (m .settings) t j ≡ 0
-    later j f = case (isRunning j) (λ r. rw (r, lt-leb (until (m .settings) j) t (omega (arith, f .runs r)))) (λ r. rw r)
+    later j f = rw (not-ended (m .settings) t j (λ r. omega (arith, f .runs r)))
 
 -- ## The job that starts next
+
+-- where none can start, the head does not fit and no later job qualifies
+pub none-starts : (m : Model) (h : Job) (later : List Job) → pick m (h ∷ later) ≡ none → (free m < h .nodes) × ((j : Job) → In j later → qualifies m h j ≡ false)
+unfolding pick
+none-starts m h later e =
+    case (leb (h .nodes) (free m))
+    (λ l. absurd (let w : some h ≡ none = rw l at e in let z : _≡_ {A = ℕ} 0 1 = cc in omega arith))
+    (λ l. (leb-false (h .nodes) (free m) l, first-none (qualifies m h) later (rw l at e)))
 
 -- as document 01's steps 1 and 3 say it: the head, which fits; or, where the head does not, the first later job that qualifies
 pub data How (m : Model) (j : Job) : List Job → Type 0 where
@@ -100,7 +116,7 @@ unfolding qualifies
 how-in m j (as-head later l) = (here refl, l)
 how-in m j (passing h later l e) =
     let r = first-in (qualifies m h) later e in
-    (there (r .0), leb-true (j .nodes) (free m) (both (leb (j .nodes) (free m)) (leb (m .clock + holdTime (m .settings) (j .estimate)) (shadow m (h .nodes)) || leb (j .nodes) (extra m (h .nodes))) (r .1) .0))
+    (there (r .0), leb-true (j .nodes) (free m) (both (leb (j .nodes) (free m)) _ (r .1) .0))
 
 pub chosen : (m : Model) (j : Job) → choice m ≡ some j → Chosen m j
 chosen m j e =
@@ -164,14 +180,16 @@ one-fewer m j a c =
     omega (arith, length-keep isWaiting (m .jobs), length-keep isWaiting (map (mark (m .clock) (j .ticket)) (m .jobs)))
 
 -- what holds of each other job, and of the one that starts now, holds of each job after the start
-pub each-begin : (P : Job → Type 0) (t : ℕ) (m : Model) → ((j : Job) → In j (m .jobs) → (j .ticket ≡ t → ⊥) → P j) → ((j : Job) → In j (m .jobs) → j .ticket ≡ t → P (begun (m .clock) j)) → (k : Job) → In k (begin t m .jobs) → P k
+pub each-begin : (P : Job → Type 0) (t : ℕ) (m : Model) → ((j : Job) → In j (m .jobs) → (j .ticket ≡ t → ⊥) → P j)
+    → ((j : Job) → In j (m .jobs) → j .ticket ≡ t → P (begun (m .clock) j)) → (k : Job) → In k (begin t m .jobs) → P k
 each-begin P t m f g k i =
     let r = map-in (mark (m .clock) t) (m .jobs) i in
     subst P (sym (r .2))
     (case (eqb (r .0 .ticket) t) (λ e. rw e (g (r .0) (r .1) (eqb-true (r .0 .ticket) t e))) (λ e. rw e (f (r .0) (r .1) (eqb-false (r .0 .ticket) t e))))
 
 -- A start keeps the model sound, if the job's hold does not pass the last minute.
-pub sound-begin : (m : Model) (j : Job) → Sound m → Chosen m j → m .clock + holdTime (m .settings) (j .estimate) ≤ horizon (m .settings) → Sound (begin (j .ticket) m)
+pub sound-begin : (m : Model) (j : Job) → Sound m → Chosen m j → m .clock + holdTime (m .settings) (j .estimate) ≤ horizon (m .settings)
+    → Sound (begin (j .ticket) m)
 sound-begin m j s c room = record {
   nodes-from = s .nodes-from;
   nodes-to = s .nodes-to;

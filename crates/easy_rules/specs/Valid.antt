@@ -34,6 +34,14 @@ use Rattle.easy_rules.specs.Easy.{pick, choice, begin, forecast, finishe
 use Rattle.easy_rules.specs.Settling.{Chosen, chosen, each-begin, sound-begin, Settles, rest, start, settles, settles-rest, settles-clock}
 use Rattle.easy_rules.specs.Course.{OnCourse, course-clock, begin-keeps, Eases, eased, leave-eases, join-eases, join-course}
 
+-- however late the job starts, its hold does not pass the last minute
+abbrev pub Room : Model → Job → Type 0
+Room m j = (b : ℕ) × OnCourse m (j .ticket) b × (b + holdTime (m .settings) (j .estimate) ≤ horizon (m .settings))
+
+-- the latest minute at which a job of this estimate can end, if it is submitted now
+abbrev pub latestEnd : Model → ℕ → ℕ
+latestEnd m e = m .clock + rank m * unit (m .settings) + holdTime (m .settings) e
+
 -- ready to settle
 pub record Ready (m : Model) : Type 0 where
   pub kind : m .settings .kind ≡ Easy
@@ -41,8 +49,7 @@ pub record Ready (m : Model) : Type 0 where
   -- "on the Loose Desk the promise, and a waiting stack's start, are 0"
   pub promises : (j : Job) → In j (m .jobs) → j .promise ≡ 0
   pub starts : (j : Job) → In j (m .jobs) → isWaiting j ≡ true → j .start ≡ 0
-  -- however late a waiting job starts, its hold does not pass the last minute
-  pub room : (j : Job) → In j (m .jobs) → isWaiting j ≡ true → (b : ℕ) × OnCourse m (j .ticket) b × (b + holdTime (m .settings) (j .estimate) ≤ horizon (m .settings))
+  pub room : (j : Job) → In j (m .jobs) → isWaiting j ≡ true → Room m j
 
 pub record Valid (m : Model) : Type 0 where
   pub ready : Ready m
@@ -59,7 +66,8 @@ unfolding opening pick
 opening-valid o e =
     by (accepts (openingRefusal o)) (opening-sound o)
   where
-    by : (b : Bool) → Sound (cond b (empty (o .kind) (o .nodes) (o .minute) (o .ticket)) (empty (o .kind) 1 0 1)) → Valid (cond b (empty (o .kind) (o .nodes) (o .minute) (o .ticket)) (empty (o .kind) 1 0 1))
+    by : (b : Bool) → Sound (cond b (empty (o .kind) (o .nodes) (o .minute) (o .ticket)) (empty (o .kind) 1 0 1))
+        → Valid (cond b (empty (o .kind) (o .nodes) (o .minute) (o .ticket)) (empty (o .kind) 1 0 1))
     by true s = record { ready = empty-ready (o .kind) (o .nodes) (o .minute) (o .ticket) e s; rests = refl }
     by false s = record { ready = empty-ready (o .kind) 1 0 1 e s; rests = refl }
 
@@ -74,7 +82,7 @@ begin-ready m j r c = record {
   promises = each-begin (λ (k : Job). k .promise ≡ 0) (j .ticket) m (λ k i n. r .promises k i) (λ k i e. r .promises k i);
   starts = each-begin (λ (k : Job). isWaiting k ≡ true → k .start ≡ 0) (j .ticket) m (λ k i n. r .starts k i) (λ k i e w. true-false false w refl);
   room =
-      each-begin (λ (k : Job). isWaiting k ≡ true → (b : ℕ) × OnCourse (begin (j .ticket) m) (k .ticket) b × (b + holdTime (m .settings) (k .estimate) ≤ horizon (m .settings))) (j .ticket) m
+      each-begin (λ (k : Job). isWaiting k ≡ true → Room (begin (j .ticket) m) k) (j .ticket) m
       (λ k i n w. let x = r .room k i w in (x .0, begin-keeps m j (r .sound) c (k .ticket) (x .0) (λ e. n (sym e)) (x .1), x .2))
       (λ k i e w. true-false false w refl);
 }
@@ -84,7 +92,8 @@ settles-ready (rest e) r = r
 settles-ready (start {m = m} j e s) r = settles-ready s (begin-ready m j r (chosen m j e))
 
 -- a job on course is among those started, and the clock has not passed b; or it goes on waiting, on course still
-pub settles-keeps : (u b : ℕ) {m m′ : Model} {ts : List ℕ} → Settles m m′ ts → Ready m → OnCourse m u b → ((elem u ts ≡ true) × (m′ .clock ≤ b)) ⊎ ((elem u ts ≡ false) × OnCourse m′ u b)
+pub settles-keeps : (u b : ℕ) {m m′ : Model} {ts : List ℕ} → Settles m m′ ts → Ready m → OnCourse m u b
+    → ((elem u ts ≡ true) × (m′ .clock ≤ b)) ⊎ ((elem u ts ≡ false) × OnCourse m′ u b)
 settles-keeps u b (rest e) r o = inr (refl, o)
 settles-keeps u b (start {m = m} j e s) r o =
     case (eqb u (j .ticket))
@@ -94,8 +103,9 @@ settles-keeps u b (start {m = m} j e s) r o =
 -- ## What a call does before it settles
 
 pub data Moved (m : Model) : Call → Model → ℕ → List ℕ → Type 0 where
-  submits : (n e : ℕ) → Fit m n e → m .clock + rank m * unit (m .settings) + holdTime (m .settings) e ≤ horizon (m .settings) → Moved m (submit n e) (joined m (newJob (m .next) n e)) (m .next) []
-  completes : (t : ℕ) → any (picks (select.RunningTicket t)) (m .jobs) ≡ true → Moved m (complete t) (without m (m .clock) (select.RunningTicket t)) 0 (ticketsOf (keep (picks (select.RunningTicket t)) (m .jobs)))
+  submits : (n e : ℕ) → Fit m n e → latestEnd m e ≤ horizon (m .settings) → Moved m (submit n e) (joined m (newJob (m .next) n e)) (m .next) []
+  completes : (t : ℕ) → any (picks (select.RunningTicket t)) (m .jobs) ≡ true
+      → Moved m (complete t) (without m (m .clock) (select.RunningTicket t)) 0 (ticketsOf (keep (picks (select.RunningTicket t)) (m .jobs)))
   ticks : suc (m .clock) ≤ horizon (m .settings) → Moved m tick (without m (suc (m .clock)) (select.EndingAt (suc (m .clock)))) 0 (ticketsOf (keep (picks (select.EndingAt (suc (m .clock)))) (m .jobs)))
 
 module _ (m : Model) (v : Valid m) where
@@ -112,14 +122,14 @@ module _ (m : Model) (v : Valid m) where
       old : (j : Job) → In j (without m c p .jobs) → In j (m .jobs)
       old j i = keep-in (λ (j : Job). not (picks p j)) (m .jobs) i .0
 
-  join-ready : (n e : ℕ) → Fit m n e → m .clock + rank m * unit (m .settings) + holdTime (m .settings) e ≤ horizon (m .settings) → Ready (joined m (newJob (m .next) n e))
+  join-ready : (n e : ℕ) → Fit m n e → latestEnd m e ≤ horizon (m .settings) → Ready (joined m (newJob (m .next) n e))
   join-ready n e f room = record {
     kind = v .ready .kind;
     sound = sound-join m n e (newJob (m .next) n e) (v .ready .sound) f fresh refl (omega (arith, v .ready .sound .capacity));
     promises = each (λ (k : Job). k .promise ≡ 0) (v .ready .promises) refl;
     starts = each (λ (k : Job). isWaiting k ≡ true → k .start ≡ 0) (v .ready .starts) (λ w. refl);
     room =
-        each (λ (k : Job). isWaiting k ≡ true → (b : ℕ) × OnCourse (joined m (newJob (m .next) n e)) (k .ticket) b × (b + holdTime (m .settings) (k .estimate) ≤ horizon (m .settings)))
+        each (λ (k : Job). isWaiting k ≡ true → Room (joined m (newJob (m .next) n e)) k)
         (λ k i w. let x = v .ready .room k i w in
         (x .0, eased m (joined m (newJob (m .next) n e)) (k .ticket) (x .0) (v .ready .sound) (v .rests) (join-eases m n e) (x .1), x .2))
         (λ w. (m .clock + rank m * unit (m .settings), join-course m n e, room));
@@ -201,8 +211,8 @@ unfolding call advanced submitRefusal completeRefusal tickRefusal
 called m (submit n e) v =
     judge m (submit n e) (submitRefusal m n e) (finished m (joined m (newJob (m .next) n e)) (m .next) [])
     (λ a. let f = submit-fit m n e _ a in
-    let p = passed (ltb (horizon (m .settings)) (m .clock + rank m * unit (m .settings) + holdTime (m .settings) e)) refusal.PastHorizon [] refl (f .1) in
-    let x = submits n e (f .0) (ltb-false (horizon (m .settings)) (m .clock + rank m * unit (m .settings) + holdTime (m .settings) e) (p .0)) in
+    let p = passed (ltb (horizon (m .settings)) (latestEnd m e)) refusal.PastHorizon [] refl (f .1) in
+    let x = submits n e (f .0) (ltb-false (horizon (m .settings)) (latestEnd m e) (p .0)) in
     finished-taken m (submit n e) (joined m (newJob (m .next) n e)) (m .next) [] x (moved-ready x v))
 called m (complete t) v =
     judge m (complete t) (completeRefusal m t) (advanced m (m .clock) (select.RunningTicket t))

@@ -1,6 +1,6 @@
 -- The job table: what counting, finding, summing, appending and removing mean on the list of its 64 slots.
 -- Assumes nothing.
-use mathlib.Core.Bool.{Bool, true, false, not}
+use mathlib.Core.Bool.{Bool, true, false, not, cond}
 use mathlib.Core.List.{List, [], _∷_, map}
 use mathlib.Core.Option.{Option, none, some}
 use Prim.Native.Nat.{ℕ}
@@ -49,6 +49,10 @@ ticketsOf js = map ticketOf js
 -- a list of tickets as it is answered: the places past the last are 0
 unfoldable pub tickets : List ℕ → Tickets
 tickets ts = record { count = length ts; list = pad slots 0 ts }
+
+-- the one ticket, or none
+abbrev pub oneIf : Bool → ℕ → List ℕ
+oneIf given t = cond given (t ∷ []) []
 
 unfoldable pub appended : Scheduler → Job → Scheduler
 appended d j = withJobs d (set (d .jobs) (counted select.Live (d .jobs)) j)

@@ -1,12 +1,13 @@
 -- What an operation on the slots of a stored model means for the model.
 -- Assumes nothing.
 use mathlib.Core.Path.{_≡_, refl, ap, sym, _∙_}
-use mathlib.Core.Bool.{Bool, true, false, not}
+use mathlib.Core.Bool.{Bool, true, false, not, cond}
+use lib.Dec.{leb, ltb}
 use mathlib.Core.List.{List, [], _∷_, _++_}
 use Prim.Native.Nat.{ℕ, _≤_, _<_}
 use native.Mathlib.Omega.{arith}
 use lib.ListN.{length, set}
-use Rattle.lists.specs.Tests.{on}
+use Rattle.lists.specs.Tests.{case, on}
 use Rattle.lists.specs.Lists.{keep, sum, All, all-in, length-keep, keep-all}
 use Rattle.lists.specs.Pads.{pad, sum-pad, keep-pad, pad-keep, pad-push, pad-set}
 use Rattle.lists.specs.Loops.{position, position-pad}
@@ -15,7 +16,11 @@ use Rattle.scheduler.specs.declared.Scheduler.{Scheduler}
 use Rattle.scheduler.specs.declared.Removed.{Removed}
 use Rattle.scheduler.specs.declared.Select.{Select}
 use Rattle.scheduler.specs.declared.Select.the-variants as select
-use Rattle.scheduler.specs.Limits.{slots}
+use Rattle.scheduler.specs.declared.Refusal.{Refusal}
+use Rattle.scheduler.specs.declared.Refusal.the-variants as refusal
+use Rattle.scheduler.specs.Limits.{slots, longest, lastTicket, outside}
+use Rattle.scheduler.specs.Answers.{verdict, accepts}
+use Rattle.scheduler.specs.Refusals.{checked, submitTests}
 use Rattle.scheduler.specs.Jobs.{unused, isLive, held, picks}
 use Rattle.scheduler.specs.Table.{withJobs, counted, located, slot, nodesHeld, ticketsOf, tickets, staying, appended, removed}
 use Rattle.scheduler.specs.Model.{Model, store, withModelJobs, Live}
@@ -61,3 +66,20 @@ module _ (m : Model) where
     tickets = tickets (ticketsOf (keep-pad slots unused (picks s) (m .jobs) (picks-unused s) i));
     scheduler = withJobs (store m) (pad-keep slots unused (λ (j : Job). not (picks s j)) (m .jobs) (ap not (picks-unused s)) few i);
   }
+
+  same-tests : (n e : ℕ) → verdict ((outside 1 (store m .nodes) n, refusal.NodesOutOfRange) ∷ (outside 1 longest e, refusal.MinutesOutOfRange) ∷ (leb slots (length (m .jobs)), refusal.Full) ∷ (ltb lastTicket (store m .next), refusal.NoTicketLeft) ∷ []) ≡ verdict (submitTests m n e [])
+  unfolding store
+  same-tests n e = refl
+
+  pub checked-stored : (n e : ℕ) → All Live (m .jobs) → checked (store m) n e ≡ verdict (submitTests m n e [])
+  unfolding checked
+  checked-stored n e live = rw (live-stored live) (same-tests n e)
+
+-- the kind's own tests decide where these four refuse nothing
+pub checked-more : (m : Model) (n e : ℕ) (more : List (Bool × Refusal)) → verdict (submitTests m n e more) ≡ cond (accepts (verdict (submitTests m n e []))) (verdict more) (verdict (submitTests m n e []))
+unfolding verdict
+checked-more m n e more =
+    case (outside 1 (m .settings .nodes) n) (λ a. rw a)
+    (λ a. rw a (case (outside 1 longest e) (λ b. rw b)
+    (λ b. rw b (case (leb slots (length (m .jobs))) (λ c. rw c)
+    (λ c. rw c (case (ltb lastTicket (m .next)) (λ d. rw d) (λ d. rw d)))))))

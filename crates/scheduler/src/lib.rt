@@ -4,9 +4,10 @@ ghost use Prim.Native.Nat.{_+_, _<_, _≤_};
 ghost use lib.ListN.{set};
 ghost use Rattle.scheduler.specs.Limits.{limits, outside};
 ghost use Rattle.scheduler.specs.Jobs.{unused, picks, held};
-ghost use Rattle.scheduler.specs.Table.{withJobs, counted, located, nodesHeld, removed, appended};
+ghost use Rattle.scheduler.specs.Table.{withJobs, counted, located, nodesHeld, removed, appended, tickets, oneIf};
 ghost use Rattle.scheduler.specs.Model.{store, empty};
-ghost use Rattle.scheduler.specs.Answers.{code, refusedAnswer, refusedOutcome, noTickets};
+ghost use Rattle.scheduler.specs.Answers.{code, accepts, refusedAnswer, refusedOutcome, noTickets};
+ghost use Rattle.scheduler.specs.Refusals.{checked};
 ghost use Rattle.scheduler.specs.Opening.{opened};
 
 // Which rules the scheduler follows: conservative backfilling ("Promise Desk") or EASY backfilling ("Loose Desk").
@@ -148,9 +149,46 @@ impl Refusal {
             Refusal::TooShort => 10,
         }
     }
+
+    pub fn is_none(self) -> bool
+        ensures { λ r. ⌜ r ≡ accepts self ⌝ }
+    {
+        match self {
+            Refusal::None => true,
+            Refusal::NodesOutOfRange => false,
+            Refusal::MinutesOutOfRange => false,
+            Refusal::OpeningOutOfRange => false,
+            Refusal::Full => false,
+            Refusal::NoTicketLeft => false,
+            Refusal::PastHorizon => false,
+            Refusal::NotRunning => false,
+            Refusal::ProfileTooLong => false,
+            Refusal::Malformed => false,
+            Refusal::TooShort => false,
+        }
+    }
 }
 
 impl Tickets {
+    // The one ticket, or none.
+    pub fn one_if(given: bool, ticket: u32) -> Tickets
+        ensures { λ r. ⌜ r ≡ tickets (oneIf given ticket) ⌝ }
+    {
+        let none = [0u32; 64];
+        if given {
+            let mut one = none;
+            one[0] = ticket;
+            return Tickets {
+                count: 1,
+                list: one,
+            };
+        }
+        Tickets {
+            count: 0,
+            list: none,
+        }
+    }
+
     pub fn none() -> Tickets
         ensures { λ r. ⌜ r ≡ noTickets ⌝ }
     {
@@ -373,6 +411,25 @@ impl Scheduler {
             i += 1;
         }
         Slot::Nowhere
+    }
+
+    // What a submission is refused for, whatever the kind: its nodes, its estimate, no slot or no ticket left.
+    pub fn check(self, s: Submission) -> Refusal
+        ensures { λ r. ⌜ r ≡ checked self (s .nodes) (s .estimate) ⌝ }
+    {
+        if outside_range(s.nodes, 1, self.nodes) {
+            return Refusal::NodesOutOfRange;
+        }
+        if outside_range(s.estimate, 1, Scheduler::LONGEST) {
+            return Refusal::MinutesOutOfRange;
+        }
+        if Scheduler::LIVE <= self.count(Select::Live) {
+            return Refusal::Full;
+        }
+        if Scheduler::LAST_TICKET < self.next {
+            return Refusal::NoTicketLeft;
+        }
+        Refusal::None
     }
 
     pub fn nodes_held(self) -> u32

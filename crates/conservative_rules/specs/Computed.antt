@@ -1,0 +1,97 @@
+-- Document 01's slips of the Promise Desk and document 001's figure 2, computed from the definitions. This file's name puts it before the
+-- laws, so that a wrong definition is first refused by a wrong number.
+-- Assumes nothing.
+use Prim.Native.Nat.{ℕ}
+use mathlib.Core.Path.{_≡_, refl}
+use mathlib.Core.List.{List, [], _∷_, _++_, map}
+use lib.ListN.{replicate}
+use Rattle.lists.specs.Lists.{keep}
+use Rattle.plan.specs.Spans as plan
+use Rattle.scheduler.specs.declared.Kind.the-variants.{Conservative}
+use Rattle.scheduler.specs.declared.Job.{Job}
+use Rattle.scheduler.specs.declared.Refusal.{Refusal}
+use Rattle.scheduler.specs.declared.Refusal.the-variants as refusal
+use Rattle.scheduler.specs.declared.Select.the-variants as select
+use Rattle.scheduler.specs.Jobs.{isRunning}
+use Rattle.scheduler.specs.Settings.{Settings}
+use Rattle.scheduler.specs.Table.{ticketsOf, staying}
+use Rattle.scheduler.specs.Model.{Model}
+use Rattle.scheduler.specs.Answers.{Reply, verdict}
+use Rattle.scheduler.specs.Refusals as refusals
+use Rattle.scheduler.specs.Opening.{openingRefusal, opening}
+use Rattle.history.specs.Calls.{submit, complete, tick, after}
+use Rattle.conservative_rules.specs.Conservative.{planned, points, submitRefusal, submitted, advanced, moved, pass, completed, ticked, call}
+
+abbrev pub startOf : Job → ℕ
+startOf j = j .start
+
+abbrev pub promiseOf : Job → ℕ
+promiseOf j = j .promise
+
+-- a machine of 2 nodes
+abbrev fresh : ℕ → Model
+fresh minute = opening (record { kind = Conservative; nodes = 2; minute = minute; ticket = 1 })
+
+-- Document 001, figure 2: two jobs run, one until 5, one until 15. The first queued job needs both nodes and is promised 15, the second
+-- needs one and is promised 5.
+abbrev pub figure2 : Model
+figure2 = after call (fresh 0) (submit 1 5 ∷ submit 1 15 ∷ submit 2 5 ∷ submit 1 10 ∷ [])
+
+-- For comparison only: the whole queue replanned. All waiting jobs are taken out of the plan and put in again, one after another in
+-- ticket order; those that have not had their turn are not in it.
+unfoldable pub replan : Settings → ℕ → List Job → List Job → List Job
+replan S now done [] = []
+replan S now done (j ∷ js) = let k : Job = moved S now (done ++ keep isRunning js) j in k ∷ replan S now (k ∷ done) js
+
+abbrev pub replanned : Model → ℕ → List Job
+replanned m t = replan (m .settings) (m .clock) [] (staying (select.RunningTicket t) (m .jobs))
+
+-- the answer to the first job of such a machine, submitted at that minute
+abbrev alone : ℕ → ℕ → ℕ → Refusal
+alone minute n e = call (fresh minute) (submit n e) .reply .refusal
+
+abbrev fifth-tick : Reply
+fifth-tick = call (after call figure2 (replicate 4 tick)) tick .reply
+
+abbrev early : Model
+early = call figure2 (complete 2) .model
+
+pub examples : (ticketsOf (figure2 .jobs) ≡ 1 ∷ 2 ∷ 3 ∷ 4 ∷ [])
+    × (map promiseOf (figure2 .jobs) ≡ 0 ∷ 0 ∷ 15 ∷ 5 ∷ [])
+    × (points figure2 ≡ record { minute = 0; free = 0 } ∷ record { minute = 20; free = 2 } ∷ [])
+    × (fifth-tick .ended ≡ 1 ∷ [])
+    × (fifth-tick .started ≡ 4 ∷ [])
+    -- "Promise, minute 999,990: `in 1 10` is taken", and `in 1 11` refused by 6; 1 comes before 6
+    × (alone 999990 1 10 ≡ refusal.None)
+    × (alone 999990 1 11 ≡ refusal.PastHorizon)
+    × (alone 999990 3 11 ≡ refusal.NodesOutOfRange)
+    -- "Replanning the whole queue after an early end can start a stack after its promise (document 001, figure 2). Only single moves,
+    -- each never later, are right." When job 2 ends at 0, replanning puts job 3 at 5 and job 4 at 10, after its promise. Single moves
+    -- leave job 3 at 15 and start job 4 at once.
+    × (map startOf (replanned figure2 2) ≡ 0 ∷ 5 ∷ 10 ∷ [])
+    × (ticketsOf (early .jobs) ≡ 1 ∷ 3 ∷ 4 ∷ [])
+    × (map promiseOf (early .jobs) ≡ 0 ∷ 15 ∷ 5 ∷ [])
+    × (map startOf (early .jobs) ≡ 0 ∷ 15 ∷ 0 ∷ [])
+unfolding
+    opening
+    openingRefusal
+    verdict
+    refusals.completeRefusal
+    refusals.tickRefusal
+    plan.takes
+    plan.lastEnd
+    plan.fits
+    plan.earliest
+    plan.changes
+    plan.points
+    plan.profile
+    planned
+    submitRefusal
+    submitted
+    advanced
+    pass
+    completed
+    ticked
+    call
+    replan
+examples = (refl, refl, refl, refl, refl, refl, refl, refl, refl, refl, refl, refl)
