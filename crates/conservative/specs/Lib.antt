@@ -1,4 +1,7 @@
 pub mod Slots
 pub mod Submit
 pub mod Turn
+pub mod Replan
+pub mod Pass
+pub mod Complete
 pub mod Tick

@@ -52,7 +52,7 @@ pub record Slots (S : Settings) (now : ℕ) (js : List Job) : Type 0 where
   pub idle : All (λ (j : Job). isLive j ≡ false → j .nodes ≡ 0) js
   pub room : (t : ℕ) → now ≤ t → used t (spans S js) ≤ S .nodes
 
-takes-unused : (S : Settings) (t : ℕ) → takes t (span S unused) ≡ 0
+pub takes-unused : (S : Settings) (t : ℕ) → takes t (span S unused) ≡ 0
 takes-unused S t = omega (arith, takes-le t (span S unused))
 
 pub used-slots : (S : Settings) (t : ℕ) (js : List Job) → used t (spans S (pad slots unused js)) ≡ used t (spans S js)
@@ -140,3 +140,11 @@ laid-all m p q v =
 pub held-all : (d : Scheduler) (p : Profile) → Holds Planned d → Laying (view d .settings) (d .clock) (d .jobs) slots p → p ≡ stored (points (view d))
 unfolding view
 held-all d p h v = laid-all (view d) p (h .holds) (subst (λ (e : Scheduler). Laying (view d .settings) (d .clock) (e .jobs) slots p) (h .stored) v)
+
+-- and the other way: the profile of the model is that of the slots
+pub points-slots : (d : Scheduler) → Holds Planned d → stored (points (view d)) ≡ stored (profile (view d .settings .nodes) (spans (view d .settings) (d .jobs)) (d .clock))
+unfolding view store
+points-slots d h =
+    ap stored
+    (profile-same (view d .settings .nodes) (spans (view d .settings) (view d .jobs)) (spans (view d .settings) (d .jobs)) (d .clock)
+    (λ t l. sym (ap (λ (e : Scheduler). used t (spans (view d .settings) (e .jobs))) (h .stored) ∙ used-slots (view d .settings) t (view d .jobs))))

@@ -4,12 +4,16 @@ ghost use Rattle.scheduler.specs.Model.{view};
 ghost use Rattle.scheduler.specs.Answers.{outcome};
 ghost use Rattle.jobs.specs.Premise.{Holds};
 ghost use Rattle.history.specs.Calls as calls;
-ghost use Rattle.conservative_rules.specs.Conservative.{call, placed, points};
+ghost use Rattle.conservative_rules.specs.Conservative.{call, placed, points, pass, begun};
 ghost use Rattle.conservative_rules.specs.Valid.{Valid};
 ghost use Prim.Native.Nat.{_≤_, _<_};
-ghost use Rattle.scheduler.specs.Table.{counted};
+ghost use Rattle.scheduler.specs.Table.{counted, withJobs, tickets};
+ghost use mathlib.Core.List.{[]};
 ghost use Rattle.profile.specs.Stored.{stored};
 ghost use Rattle.conservative.specs.Slots.{spanOf, Planned};
+ghost use Rattle.conservative.specs.Replan.{Replans};
+ghost use Rattle.conservative.specs.Pass.{replanned, Replannable};
+ghost use Rattle.conservative.specs.Complete.{began};
 ghost use Rattle.conservative.specs.Submit.{accepted};
 ghost use Rattle.conservative.specs.Turn.{startsAt, turn};
 use profile::Profile;
@@ -59,6 +63,12 @@ fn profile_of(d: Scheduler) -> Profile
     p
 }
 
+// A job at its place, and the profile with it there.
+pub struct Replanned {
+    pub job: Job,
+    pub profile: Profile,
+}
+
 // Whether it waits and its planned start is this minute.
 fn starts_at(job: Job, now: u32) -> bool
     ensures { λ r. ⌜ r ≡ startsAt now job ⌝ }
@@ -92,6 +102,110 @@ fn place(job: Job, now: u32, s: u32) -> Job
         state: State::Waiting,
         start: s,
         promise: job.promise,
+    }
+}
+
+// A waiting job is taken out of the profile and put in again at its smallest minute.
+fn replan(p: Profile, job: Job, now: u32) -> Replanned
+    requires { ⌜ Replans p job now ⌝ }
+    ensures { λ r. ⌜ ((q : Replans p job now) → r ≡ replanned q) ⌝ }
+{
+    let out = p.overlay(span_of(job), true);
+    let start = out.earliest(job.nodes, walltime::wall_time(job.estimate));
+    if start == job.start {
+        return Replanned {
+            job: job,
+            profile: p,
+        };
+    }
+    let moved = place(job, now, start);
+    let back = out.overlay(span_of(moved), false);
+    Replanned {
+        job: moved,
+        profile: back,
+    }
+}
+
+// Each waiting job, once, in ticket order, is taken out of the plan and put in again, the others staying at their places.
+fn replan_all(d: Scheduler) -> Scheduler
+    requires { ⌜ Holds Replannable d ⌝ }
+    ensures { λ r. ⌜ r ≡ withJobs d (pass (view d .settings) (d .clock) [] (d .jobs)) ⌝ }
+{
+    let now = d.clock;
+    let mut p = profile_of(d);
+    let mut e = d;
+    let mut i: usize = 0;
+    while i < Scheduler::LIVE {
+        let j = d.jobs[i];
+        if j.is_waiting() {
+            let t = replan(p, j, now);
+            let k = t.job;
+            e.jobs[i] = k;
+            p = t.profile;
+        }
+        i += 1;
+    }
+    e
+}
+
+// The tickets of the jobs that wait before and run after, slot by slot.
+fn newly_running(before: Scheduler, after: Scheduler) -> Tickets
+    ensures { λ r. ⌜ r ≡ tickets (begun (before .jobs) (after .jobs)) ⌝ }
+{
+    let mut list = [0u32; 64];
+    let mut n: usize = 0;
+    let mut i: usize = 0;
+    while i < Scheduler::LIVE {
+        let j = before.jobs[i];
+        let k = after.jobs[i];
+        if began(j, k) {
+            list[n] = j.ticket;
+            n += 1;
+        }
+        i += 1;
+    }
+    Tickets {
+        count: n,
+        list: list,
+    }
+}
+
+// Whether it waits before and runs after.
+fn began(before: Job, after: Job) -> bool
+    ensures { λ r. ⌜ r ≡ began before after ⌝ }
+{
+    let s = after.state;
+    match s {
+        State::Unused => false,
+        State::Waiting => false,
+        State::Running => before.is_waiting(),
+    }
+}
+
+pub fn complete(d: Scheduler, ticket: u32) -> Outcome
+    requires { ⌜ Holds Valid d ⌝ }
+    ensures { λ r. ⌜ r ≡ outcome (call (view d) (calls.complete ticket)) ⌝ }
+{
+    let left = d.remove(Select::RunningTicket(ticket));
+    let ended = left.tickets;
+    if ended.count == 0 {
+        return d.refused(Refusal::NotRunning);
+    }
+    let rest = left.scheduler;
+    let scheduler = replan_all(rest);
+    let started = newly_running(rest, scheduler);
+    let answer = Answer {
+        refusal: Refusal::None,
+        ticket: 0,
+        promise: 0,
+        ended: ended,
+        started: started,
+        head: 0,
+        forecast: 0,
+    };
+    Outcome {
+        answer: answer,
+        scheduler: scheduler,
     }
 }
 

@@ -203,7 +203,7 @@ pub data Outcome (m : Model) : Call → Result → Type 0 where
 -- ### The pass of an early end
 
 module _ (S : Settings) (now : ℕ) where
-  moved-follows : (others : List Job) (j : Job) → j .nodes ≤ S .nodes → (isWaiting j ≡ true → now < j .start)
+  pub moved-follows : (others : List Job) (j : Job) → j .nodes ≤ S .nodes → (isWaiting j ≡ true → now < j .start)
       → ((t : ℕ) → now ≤ t → takes t (span S j) + used t (spans S others) ≤ S .nodes)
       → Follows now j (moved S now others j) × ((t : ℕ) → now ≤ t → takes t (span S (moved S now others j)) + used t (spans S others) ≤ S .nodes)
   moved-follows others j l w f = case (isWaiting j) (λ q. rw q (at q)) (λ q. rw q (stays q, f))

@@ -47,7 +47,7 @@ pub record Laid (self : Profile) (x : Span) (release : Bool) : Type 0 where
 abbrev Ends : Span → Type 0
 Ends x = x .until ≤ horizon
 
--- a reservation: the span joins the others, and there is room for all
+-- a reservation: the span joins the others, and all together never take more nodes than there are
 abbrev pub laid-reserve : (N : ℕ) (x : Span) (xs : List Span) (now : ℕ) {self : Profile} → self ≡ stored (profile N xs now)
     → Small (x ∷ xs) now → x .from ≤ horizon → ((r : ℕ) → now ≤ r → used r (x ∷ xs) ≤ N) → Laid self x false
 laid-reserve N x xs now e s f u = record {

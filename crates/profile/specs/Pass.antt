@@ -128,7 +128,7 @@ module _ {self : Profile} {x : Span} {release : Bool} (l : Laid self x release) 
   stands-begin =
       rw first-now (record { going = λ h. overlay-begin (l .after-is) old-points; over = λ h. absurd (omega (arith, l .small .clock)) })
 
--- what has been put down is told by every plan that the profile may be of
+-- one list has been put down, and it is right for every plan that the profile may be of
 pub record Pass (self : Profile) (x : Span) (release : Bool) (points : List Point) (n last i t : ℕ) : Type 0 where
   pub out : List Point
   pub written : Written points n last out
@@ -137,7 +137,7 @@ pub record Pass (self : Profile) (x : Span) (release : Bool) (points : List Poin
 pub pass-begin : (self : Profile) (x : Span) (release : Bool) → Pass self x release (pad places noPoint []) 0 0 0 (at self 0 .minute)
 pass-begin self x release = record { out = []; written = written-none; stands = λ l. stands-begin l }
 
--- the point that the next old one is, if there is one
+-- the minute of the next old point, if there is one
 pub record Ahead (self : Profile) (i ahead : ℕ) : Type 0 where
   pub is : i + 1 < self .count → ahead ≡ at self (i + 1) .minute
   pub none : self .count ≤ i + 1 → ahead ≡ never

@@ -56,6 +56,7 @@ pub record Small (xs : List Span) (now : ℕ) : Type 0 where
   pub clock : now ≤ horizon
   pub ends : All (λ (x : Span). x .until ≤ horizon) xs
 
+-- what a search needs: there is a point, all are in their places, and their minutes are low
 pub record Readable (p : Profile) : Type 0 where
   pub some : 1 ≤ p .count
   pub fit : p .count ≤ places

@@ -10,8 +10,7 @@ use Rattle.profile.proofs.Profile.earliest.Statement.{statement}
 use Rattle.profile.proofs.Profile.earliest.Tie as tie
 
 abbrev Inv-loop : tie.InvT-loop
-Inv-loop nodes hold self count anchor₀ i₀ anchor i =
-    Seek self nodes hold anchor i
+Inv-loop nodes hold self count anchor₀ i₀ anchor i = Seek self nodes hold anchor i
 
 abbrev μ-loop : tie.MeasureT-loop
 μ-loop nodes hold self count anchor₀ i₀ anchor i = self .count - i

@@ -1,4 +1,5 @@
--- `Profile::overlay` meets its contract.
+-- `Profile::overlay` meets its contract. The invariant says what has been put down so far, of every plan that the profile may be of;
+-- the measure counts the minutes at which the pass has still to stand.
 -- Assumes nothing.
 use mathlib.Core.Path.{_≡_, ap, sym, _∙_}
 use mathlib.Core.Logic.{⊎-elim}

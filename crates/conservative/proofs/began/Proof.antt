@@ -1,0 +1,38 @@
+use Rattle.scheduler.specs.Jobs.{isWaiting, running?}
+use Rattle.lists.specs.Tests.{and-right-false}
+use mathlib.Core.Bool.{and-true}
+use mathlib.Core.Path.{sym, ap, _∙_}
+use borrow.Author.Needs.{needs}
+use Rattle.conservative.proofs.began.Statement.{statement}
+use Rattle.conservative.proofs.began.Tie as tie
+use Rattle.conservative.proofs.began.Reads as reads
+use Rattle.conservative.proofs.began.Lts as lts
+use Rattle.scheduler.proofs.Job.is_waiting.Reads as is-waiting-reads
+
+enum-told : tie.Need-enum-told
+enum-told c = search needs
+
+enum-told-2 : tie.Need-enum-told-2
+enum-told-2 c = search needs
+
+enum-told-3 : tie.Need-enum-told-3
+enum-told-3 c = search needs
+
+is-waiting-requires : tie.Need-is-waiting-requires
+is-waiting-requires c κs = search needs
+
+returns : tie.Need-returns
+returns c = sym (and-right-false (isWaiting (c .before .before .args .before)) (ap running? (c .enum-told .given .1)))
+
+returns-2 : tie.Need-returns-2
+returns-2 c = sym (and-right-false (isWaiting (c .before .before .args .before)) (ap running? (c .enum-told2 .given .1)))
+
+returns-3 : tie.Need-returns-3
+returns-3 c =
+    let s = c .before .before .before in
+    c .is-waiting .ensures ∙ sym (rw (c .before .enum-told3 .given .1) (and-true (isWaiting (s .args .before))))
+
+pub began-spec : {M : Type 1} → statement M
+began-spec =
+    tie.close
+    (tie.spec enum-told enum-told-2 enum-told-3 is-waiting-requires returns returns-2 returns-3)

@@ -1,0 +1,111 @@
+-- `conservative::replan_all` meets its contract: so many turns are over, and the profile is that of the slots.
+-- Assumes nothing.
+use mathlib.Core.Path.{_≡_, refl, sym, ap, _∙_}
+use mathlib.Core.Logic.{⊎-elim}
+use Prim.Native.Nat.{ℕ, _+_, _-_, _≤_, _<_}
+use native.Mathlib.Omega.{arith}
+use lib.ListN.{set}
+use Rattle.scheduler.specs.declared.Scheduler.{Scheduler}
+use Rattle.scheduler.specs.Model.{Model, view}
+use Rattle.scheduler.specs.Table.{withJobs}
+use Rattle.jobs.specs.Premise.{Holds, holds-as}
+use Rattle.profile.specs.declared.Profile.{Profile}
+use Rattle.conservative.specs.Slots.{Planned, points-slots}
+use Rattle.conservative.specs.Pass.{Replannable, Passing, held-before, pass-begins, replans, turn-taken, turn-passed, pass-ends}
+use borrow.Author.Needs.{needs}
+use Rattle.conservative.proofs.replan_all.Statement.{statement}
+use Rattle.conservative.proofs.replan_all.Tie as tie
+use Rattle.conservative.proofs.replan_all.Reads as reads
+use Rattle.conservative.proofs.replan_all.Lts as lts
+use Rattle.conservative.proofs.profile_of.Reads as profile-of-reads
+use Rattle.conservative.proofs.replan.Reads as replan-reads
+use Rattle.scheduler.proofs.Job.is_waiting.Reads as is-waiting-reads
+
+record Inv (d e : Scheduler) (i : ℕ) (p : Profile) : Type 0 where
+  scheduler-is : e ≡ withJobs d (e .jobs)
+  passing : Passing (view d .settings) (d .clock) (d .jobs) (e .jobs) i p
+
+abbrev Inv-loop : tie.InvT-loop
+Inv-loop d now p₀ e₀ i₀ p e i = Inv d e i p
+
+abbrev μ-loop : tie.MeasureT-loop
+μ-loop d now p₀ e₀ i₀ p e i = 64 - i
+
+profile-of-requires : tie.Need-profile-of-requires Inv-loop μ-loop
+profile-of-requires c κs = holds-as Replannable Planned (c .args .t1) (λ m r. r .planned) (c .pre)
+
+loop-holds : tie.Need-loop-holds Inv-loop μ-loop
+loop-holds c =
+    let s = c .before in
+    let h = s .pre in
+    record {
+      scheduler-is = refl;
+      passing = pass-begins (held-before (s .args .t1) h .fits) (c .profile-of .ensures ∙ points-slots (s .args .t1) (holds-as Replannable Planned (s .args .t1) (λ m r. r .planned) h));
+    }
+
+mul-j : tie.Need-mul-j Inv-loop μ-loop
+mul-j c = search needs
+
+element-copy-out-j : tie.Need-element-copy-out-j Inv-loop μ-loop
+element-copy-out-j c = search needs
+
+is-waiting-requires : tie.Need-is-waiting-requires Inv-loop μ-loop
+is-waiting-requires c κs = search needs
+
+replan-requires : tie.Need-replan-requires Inv-loop μ-loop
+replan-requires c κs =
+    let s = c .before .before .before .before .before .before in
+    let l = c .before .before .before .before .loop in
+    replans (held-before (s .args .t1) (s .pre)) (l .inv .passing) (omega arith) (sym (c .before .is-waiting .ensures) ∙ c .if1 .taken)
+
+mul-k : tie.Need-mul-k Inv-loop μ-loop
+mul-k c = search needs
+
+element-set-from-k : tie.Need-element-set-from-k Inv-loop μ-loop
+element-set-from-k c = search needs
+
+add-i : tie.Need-add-i Inv-loop μ-loop
+add-i c = search needs
+
+loop-less : tie.Need-loop-less Inv-loop μ-loop
+loop-less c = search needs
+
+loop-again : tie.Need-loop-again Inv-loop μ-loop
+loop-again c =
+    let s = c .before .before .before .before .before .before in
+    let l = c .before .before .before .before .loop in
+    let h : l .i < 64 = omega arith in
+    let q = held-before (s .args .t1) (s .pre) in
+    let e = c .before .is-waiting .ensures in
+    ⊎-elim
+    (λ w. rw (w .4, w .5) (record {
+      scheduler-is = ap (λ (f : Scheduler). withJobs f (set (l .e .jobs) (l .i) (w .1 .result .job))) (l .inv .scheduler-is);
+      passing = turn-taken q (l .inv .passing) h (sym e ∙ w .0 .taken) (w .1 .result) (w .1 .ensures);
+    }))
+    (λ w. rw (w .1, w .2) (record { scheduler-is = l .inv .scheduler-is; passing = turn-passed q (l .inv .passing) h (sym e ∙ w .0 .left) }))
+    (c .if1 .came)
+
+returns : tie.Need-returns Inv-loop μ-loop
+returns c =
+    let s = c .before .before .before in
+    let l = c .before .loop in
+    l .inv .scheduler-is ∙ ap (withJobs (s .args .t1)) (pass-ends (held-before (s .args .t1) (s .pre)) (l .inv .passing) (omega arith))
+
+pub replan-all-spec : {M : Type 1} → statement M
+replan-all-spec =
+    tie.close
+    (tie.spec
+    Inv-loop
+    μ-loop
+    profile-of-requires
+    loop-holds
+    mul-j
+    element-copy-out-j
+    is-waiting-requires
+    replan-requires
+    mul-k
+    element-set-from-k
+    add-i
+    loop-less
+    loop-again
+    returns)

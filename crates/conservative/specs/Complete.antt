@@ -1,0 +1,157 @@
+-- What the code of an early completion computes on a stored model is the definition's.
+-- Assumes nothing.
+use mathlib.Core.Path.{_≡_, refl, sym, ap, _∙_}
+use mathlib.Core.Bool.{Bool, true, false, not, _&&_, cond}
+use mathlib.Core.List.{List, [], _∷_, _++_, append-nil}
+use Prim.Native.Nat.{ℕ, zero, suc, _+_, _-_, _≤_, _<_}
+use native.Mathlib.Numerals.{add-one}
+use native.Mathlib.Omega.{arith}
+use lib.ListN.{length, getD, take, replicate, length-map}
+use Rattle.lists.specs.Tests.{case}
+use Rattle.lists.specs.Lists.{keep, any, keep-in}
+use Rattle.lists.specs.Pads.{pad}
+use Rattle.scheduler.specs.declared.Job.{Job}
+use Rattle.scheduler.specs.declared.Outcome.{Outcome}
+use Rattle.scheduler.specs.declared.Refusal.the-variants as refusal
+use Rattle.scheduler.specs.declared.Removed.{Removed}
+use Rattle.scheduler.specs.declared.Scheduler.{Scheduler}
+use Rattle.scheduler.specs.declared.Select.the-variants as select
+use Rattle.scheduler.specs.Limits.{slots}
+use Rattle.scheduler.specs.Jobs.{unused, isWaiting, isRunning, picks}
+use Rattle.scheduler.specs.Table.{oneIf, withJobs, ticketOf, ticketsOf, tickets, removed}
+use Rattle.scheduler.specs.TableLaws.{removed-stored}
+use Rattle.scheduler.specs.Model.{Model, store, view, view-store, without, withModelJobs}
+use Rattle.scheduler.specs.Answers.{outcome, verdict, refusedOutcome}
+use Rattle.scheduler.specs.Refusals.{completeRefusal}
+use Rattle.jobs.specs.Sound.{Sound, sound-leave, early, all-live}
+use Rattle.jobs.specs.Premise.{Holds, store-holds, refused-held}
+use Rattle.history.specs.Calls.{complete}
+use Rattle.conservative_rules.specs.Conservative.{begun, pass, call, completed, advanced}
+use Rattle.conservative_rules.specs.Valid.{Valid, used-staying}
+use Rattle.conservative.specs.Pass.{Replannable, pass-stored, pass-length}
+
+-- it waits before and runs after
+abbrev pub began : Job → Job → Bool
+began j k = isWaiting j && isRunning k
+
+-- one slot more of both
+begun-more : (i : ℕ) (js ks : List Job) → i < length js → i < length ks
+    → begun (take (suc i) js) (take (suc i) ks) ≡ begun (take i js) (take i ks) ++ oneIf (began (getD js i unused) (getD ks i unused)) (getD js i unused .ticket)
+begun-more i [] ks a b = absurd (omega arith)
+begun-more i (j ∷ js) [] a b = absurd (omega arith)
+begun-more zero (j ∷ js) (k ∷ ks) a b = refl
+begun-more (suc i) (j ∷ js) (k ∷ ks) a b =
+    case (began j k)
+    (λ e. rw e (ap (λ (l : List ℕ). j .ticket ∷ l) (begun-more i js ks (omega arith) (omega arith))))
+    (λ e. rw e (begun-more i js ks (omega arith) (omega arith)))
+
+pub begun-yes : (i : ℕ) (js ks : List Job) → i < length js → i < length ks → began (getD js i unused) (getD ks i unused) ≡ true
+    → begun (take (i + 1) js) (take (i + 1) ks) ≡ begun (take i js) (take i ks) ++ (getD js i unused .ticket ∷ [])
+begun-yes i js ks a b e = rw (add-one, begun-more i js ks a b, e)
+
+pub begun-no : (i : ℕ) (js ks : List Job) → i < length js → i < length ks → began (getD js i unused) (getD ks i unused) ≡ false
+    → begun (take (i + 1) js) (take (i + 1) ks) ≡ begun (take i js) (take i ks)
+begun-no i js ks a b e = rw (add-one, begun-more i js ks a b, e) (append-nil (begun (take i js) (take i ks)))
+
+-- unused slots begin nothing
+begun-same : (k l : ℕ) → begun (replicate k unused) (replicate l unused) ≡ []
+begun-same zero l = refl
+begun-same (suc k) zero = refl
+begun-same (suc k) (suc l) = begun-same k l
+
+begun-append : (js ks : List Job) (a b : ℕ) → length js ≡ length ks → begun (js ++ replicate a unused) (ks ++ replicate b unused) ≡ begun js ks
+begun-append [] [] a b e = begun-same a b
+begun-append [] (k ∷ ks) a b e = absurd (omega arith)
+begun-append (j ∷ js) [] a b e = absurd (omega arith)
+begun-append (j ∷ js) (k ∷ ks) a b e = rw (begun-append js ks a b (omega arith))
+
+begun-pad : (js ks : List Job) → length js ≡ length ks → begun (pad slots unused js) (pad slots unused ks) ≡ begun js ks
+unfolding pad
+begun-pad js ks e = begun-append js ks (slots - length js) (slots - length ks) e
+
+-- a test that picks somebody
+any-some : (p : Job → Bool) (js : List Job) → (length (keep p js) ≡ 0 → ⊥) → any p js ≡ true
+any-some p [] f = absurd (f refl)
+any-some p (j ∷ js) f = case (p j) (λ e. rw e) (λ e. rw e (any-some p js (λ q. f (rw e q))))
+
+any-none : (p : Job → Bool) (js : List Job) → length (keep p js) ≡ 0 → any p js ≡ false
+any-none p [] e = refl
+any-none p (j ∷ js) e = case (p j) (λ q. absurd (let z = rw q at e in omega arith)) (λ q. rw q (any-none p js (rw q at e)))
+
+-- what the code computes: the jobs that the test picks have left, and the others have their turns
+abbrev completesBy : Removed → Outcome
+completesBy r =
+    let after = withJobs (r .scheduler) (pass (view (r .scheduler) .settings) (r .scheduler .clock) [] (r .scheduler .jobs)) in
+    record {
+      answer = record {
+        refusal = refusal.None;
+        ticket = 0;
+        promise = 0;
+        ended = r .tickets;
+        started = tickets (begun (r .scheduler .jobs) (after .jobs));
+        head = 0;
+        forecast = 0;
+      };
+      scheduler = after;
+    }
+
+abbrev pub completes : Scheduler → ℕ → Outcome
+completes d t = completesBy (removed d (select.RunningTicket t))
+
+begun-stored : (m : Model) (ks : List Job) → length (m .jobs) ≡ length ks → begun (store m .jobs) (store (withModelJobs m ks) .jobs) ≡ begun (m .jobs) ks
+unfolding store
+begun-stored m ks e = begun-pad (m .jobs) ks e
+
+module _ (d : Scheduler) (t : ℕ) (h : Holds Valid d) where
+  abbrev m : Model
+  m = view d
+
+  abbrev rest : Model
+  rest = without m (m .clock) (select.RunningTicket t)
+
+  pub left-is : removed d (select.RunningTicket t) ≡ record { tickets = tickets (ticketsOf (keep (picks (select.RunningTicket t)) (m .jobs))); scheduler = store rest }
+  left-is = ap (λ (x : Scheduler). removed x (select.RunningTicket t)) (h .stored) ∙ removed-stored m (select.RunningTicket t) (h .holds .sound .few)
+
+  sound-rest : Sound rest
+  sound-rest = sound-leave m (m .clock) (select.RunningTicket t) (h .holds .sound) (early t)
+
+  replannable : Replannable rest
+  replannable = record {
+    planned = record { sound = sound-rest; room = λ r l. omega (arith, used-staying (m .settings) r (select.RunningTicket t) (m .jobs), h .holds .room r l) };
+    ahead = λ j i w. h .holds .ahead j (keep-in (λ (k : Job). not (picks (select.RunningTicket t) k)) (m .jobs) i .0) w;
+  }
+
+  pub rest-held : Holds Replannable (store rest)
+  rest-held = store-holds Replannable rest (all-live rest sound-rest) replannable
+
+  rest-view : view (store rest) ≡ rest
+  rest-view = view-store rest (all-live rest sound-rest)
+
+  abbrev after-pass : Model
+  after-pass = withModelJobs rest (pass (rest .settings) (rest .clock) [] (rest .jobs))
+
+  pass-is : withJobs (store rest) (pass (view (store rest) .settings) (store rest .clock) [] (store rest .jobs)) ≡ store after-pass
+  unfolding view store
+  pass-is = pass-stored rest replannable
+
+  started-is : begun (store rest .jobs) (pass (view (store rest) .settings) (store rest .clock) [] (store rest .jobs)) ≡ begun (rest .jobs) (after-pass .jobs)
+  started-is =
+      ap (λ (e : Scheduler). begun (store rest .jobs) (e .jobs)) pass-is
+      ∙ begun-stored rest (after-pass .jobs) (sym (pass-length (rest .settings) (rest .clock) [] (rest .jobs)))
+
+  abbrev gone : List Job
+  gone = keep (picks (select.RunningTicket t)) (m .jobs)
+
+  pub taken-held : (length (ticketsOf gone) ≡ 0 → ⊥) → completes d t ≡ outcome (call m (complete t))
+  unfolding call completeRefusal verdict completed advanced
+  taken-held n =
+      ap completesBy left-is
+      ∙ (λ i. record {
+        answer = record { refusal = refusal.None; ticket = 0; promise = 0; ended = tickets (ticketsOf gone); started = tickets (started-is i); head = 0; forecast = 0 };
+        scheduler = pass-is i;
+      })
+      ∙ rw (any-some (picks (select.RunningTicket t)) (m .jobs) (λ e. n (length-map gone ticketOf ∙ e)))
+
+  pub refused-call : length (ticketsOf gone) ≡ 0 → refusedOutcome d refusal.NotRunning ≡ outcome (call m (complete t))
+  unfolding call completeRefusal verdict
+  refused-call e = refused-held Valid d refusal.NotRunning h ∙ rw (any-none (picks (select.RunningTicket t)) (m .jobs) (sym (length-map gone ticketOf) ∙ e))

@@ -1,0 +1,199 @@
+-- The pass after an early end, over the slots of the table: each waiting job has its turn, once, in ticket order.
+-- Assumes nothing.
+use mathlib.Core.Path.{_≡_, refl, sym, ap, subst, _∙_}
+use mathlib.Core.Bool.{Bool, true, false, cond}
+use mathlib.Core.List.{List, [], _∷_, _++_, append-nil}
+use Prim.Native.Nat.{ℕ, zero, suc, _+_, _-_, _≤_, _<_}
+use native.Mathlib.Numerals.{add-one}
+use native.Mathlib.Nat.{add-zero}
+use native.Mathlib.Omega.{arith}
+use lib.ListN.{length, getD, take, drop, set, replicate, take-append-drop, length-drop}
+use lib.Seq.{set-split, set-getD, split-at, drop-set-lt, drop-drop, getD-drop, drop-cons}
+use Rattle.lists.specs.Tests.{true-false}
+use Rattle.lists.specs.Lists.{All, In, all-of, all-in, all-at}
+use Rattle.lists.specs.Pads.{pad, all-pad, length-pad}
+use Rattle.plan.specs.Spans.{used, profile}
+use Rattle.walltime.specs.WallTime.{wallTime}
+use Rattle.walltime.specs.Laws.{wallTime-pos}
+use Rattle.scheduler.specs.declared.Job.{Job}
+use Rattle.scheduler.specs.declared.Scheduler.{Scheduler}
+use Rattle.scheduler.specs.Limits.{slots}
+use Rattle.scheduler.specs.Jobs.{unused, isWaiting}
+use Rattle.scheduler.specs.Settings.{Settings}
+use Rattle.scheduler.specs.Table.{withJobs}
+use Rattle.scheduler.specs.Model.{Model, store, view, withModelJobs}
+use Rattle.jobs.specs.Premise.{Holds}
+use Rattle.profile.specs.declared.Profile.{Profile}
+use Rattle.profile.specs.Stored.{stored}
+use Rattle.conservative_rules.specs.Conservative.{spans, moved, pass, points}
+use Rattle.conservative_rules.specs.Valid.{used-append}
+use Rattle.conservative_rules.specs.Loops.{Same, moved-same, turn, loop, pass-as-loop}
+use Rattle.conservative.specs.declared.Replanned.{Replanned}
+use Rattle.conservative.specs.Slots.{Planned, Slots, planned-slots, takes-unused}
+use Rattle.conservative.specs.Replan.{Replans, movedTo, put-in, fits-after}
+
+abbrev pub replanned : {p : Profile} {j : Job} {now : ℕ} → Replans p j now → Replanned
+replanned q = record { job = movedTo q; profile = put-in q }
+
+-- a model whose waiting jobs are planned for later than now
+pub record Replannable (m : Model) : Type 0 where
+  pub planned : Planned m
+  pub ahead : (j : Job) → In j (m .jobs) → isWaiting j ≡ true → m .clock < j .start
+
+pub record SlotJob (S : Settings) (now : ℕ) (j : Job) : Type 0 where
+  pub nodes-to : j .nodes ≤ S .nodes
+  pub ahead : isWaiting j ≡ true → now < j .start
+  pub hold-from : isWaiting j ≡ true → 1 ≤ wallTime (j .estimate)
+
+slot-jobs : (m : Model) → Replannable m → All (SlotJob (m .settings) (m .clock)) (store m .jobs)
+unfolding store
+slot-jobs m r = all-pad slots unused (SlotJob (m .settings) (m .clock)) (m .jobs) none (all-of _ (m .jobs) one)
+  where
+    none : SlotJob (m .settings) (m .clock) unused
+    none = record { nodes-to = omega arith; ahead = λ e. true-false false e refl; hold-from = λ e. true-false false e refl }
+
+    one : (j : Job) → In j (m .jobs) → SlotJob (m .settings) (m .clock) j
+    one j i =
+        let s = r .planned .sound .each j i in
+        record { nodes-to = s .nodes-to; ahead = λ e. r .ahead j i e; hold-from = λ e. wallTime-pos (j .estimate) (s .estimate-from) }
+
+-- the slots from which a pass begins
+pub record Before (S : Settings) (now : ℕ) (js : List Job) : Type 0 where
+  pub fits : Slots S now js
+  pub each : All (SlotJob S now) js
+
+pub held-before : (d : Scheduler) → Holds Replannable d → Before (view d .settings) (d .clock) (d .jobs)
+unfolding view
+held-before d h =
+    subst (λ (e : Scheduler). Before (view d .settings) (d .clock) (e .jobs)) (sym (h .stored))
+    (record { fits = planned-slots (view d) (h .holds .planned); each = slot-jobs (view d) (h .holds) })
+
+-- the turns before i are over: js are the slots now, and p is their profile
+pub record Passing (S : Settings) (now : ℕ) (js₀ js : List Job) (i : ℕ) (p : Profile) : Type 0 where
+  pub low : i ≤ slots
+  pub fits : Slots S now js
+  pub same : drop i js ≡ drop i js₀
+  pub rest : loop S now unused (slots - i) i js ≡ loop S now unused slots 0 js₀
+  pub plan : p ≡ stored (profile (S .nodes) (spans S js) now)
+
+pub pass-begins : {S : Settings} {now : ℕ} {js : List Job} {p : Profile} → Slots S now js → p ≡ stored (profile (S .nodes) (spans S js) now) → Passing S now js js 0 p
+pass-begins s e = record { low = omega arith; fits = s; same = refl; rest = refl; plan = e }
+
+module _ {S : Settings} {now : ℕ} {js₀ js : List Job} {i : ℕ} {p : Profile} (b : Before S now js₀) (v : Passing S now js₀ js i p) (l : i < slots) where
+  abbrev j : Job
+  j = getD js₀ i unused
+
+  in₀ : i < length js
+  in₀ = omega (arith, v .fits .all)
+
+  here-is : getD js i unused ≡ j
+  here-is =
+      ap (λ (n : ℕ). getD js n unused) (sym (add-zero i))
+      ∙ sym (getD-drop i js 0 unused)
+      ∙ ap (λ (l : List Job). getD l 0 unused) (v .same)
+      ∙ getD-drop i js₀ 0 unused
+      ∙ ap (λ (n : ℕ). getD js₀ n unused) (add-zero i)
+
+  split : js ≡ take i js ++ j ∷ drop (i + 1) js
+  split = split-at js i unused in₀ ∙ rw (here-is, ← add-one i)
+
+  -- the turn of a waiting job
+  pub replans : isWaiting j ≡ true → Replans p j now
+  replans w =
+      let s = all-at (SlotJob S now) js₀ i unused (b .each) (omega (arith, b .fits .all)) in
+      record {
+        settings = S;
+        xs = take i js;
+        ys = drop (i + 1) js;
+        fits = subst (Slots S now) split (v .fits);
+        plan = v .plan ∙ ap (λ (ks : List Job). stored (profile (S .nodes) (spans S ks) now)) split;
+        waits = w;
+        ahead = s .ahead w;
+        nodes-to = s .nodes-to;
+        hold-from = s .hold-from w;
+      }
+
+  more : slots - i ≡ suc (slots - (i + 1))
+  more = omega arith
+
+  same-next : (k : Job) → drop (i + 1) (set js i k) ≡ drop (i + 1) js₀
+  same-next k =
+      drop-set-lt (i + 1) js i k (omega arith)
+      ∙ sym (drop-drop 1 i js)
+      ∙ ap (drop 1) (v .same)
+      ∙ drop-drop 1 i js₀
+
+  -- one turn of the definition's loop
+  loop-turn : loop S now unused (slots - (i + 1)) (i + 1) (set js i (moved S now (take i js ++ drop (i + 1) js) j)) ≡ loop S now unused slots 0 js₀
+  unfolding loop
+  loop-turn =
+      ap (λ (k : Job). loop S now unused (slots - (i + 1)) (i + 1) (set js i (moved S now (take i js ++ drop (i + 1) js) k))) (sym here-is)
+      ∙ (rw more at (v .rest))
+
+  pub turn-taken : (w : isWaiting j ≡ true) (r : Replanned) → ((q : Replans p j now) → r ≡ replanned q) → Passing S now js₀ (set js i (r .job)) (i + 1) (r .profile)
+  unfolding replans
+  turn-taken w r f =
+      let q = replans w in
+      let job-is : r .job ≡ movedTo q = ap (λ (x : Replanned). x .job) (f q) in
+      let set-is : set js i (r .job) ≡ take i js ++ movedTo q ∷ drop (i + 1) js = ap (set js i) job-is ∙ set-split js i (movedTo q) in₀ ∙ rw (← add-one i) in
+      record {
+        low = omega arith;
+        fits = subst (Slots S now) (sym set-is) (fits-after q);
+        same = same-next (r .job);
+        rest = ap (λ (k : Job). loop S now unused (slots - (i + 1)) (i + 1) (set js i k)) job-is ∙ loop-turn;
+        plan = ap (λ (x : Replanned). x .profile) (f q) ∙ ap (λ (ks : List Job). stored (profile (S .nodes) (spans S ks) now)) (sym set-is);
+      }
+
+  pub turn-passed : isWaiting j ≡ false → Passing S now js₀ js (i + 1) p
+  turn-passed w =
+      let still : moved S now (take i js ++ drop (i + 1) js) j ≡ getD js i unused = rw w (sym here-is) in
+      let set-is : js ≡ set js i (moved S now (take i js ++ drop (i + 1) js) j) = sym (ap (set js i) still ∙ set-getD js i unused) in
+      record {
+        low = omega arith;
+        fits = v .fits;
+        same = ap (drop (i + 1)) set-is ∙ same-next (moved S now (take i js ++ drop (i + 1) js) j);
+        rest = ap (loop S now unused (slots - (i + 1)) (i + 1)) set-is ∙ loop-turn;
+        plan = v .plan;
+      }
+
+-- all turns are over
+pub pass-ends : {S : Settings} {now : ℕ} {js₀ js : List Job} {i : ℕ} {p : Profile} → Before S now js₀ → Passing S now js₀ js i p → slots ≤ i → js ≡ pass S now [] js₀
+unfolding loop
+pass-ends {S} {now} {js₀} {js} {i} b v h =
+    let none : slots - i ≡ 0 = omega arith in
+    let all : length js₀ ≡ slots = b .fits .all in
+    (rw none at (v .rest))
+    ∙ ap (λ (n : ℕ). loop S now unused n 0 js₀) (sym all)
+    ∙ pass-as-loop S now unused js₀ (λ k x. all-in (SlotJob S now) (b .each) x .nodes-to)
+
+-- ## On the model
+
+-- an unused slot takes nothing and stays unused
+pass-same : (S : Settings) (now k : ℕ) (done : List Job) → pass S now done (replicate k unused) ≡ replicate k unused
+unfolding pass
+pass-same S now zero done = refl
+pass-same S now (suc k) done = ap (λ (l : List Job). unused ∷ l) (pass-same S now k (unused ∷ done))
+
+used-none : (S : Settings) (t k : ℕ) → used t (spans S (replicate k unused)) ≡ 0
+used-none S t zero = refl
+used-none S t (suc k) = omega (arith, takes-unused S t, used-none S t k)
+
+pub pass-length : (S : Settings) (now : ℕ) (done js : List Job) → length (pass S now done js) ≡ length js
+unfolding pass
+pass-length S now done [] = refl
+pass-length S now done (j ∷ js) = ap suc (pass-length S now (moved S now (done ++ js) j ∷ done) js)
+
+pass-append : (S : Settings) (now k : ℕ) (done js : List Job) → All (λ (j : Job). j .nodes ≤ S .nodes) js → pass S now done (js ++ replicate k unused) ≡ pass S now done js ++ replicate k unused
+unfolding pass
+pass-append S now k done [] a = pass-same S now k done
+pass-append S now k done (j ∷ js) a =
+    let same : moved S now (done ++ (js ++ replicate k unused)) j ≡ moved S now (done ++ js) j = moved-same S now (done ++ (js ++ replicate k unused)) (done ++ js) j (a .0) (λ t l. omega (arith, used-append S t done (js ++ replicate k unused), used-append S t js (replicate k unused), used-append S t done js, used-none S t k)) in
+    rw same (ap (λ (l : List Job). moved S now (done ++ js) j ∷ l) (pass-append S now k (moved S now (done ++ js) j ∷ done) js (a .1)))
+
+pub pass-stored : (m : Model) → Replannable m → withJobs (store m) (pass (m .settings) (m .clock) [] (store m .jobs)) ≡ store (withModelJobs m (pass (m .settings) (m .clock) [] (m .jobs)))
+unfolding store pad
+pass-stored m r =
+    let nodes = all-of (λ (j : Job). j .nodes ≤ m .settings .nodes) (m .jobs) (λ j i. r .planned .sound .each j i .nodes-to) in
+    ap (withJobs (store m))
+    (pass-append (m .settings) (m .clock) (slots - length (m .jobs)) [] (m .jobs) nodes
+    ∙ ap (λ (n : ℕ). pass (m .settings) (m .clock) [] (m .jobs) ++ replicate (slots - n) unused) (sym (pass-length (m .settings) (m .clock) [] (m .jobs))))
