@@ -5,3 +5,4 @@ pub mod Replan
 pub mod Pass
 pub mod Complete
 pub mod Tick
+pub mod Show

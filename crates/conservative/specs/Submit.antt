@@ -34,7 +34,7 @@ use Rattle.scheduler.specs.declared.Select.the-variants.{Live as Live-select}
 use Rattle.scheduler.specs.Answers.{refusedOutcome}
 use Rattle.jobs.specs.Sound.{Fit, submit-fit, all-live}
 use Rattle.jobs.specs.Premise.{Holds, refused-held}
-use Rattle.profile.specs.Stored.{stored, Small, Readable, profile-readable, scanned, scanned-profile}
+use Rattle.profile.specs.Stored.{stored, Small, Readable, profile-fits, profile-readable, scanned, scanned-profile}
 use Rattle.conservative_rules.specs.Valid.{Valid}
 use Rattle.conservative_rules.specs.Faithful.{eight-never}
 use Rattle.conservative.specs.Slots.{all-spans}
@@ -100,6 +100,12 @@ module _ (m : Model) (n e : ℕ) where
   submit-taken a h = rw (refusal-is, a, le-ltb (horizon (m .settings)) (planned m n e + holdTime (m .settings) e) h)
 
 -- ## What the code computes, on a scheduler that holds a valid model
+
+-- the profile fits its array
+pub points-fit : (d : Scheduler) → Holds Valid d → length (points (view d)) ≤ 129
+points-fit d h =
+    profile-fits (view d .settings .nodes) (spans (view d .settings) (view d .jobs)) (view d .clock)
+    (omega (arith, h .holds .sound .few, length-map (view d .jobs) (span (view d .settings))))
 
 module _ (d : Scheduler) (n e : ℕ) (h : Holds Valid d) where
   abbrev m : Model
