@@ -73,7 +73,7 @@ opening-valid o e =
 
 -- ## Settling
 
-begin-ready : (m : Model) (j : Job) → Ready m → Chosen m j → Ready (begin (j .ticket) m)
+pub begin-ready : (m : Model) (j : Job) → Ready m → Chosen m j → Ready (begin (j .ticket) m)
 begin-ready m j r c = record {
   kind = r .kind;
   sound =

@@ -1,4 +1,5 @@
 pub mod Rules
 pub mod Statement
 pub mod Proof
+pub mod Premise
 pub mod Marked

@@ -1,0 +1,52 @@
+use Rattle.guarantees.specs.Premise.{premise-sound}
+use Rattle.scheduler.specs.Refusals.{waitRefusal}
+use Rattle.scheduler.specs.Answers.{verdict}
+use Rattle.scheduler.specs.Model.{view}
+use Rattle.scheduler.specs.Limits.{longest, outside}
+use Rattle.lists.specs.Tests.{neither}
+use borrow.Author.Tests.{lt-ltb, le-ltb, ltb-false}
+use lib.Dec.{ltb}
+use native.Mathlib.Omega.{arith}
+use mathlib.Core.Bool.{true, false}
+use mathlib.Core.Path.{_≡_, sym, _∙_}
+use borrow.Author.Needs.{needs}
+use Rattle.calls.proofs.wait_refusal.Statement.{statement}
+use Rattle.calls.proofs.wait_refusal.Tie as tie
+use Rattle.calls.proofs.wait_refusal.Reads as reads
+use Rattle.calls.proofs.wait_refusal.Lts as lts
+use Rattle.scheduler.proofs.outside_range.Reads as outside-range-reads
+
+outside-range-requires : tie.Need-outside-range-requires
+outside-range-requires c κs = search needs
+
+returns : tie.Need-returns
+unfolding waitRefusal verdict view
+returns c =
+    let s = c .before .before in
+    let t : outside 1 longest (s .args .minutes) ≡ true = sym (c .before .outside-range .ensures) ∙ c .if1 .taken in
+    rw t
+
+add-if2 : tie.Need-add-if2
+unfolding view
+add-if2 c =
+    let s = c .before .before .before in
+    let t : outside 1 longest (s .args .minutes) ≡ false = sym (c .before .before .outside-range .ensures) ∙ c .before .if1 .left in
+    let n = neither (ltb (s .args .minutes) 1) (ltb longest (s .args .minutes)) t in
+    omega (arith, premise-sound (s .args .d) (s .pre) .clock-to, ltb-false longest (s .args .minutes) (n .1))
+
+returns-2 : tie.Need-returns-2
+unfolding waitRefusal verdict view
+returns-2 c =
+    let s = c .before .before .before .before in
+    let t : outside 1 longest (s .args .minutes) ≡ false = sym (c .before .before .before .outside-range .ensures) ∙ c .before .before .if1 .left in
+    rw (t, lt-ltb _ _ (c .if2 .taken))
+
+returns-3 : tie.Need-returns-3
+unfolding waitRefusal verdict view
+returns-3 c =
+    let s = c .before .before .before .before in
+    let t : outside 1 longest (s .args .minutes) ≡ false = sym (c .before .before .before .outside-range .ensures) ∙ c .before .before .if1 .left in
+    rw (t, le-ltb _ _ (c .if2 .left))
+
+pub wait-refusal-spec : {M : Type 1} → statement M
+wait-refusal-spec = tie.close (tie.spec outside-range-requires returns add-if2 returns-2 returns-3)

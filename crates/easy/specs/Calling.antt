@@ -1,0 +1,153 @@
+-- Each call: refused, or what it does before it settles.
+-- Assumes nothing.
+use Prim.Native.Nat.{ℕ, suc, _+_, _≤_, _<_}
+use native.Mathlib.Omega.{arith}
+use native.Mathlib.Numerals.{add-one}
+use mathlib.Core.Path.{_≡_, refl, sym, ap, _∙_}
+use mathlib.Core.Bool.{Bool, true, false}
+use mathlib.Core.List.{List, [], _∷_, _++_}
+use lib.Dec.{ltb, eqb}
+use lib.ListN.{length}
+use borrow.Author.Tests.{lt-ltb, le-ltb, ltb-false, eq-eqb, ne-eqb}
+use Rattle.lists.specs.Tests.{case}
+use Rattle.lists.specs.Lists.{any}
+use Rattle.lists.specs.Loops.{positionFrom}
+use Rattle.scheduler.specs.declared.Job.{Job}
+use Rattle.scheduler.specs.declared.Refusal.{Refusal}
+use Rattle.scheduler.specs.declared.Scheduler.{Scheduler}
+use Rattle.scheduler.specs.declared.Submission.{Submission}
+use Rattle.scheduler.specs.declared.Slot.the-variants.{At, Nowhere}
+use Rattle.scheduler.specs.Jobs.{picks}
+use Rattle.scheduler.specs.Limits.{horizon}
+use Rattle.scheduler.specs.Table.{slot, counted, located, appended}
+use Rattle.scheduler.specs.Model.{store, view, joined, withModelJobs}
+use Rattle.scheduler.specs.TableLaws.{located-stored, live-stored, appended-stored}
+use Rattle.scheduler.specs.Answers.{code, verdict, accepts, outcome, refuse, refusedOutcome}
+use Rattle.scheduler.specs.Refusals.{completeRefusal, tickRefusal}
+use Rattle.scheduler.specs.declared.Select.{Select}
+use Rattle.scheduler.specs.declared.Refusal.the-variants as refusal
+use Rattle.scheduler.specs.declared.Select.the-variants as select
+use Rattle.jobs.specs.Sound.{Sound, Fit, passed, submit-fit, all-live}
+use Rattle.jobs.specs.Premise.{Holds}
+use Rattle.history.specs.Calls.{submit, complete, tick}
+use Rattle.easy_rules.specs.Easy.{finished, newJob, submitRefusal, advanced, call}
+use Rattle.easy_rules.specs.Valid.{Ready, Valid, latestEnd, submits, completes, ticks, moved-ready}
+use Rattle.easy.specs.Slots.{slots-are}
+use Rattle.easy.specs.Starting.{valid-sound}
+use Rattle.easy.specs.Replies.{Leaves}
+use Rattle.easy.specs.Replying.{withClock}
+use Rattle.easy.specs.Quiet.{quiet-tick}
+
+-- a refused call hands the scheduler back as it was
+refused-is : (d : Scheduler) → d ≡ store (view d) → (r : Refusal) → refusedOutcome d r ≡ outcome (refuse (view d) r)
+refused-is d e r = ap (λ (x : Scheduler). refusedOutcome x r) e
+
+accepts-code : (r : Refusal) → accepts r ≡ eqb (code r) 0
+accepts-code refusal.None = refl
+accepts-code refusal.NodesOutOfRange = refl
+accepts-code refusal.MinutesOutOfRange = refl
+accepts-code refusal.OpeningOutOfRange = refl
+accepts-code refusal.Full = refl
+accepts-code refusal.NoTicketLeft = refl
+accepts-code refusal.PastHorizon = refl
+accepts-code refusal.NotRunning = refl
+accepts-code refusal.ProfileTooLong = refl
+accepts-code refusal.Malformed = refl
+accepts-code refusal.TooShort = refl
+
+-- ## Submission
+
+-- the live jobs, over the slots and in the model
+pub slots-live : (d : Scheduler) → Holds Sound d → counted select.Live (d .jobs) ≡ length (view d .jobs)
+slots-live d h = ap (counted select.Live) (slots-are d h) ∙ live-stored (view d) (all-live (view d) (h .holds))
+
+abbrev pub withNext : Scheduler → ℕ → Scheduler
+withNext d t = record { kind = d .kind; nodes = d .nodes; clock = d .clock; next = t; jobs = d .jobs }
+
+pub join-stored : (d : Scheduler) (j : Job) → Holds Sound d → length (view d .jobs) < 64 → withNext (appended d j) (d .next + 1) ≡ store (joined (view d) j)
+unfolding store view
+join-stored d j h l =
+    ap (λ (x : Scheduler). withNext (appended x j) (d .next + 1)) (h .stored)
+    ∙ ap (λ (x : Scheduler). withNext x (d .next + 1)) (appended-stored (view d) j (all-live (view d) (h .holds)) l)
+    ∙ ap (λ (t : ℕ). withNext (store (withModelJobs (view d) (view d .jobs ++ (j ∷ [])))) t) (add-one (d .next))
+
+module _ (d : Scheduler) (x : Submission) (h : Holds Valid d) (why : Refusal) (w : why ≡ submitRefusal (view d) (x .nodes) (x .estimate)) where
+  pub submit-refused : (code why ≡ 0 → ⊥) → refusedOutcome d why ≡ outcome (call (view d) (submit (x .nodes) (x .estimate)))
+  unfolding call
+  submit-refused k = rw (← w, accepts-code why, ne-eqb (code why) 0 k) (refused-is d (h .stored) why)
+
+  module _ (k : code why ≡ 0) where
+    yields : accepts (submitRefusal (view d) (x .nodes) (x .estimate)) ≡ true
+    yields = rw (← w) (accepts-code why ∙ eq-eqb (code why) 0 k)
+
+    fitting : Fit (view d) (x .nodes) (x .estimate) × (accepts (verdict ((ltb horizon (latestEnd (view d) (x .estimate)), refusal.PastHorizon) ∷ [])) ≡ true)
+    unfolding submitRefusal
+    fitting = submit-fit (view d) (x .nodes) (x .estimate) ((ltb horizon (latestEnd (view d) (x .estimate)), refusal.PastHorizon) ∷ []) yields
+
+    pub submit-fits : Fit (view d) (x .nodes) (x .estimate)
+    submit-fits = fitting .0
+
+    pub submit-ready : Ready (joined (view d) (newJob (d .next) (x .nodes) (x .estimate)))
+    unfolding view
+    submit-ready =
+        let p = passed (ltb horizon (latestEnd (view d) (x .estimate))) refusal.PastHorizon [] refl (fitting .1) in
+        moved-ready (submits (x .nodes) (x .estimate) submit-fits (ltb-false horizon (latestEnd (view d) (x .estimate)) (p .0))) (h .holds)
+
+    pub submit-taken : outcome (finished (view d) (joined (view d) (newJob (d .next) (x .nodes) (x .estimate))) (d .next) []) ≡ outcome (call (view d) (submit (x .nodes) (x .estimate)))
+    unfolding view call
+    submit-taken = rw yields
+
+-- ## Is there one that a test picks
+
+any-nowhere : (p : Job → Bool) (k : ℕ) (js : List Job) → slot (positionFrom p k js) ≡ Nowhere → any p js ≡ false
+any-nowhere p k [] e = refl
+any-nowhere p k (j ∷ js) e = case (p j) (λ q. absurd (let w : At k ≡ Nowhere = rw q at e in let z : _≡_ {A = ℕ} 0 1 = cc in omega arith)) (λ q. rw q (any-nowhere p (k + 1) js (rw q at e)))
+
+any-at : (p : Job → Bool) (k i : ℕ) (js : List Job) → slot (positionFrom p k js) ≡ At i → any p js ≡ true
+any-at p k i [] e = absurd (let z : _≡_ {A = ℕ} 0 1 = cc in omega arith)
+any-at p k i (j ∷ js) e = case (p j) (λ q. rw q) (λ q. rw q (any-at p (k + 1) i js (rw q at e)))
+
+slots-found : (d : Scheduler) (which : Select) → Holds Valid d → located which (d .jobs) ≡ located which (view d .jobs)
+slots-found d which h = ap (located which) (slots-are d (valid-sound d h)) ∙ located-stored (view d) which
+
+-- ## Completion
+
+module _ (d : Scheduler) (t : ℕ) (h : Holds Valid d) where
+  pub complete-refused : Nowhere ≡ located (select.RunningTicket t) (d .jobs) → refusedOutcome d refusal.NotRunning ≡ outcome (call (view d) (complete t))
+  unfolding call completeRefusal verdict
+  complete-refused e = rw (any-nowhere (picks (select.RunningTicket t)) 0 (view d .jobs) (sym (e ∙ slots-found d (select.RunningTicket t) h))) (refused-is d (h .stored) refusal.NotRunning)
+
+  module _ (i : ℕ) (e : At i ≡ located (select.RunningTicket t) (d .jobs)) where
+    runs : any (picks (select.RunningTicket t)) (view d .jobs) ≡ true
+    runs = any-at (picks (select.RunningTicket t)) 0 i (view d .jobs) (sym (e ∙ slots-found d (select.RunningTicket t) h))
+
+    pub complete-leaves : Leaves d (d .clock) (select.RunningTicket t)
+    unfolding view
+    complete-leaves = record { sound = valid-sound d h; ready = moved-ready (completes t runs) (h .holds) }
+
+    pub complete-taken : outcome (advanced (view d) (d .clock) (select.RunningTicket t)) ≡ outcome (call (view d) (complete t))
+    unfolding view call completeRefusal verdict
+    complete-taken = rw runs
+
+-- ## Tick
+
+module _ (d : Scheduler) (h : Holds Valid d) where
+  pub tick-refused : horizon < d .clock + 1 → refusedOutcome d refusal.PastHorizon ≡ outcome (call (view d) tick)
+  unfolding view call tickRefusal verdict
+  tick-refused l = rw (lt-ltb horizon (suc (d .clock)) (omega arith)) (refused-is d (h .stored) refusal.PastHorizon)
+
+  module _ (l : d .clock + 1 ≤ horizon) where
+    pub tick-quiet : Nowhere ≡ located (select.EndingAt (d .clock + 1)) (d .jobs) → refusedOutcome (withClock d (d .clock + 1)) refusal.None ≡ outcome (call (view d) tick)
+    unfolding view store
+    tick-quiet e =
+        let n = any-nowhere (picks (select.EndingAt (d .clock + 1))) 0 (view d .jobs) (sym (e ∙ slots-found d (select.EndingAt (d .clock + 1)) h)) in
+        ap (λ (x : Scheduler). refusedOutcome (withClock x (d .clock + 1)) refusal.None) (h .stored)
+        ∙ rw add-one (ap outcome (sym (quiet-tick (view d) (h .holds) (omega arith) (rw add-one at n))))
+
+    pub tick-leaves : Leaves d (d .clock + 1) (select.EndingAt (d .clock + 1))
+    unfolding view
+    tick-leaves = rw add-one (record { sound = valid-sound d h; ready = moved-ready (ticks (omega arith)) (h .holds) })
+
+    pub tick-taken : outcome (advanced (view d) (d .clock + 1) (select.EndingAt (d .clock + 1))) ≡ outcome (call (view d) tick)
+    unfolding view call tickRefusal verdict
+    tick-taken = rw (add-one, le-ltb horizon (suc (d .clock)) (omega arith))

@@ -1,0 +1,10 @@
+pub mod Choice
+pub mod Slots
+pub mod Choosing
+pub mod Starts
+pub mod Starting
+pub mod Replies
+pub mod Replying
+pub mod Quiet
+pub mod Calling
+pub mod Premises

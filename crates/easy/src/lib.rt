@@ -1,0 +1,435 @@
+// EASY backfilling (document 01: "Loose Desk"): the three calls on a scheduler of this kind, by value.
+use scheduler::Answer;
+use scheduler::Job;
+use scheduler::Outcome;
+use scheduler::Refusal;
+use scheduler::Scheduler;
+use scheduler::Select;
+use scheduler::Slot;
+use scheduler::State;
+use scheduler::Submission;
+use scheduler::Tickets;
+ghost use mathlib.Core.Path.{_≡_};
+ghost use mathlib.Core.List.{List};
+ghost use Prim.Native.Nat.{ℕ, _+_, _<_, _≤_};
+ghost use Rattle.lists.specs.Loops.{position};
+ghost use Rattle.scheduler.specs.Limits.{horizon};
+ghost use Rattle.scheduler.specs.Settings.{Settings, until};
+ghost use Rattle.scheduler.specs.Table.{slot, tickets};
+ghost use Rattle.scheduler.specs.Model.{Model, view, store, joined};
+ghost use Rattle.scheduler.specs.Answers.{outcome};
+ghost use Rattle.jobs.specs.Sound.{Sound, Fit};
+ghost use Rattle.jobs.specs.Premise.{Holds};
+ghost use Rattle.history.specs.Calls.{submit, complete, tick};
+ghost use Rattle.easy_rules.specs.Easy.{head, free, freed, avail, shadow, choice, settled, forecast, finished, newJob, submitRefusal, advanced, call};
+ghost use Rattle.easy_rules.specs.Valid.{Ready, Valid, latestEnd};
+ghost use Rattle.easy_rules.specs.Code.{sooner};
+ghost use Rattle.easy.specs.Choice.{Lacks, jobAt, window, admits};
+ghost use Rattle.easy.specs.Starts.{startAt, push, settlement, Settles};
+ghost use Rattle.easy.specs.Replies.{ticketIn, announced, Leaves};
+
+// What a job that passes the head may use: the nodes free now until the shadow, and the extra nodes for any time.
+struct Window {
+    clock: u32,
+    free: u32,
+    shadow: u32,
+    extra: u32,
+}
+
+// The job that is head now and was not before, with its forecast; 0 where there is none.
+struct Announced {
+    ticket: u32,
+    minute: u32,
+}
+
+struct Settled {
+    started: Tickets,
+    scheduler: Scheduler,
+}
+
+// The minute from which the job's nodes are free again.
+fn end_of(job: Job) -> u32
+    requires { ⌜ job .start ≤ horizon ⌝ }
+    ensures { λ r. ⌜ ((S : Settings) → r ≡ until S job) ⌝ }
+{
+    job.start + walltime::wall_time(job.estimate)
+}
+
+// The nodes that the job, if it runs, has given back by this minute.
+fn freed(job: Job, minute: u32) -> u32
+    requires { ⌜ job .start ≤ horizon ⌝ }
+    ensures { λ r. ⌜ ((S : Settings) → r ≡ freed S minute job) ⌝ }
+{
+    let s = job.state;
+    match s {
+        State::Unused => 0,
+        State::Waiting => 0,
+        State::Running => {
+            if end_of(job) <= minute {
+                return job.nodes;
+            }
+            0
+        }
+    }
+}
+
+fn free_nodes(d: Scheduler) -> u32
+    requires { ⌜ Holds Sound d ⌝ }
+    ensures { λ r. ⌜ r ≡ free (view d) ⌝ }
+{
+    d.nodes - d.nodes_held()
+}
+
+// The nodes free now and those that running jobs have given back by this minute.
+fn avail_at(d: Scheduler, spare: u32, minute: u32) -> u32
+    requires { ⌜ Holds Sound d × (spare ≡ free (view d)) ⌝ }
+    ensures { λ r. ⌜ r ≡ avail (view d) minute ⌝ }
+{
+    let mut sum = spare;
+    let mut i: usize = 0;
+    while i < Scheduler::LIVE {
+        let j = d.jobs[i];
+        sum += freed(j, minute);
+        i += 1;
+    }
+    sum
+}
+
+// The job's end, if it runs, ends before the best minute so far, and the nodes suffice then; else that minute.
+fn sooner(d: Scheduler, spare: u32, nodes: u32, best: u32, job: Job) -> u32
+    requires { ⌜ Holds Sound d × (spare ≡ free (view d)) × (job .start ≤ horizon) ⌝ }
+    ensures { λ r. ⌜ r ≡ sooner (view d) nodes best job ⌝ }
+{
+    let s = job.state;
+    match s {
+        State::Unused => best,
+        State::Waiting => best,
+        State::Running => {
+            let end = end_of(job);
+            if best <= end {
+                return best;
+            }
+            if avail_at(d, spare, end) < nodes {
+                return best;
+            }
+            end
+        }
+    }
+}
+
+// The shadow: the smallest minute at which the nodes suffice for a head that needs more than are free now.
+fn shadow(d: Scheduler, spare: u32, nodes: u32) -> u32
+    requires { ⌜ Lacks d spare nodes ⌝ }
+    ensures { λ r. ⌜ r ≡ shadow (view d) nodes ⌝ }
+{
+    let mut best = d.clock + Scheduler::LONGEST;
+    let mut i: usize = 0;
+    while i < Scheduler::LIVE {
+        let j = d.jobs[i];
+        best = sooner(d, spare, nodes, best, j);
+        i += 1;
+    }
+    best
+}
+
+fn window_beside(d: Scheduler, spare: u32, nodes: u32) -> Window
+    requires { ⌜ Lacks d spare nodes ⌝ }
+    ensures { λ r. ⌜ r ≡ window (view d) nodes ⌝ }
+{
+    let minute = shadow(d, spare, nodes);
+    let then = avail_at(d, spare, minute);
+    Window {
+        clock: d.clock,
+        free: spare,
+        shadow: minute,
+        extra: then - nodes,
+    }
+}
+
+impl Window {
+    // Whether the job waits, fits now, and (i) is over by the shadow or (ii) needs no more than the extra nodes.
+    fn admits(self, job: Job) -> bool
+        requires { ⌜ self .clock ≤ horizon ⌝ }
+        ensures { λ r. ⌜ r ≡ admits self job ⌝ }
+    {
+        let s = job.state;
+        match s {
+            State::Unused => false,
+            State::Waiting => {
+                if self.free < job.nodes {
+                    return false;
+                }
+                if self.clock + walltime::wall_time(job.estimate) <= self.shadow {
+                    return true;
+                }
+                job.nodes <= self.extra
+            }
+            State::Running => false,
+        }
+    }
+}
+
+// The slot of the first waiting job that may pass the head.
+fn forward(d: Scheduler, w: Window) -> Slot
+    requires { ⌜ w .clock ≤ horizon ⌝ }
+    ensures { λ r. ⌜ r ≡ slot (position (admits w) (d .jobs)) ⌝ }
+{
+    let mut i: usize = 0;
+    while i < Scheduler::LIVE {
+        let j = d.jobs[i];
+        if w.admits(j) {
+            return Slot::At(i);
+        }
+        i += 1;
+    }
+    Slot::Nowhere
+}
+
+// The slot of the job that starts next: the head if its nodes are free now, else the first that may pass it.
+fn choose(d: Scheduler) -> Slot
+    requires { ⌜ Holds Sound d ⌝ }
+    ensures { λ r. ⌜ jobAt (d .jobs) r ≡ choice (view d) ⌝ }
+{
+    let first = d.locate(Select::Waiting);
+    match first {
+        Slot::Nowhere => Slot::Nowhere,
+        Slot::At(i) => {
+            let h = d.jobs[i];
+            let spare = free_nodes(d);
+            if h.nodes <= spare {
+                return Slot::At(i);
+            }
+            let w = window_beside(d, spare, h.nodes);
+            forward(d, w)
+        }
+    }
+}
+
+// The job in this slot starts now.
+fn start_at(d: Scheduler, i: usize) -> Scheduler
+    requires { ⌜ i < 64 ⌝ }
+    ensures { λ r. ⌜ r ≡ startAt d i ⌝ }
+{
+    let j = d.jobs[i];
+    let started = Job {
+        ticket: j.ticket,
+        nodes: j.nodes,
+        estimate: j.estimate,
+        state: State::Running,
+        start: d.clock,
+        promise: j.promise,
+    };
+    d.put(i, started)
+}
+
+fn push(t: Tickets, ticket: u32) -> Tickets
+    requires { ⌜ t .count < 64 ⌝ }
+    ensures { λ r. ⌜ r ≡ push t ticket ⌝ }
+{
+    let count = t.count;
+    let mut list = t.list;
+    list[count] = ticket;
+    Tickets {
+        count: count + 1,
+        list: list,
+    }
+}
+
+// Starts one job and settles again, until no job can start. The tickets handed in are followed by those of the jobs started.
+fn settle(d: Scheduler, started: Tickets) -> Settled
+    requires { ⌜ Settles d started ⌝ }
+    ensures { λ r. ⌜ r ≡ settlement (settled (view d)) started ⌝ }
+{
+    let next = choose(d);
+    match next {
+        Slot::Nowhere => Settled {
+            started: started,
+            scheduler: d,
+        },
+        Slot::At(i) => {
+            let j = d.jobs[i];
+            let more = push(started, j.ticket);
+            let e = start_at(d, i);
+            settle(e, more)
+        }
+    }
+}
+
+// The ticket of the head; 0 where nobody waits.
+fn head_ticket(d: Scheduler) -> u32
+    requires { ⌜ Holds Sound d ⌝ }
+    ensures { λ r. ⌜ r ≡ ticketIn (head (view d)) ⌝ }
+{
+    let first = d.locate(Select::Waiting);
+    match first {
+        Slot::Nowhere => 0,
+        Slot::At(i) => {
+            let h = d.jobs[i];
+            h.ticket
+        }
+    }
+}
+
+// The head and its forecast, if it is another than before.
+fn announce(before: u32, d: Scheduler) -> Announced
+    requires { ⌜ Holds Valid d ⌝ }
+    ensures { λ r. ⌜ ((b : Model) → before ≡ ticketIn (head b) → r ≡ announced (forecast b (view d))) ⌝ }
+{
+    let first = d.locate(Select::Waiting);
+    match first {
+        Slot::Nowhere => Announced {
+            ticket: 0,
+            minute: 0,
+        },
+        Slot::At(i) => {
+            let h = d.jobs[i];
+            if before == h.ticket {
+                return Announced {
+                    ticket: 0,
+                    minute: 0,
+                };
+            }
+            let spare = free_nodes(d);
+            Announced {
+                ticket: h.ticket,
+                minute: shadow(d, spare, h.nodes),
+            }
+        }
+    }
+}
+
+// A call that has done its own part settles, and answers.
+fn finish(before: u32, d: Scheduler, ticket: u32, ended: Tickets) -> Outcome
+    requires { ⌜ Holds Ready d ⌝ }
+    ensures { λ r. ⌜ ((b : Model) (ts : List ℕ) → before ≡ ticketIn (head b) → ended ≡ tickets ts → r ≡ outcome (finished b (view d) ticket ts)) ⌝ }
+{
+    let none = Tickets::none();
+    let s = settle(d, none);
+    let e = s.scheduler;
+    let started = s.started;
+    let head = announce(before, e);
+    let answer = Answer {
+        refusal: Refusal::None,
+        ticket: ticket,
+        promise: 0,
+        ended: ended,
+        started: started,
+        head: head.ticket,
+        forecast: head.minute,
+    };
+    Outcome {
+        answer: answer,
+        scheduler: e,
+    }
+}
+
+// Those that the test picks leave, the clock is set, and the others settle.
+fn advance(d: Scheduler, clock: u32, which: Select) -> Outcome
+    requires { ⌜ Leaves d clock which ⌝ }
+    ensures { λ r. ⌜ r ≡ outcome (advanced (view d) clock which) ⌝ }
+{
+    let before = head_ticket(d);
+    let gone = d.remove(which);
+    let mut e = gone.scheduler;
+    e.clock = clock;
+    let ended = gone.tickets;
+    finish(before, e, 0, ended)
+}
+
+// The latest minute at which a job of this estimate, submitted now, can end.
+fn latest_end(d: Scheduler, estimate: u32) -> u32
+    requires { ⌜ Holds Sound d ⌝ }
+    ensures { λ r. ⌜ r ≡ latestEnd (view d) estimate ⌝ }
+{
+    let rank = d.count(Select::Waiting) as u32 + 1;
+    d.clock + rank * Scheduler::LONGEST + walltime::wall_time(estimate)
+}
+
+// In document 01's order: 1, 2, 4, 5, 6.
+fn submit_refusal(d: Scheduler, s: Submission) -> Refusal
+    requires { ⌜ Holds Sound d ⌝ }
+    ensures { λ r. ⌜ r ≡ submitRefusal (view d) (s .nodes) (s .estimate) ⌝ }
+{
+    if scheduler::outside_range(s.nodes, 1, d.nodes) {
+        return Refusal::NodesOutOfRange;
+    }
+    if scheduler::outside_range(s.estimate, 1, Scheduler::LONGEST) {
+        return Refusal::MinutesOutOfRange;
+    }
+    if Scheduler::LIVE <= d.count(Select::Live) {
+        return Refusal::Full;
+    }
+    if Scheduler::LAST_TICKET < d.next {
+        return Refusal::NoTicketLeft;
+    }
+    if Scheduler::HORIZON < latest_end(d, s.estimate) {
+        return Refusal::PastHorizon;
+    }
+    Refusal::None
+}
+
+// The job submitted stands last, waiting, and the next ticket is one more.
+fn admit(d: Scheduler, s: Submission) -> Scheduler
+    requires { ⌜ Holds Sound d × Fit (view d) (s .nodes) (s .estimate) ⌝ }
+    ensures { λ r. ⌜ r ≡ store (joined (view d) (newJob (d .next) (s .nodes) (s .estimate))) ⌝ }
+{
+    let ticket = d.next;
+    let job = Job {
+        ticket: ticket,
+        nodes: s.nodes,
+        estimate: s.estimate,
+        state: State::Waiting,
+        start: 0,
+        promise: 0,
+    };
+    let mut e = d.append(job);
+    e.next = ticket + 1;
+    e
+}
+
+pub fn submit(d: Scheduler, s: Submission) -> Outcome
+    requires { ⌜ Holds Valid d ⌝ }
+    ensures { λ r. ⌜ r ≡ outcome (call (view d) (submit (s .nodes) (s .estimate))) ⌝ }
+{
+    let why = submit_refusal(d, s);
+    if why.code() != 0 {
+        return d.refused(why);
+    }
+    let before = head_ticket(d);
+    let e = admit(d, s);
+    let none = Tickets::none();
+    finish(before, e, d.next, none)
+}
+
+pub fn complete(d: Scheduler, ticket: u32) -> Outcome
+    requires { ⌜ Holds Valid d ⌝ }
+    ensures { λ r. ⌜ r ≡ outcome (call (view d) (complete ticket)) ⌝ }
+{
+    let which = Select::RunningTicket(ticket);
+    let found = d.locate(which);
+    match found {
+        Slot::Nowhere => d.refused(Refusal::NotRunning),
+        Slot::At(_) => advance(d, d.clock, which),
+    }
+}
+
+pub fn tick(d: Scheduler) -> Outcome
+    requires { ⌜ Holds Valid d ⌝ }
+    ensures { λ r. ⌜ r ≡ outcome (call (view d) tick) ⌝ }
+{
+    let clock = d.clock + 1;
+    if Scheduler::HORIZON < clock {
+        return d.refused(Refusal::PastHorizon);
+    }
+    let which = Select::EndingAt(clock);
+    let ends = d.locate(which);
+    match ends {
+        // No job ends, so none can start.
+        Slot::Nowhere => {
+            let mut e = d;
+            e.clock = clock;
+            e.refused(Refusal::None)
+        }
+        Slot::At(_) => advance(d, clock, which),
+    }
+}
