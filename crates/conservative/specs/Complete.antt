@@ -28,46 +28,8 @@ use Rattle.jobs.specs.Premise.{Holds, store-holds, refused-held}
 use Rattle.history.specs.Calls.{complete}
 use Rattle.conservative_rules.specs.Conservative.{begun, pass, call, completed, advanced}
 use Rattle.conservative_rules.specs.Valid.{Valid, used-staying}
+use Rattle.conservative.specs.Advance.{advancedBy, advanced-stored}
 use Rattle.conservative.specs.Pass.{Replannable, pass-stored, pass-length}
-
--- it waits before and runs after
-abbrev pub began : Job → Job → Bool
-began j k = isWaiting j && isRunning k
-
--- one slot more of both
-begun-more : (i : ℕ) (js ks : List Job) → i < length js → i < length ks
-    → begun (take (suc i) js) (take (suc i) ks) ≡ begun (take i js) (take i ks) ++ oneIf (began (getD js i unused) (getD ks i unused)) (getD js i unused .ticket)
-begun-more i [] ks a b = absurd (omega arith)
-begun-more i (j ∷ js) [] a b = absurd (omega arith)
-begun-more zero (j ∷ js) (k ∷ ks) a b = refl
-begun-more (suc i) (j ∷ js) (k ∷ ks) a b =
-    case (began j k)
-    (λ e. rw e (ap (λ (l : List ℕ). j .ticket ∷ l) (begun-more i js ks (omega arith) (omega arith))))
-    (λ e. rw e (begun-more i js ks (omega arith) (omega arith)))
-
-pub begun-yes : (i : ℕ) (js ks : List Job) → i < length js → i < length ks → began (getD js i unused) (getD ks i unused) ≡ true
-    → begun (take (i + 1) js) (take (i + 1) ks) ≡ begun (take i js) (take i ks) ++ (getD js i unused .ticket ∷ [])
-begun-yes i js ks a b e = rw (add-one, begun-more i js ks a b, e)
-
-pub begun-no : (i : ℕ) (js ks : List Job) → i < length js → i < length ks → began (getD js i unused) (getD ks i unused) ≡ false
-    → begun (take (i + 1) js) (take (i + 1) ks) ≡ begun (take i js) (take i ks)
-begun-no i js ks a b e = rw (add-one, begun-more i js ks a b, e) (append-nil (begun (take i js) (take i ks)))
-
--- unused slots begin nothing
-begun-same : (k l : ℕ) → begun (replicate k unused) (replicate l unused) ≡ []
-begun-same zero l = refl
-begun-same (suc k) zero = refl
-begun-same (suc k) (suc l) = begun-same k l
-
-begun-append : (js ks : List Job) (a b : ℕ) → length js ≡ length ks → begun (js ++ replicate a unused) (ks ++ replicate b unused) ≡ begun js ks
-begun-append [] [] a b e = begun-same a b
-begun-append [] (k ∷ ks) a b e = absurd (omega arith)
-begun-append (j ∷ js) [] a b e = absurd (omega arith)
-begun-append (j ∷ js) (k ∷ ks) a b e = rw (begun-append js ks a b (omega arith))
-
-begun-pad : (js ks : List Job) → length js ≡ length ks → begun (pad slots unused js) (pad slots unused ks) ≡ begun js ks
-unfolding pad
-begun-pad js ks e = begun-append js ks (slots - length js) (slots - length ks) e
 
 -- a test that picks somebody
 any-some : (p : Job → Bool) (js : List Job) → (length (keep p js) ≡ 0 → ⊥) → any p js ≡ true
@@ -81,26 +43,10 @@ any-none p (j ∷ js) e = case (p j) (λ q. absurd (let z = rw q at e in omega a
 -- what the code computes: the jobs that the test picks have left, and the others have their turns
 abbrev completesBy : Removed → Outcome
 completesBy r =
-    let after = withJobs (r .scheduler) (pass (view (r .scheduler) .settings) (r .scheduler .clock) [] (r .scheduler .jobs)) in
-    record {
-      answer = record {
-        refusal = refusal.None;
-        ticket = 0;
-        promise = 0;
-        ended = r .tickets;
-        started = tickets (begun (r .scheduler .jobs) (after .jobs));
-        head = 0;
-        forecast = 0;
-      };
-      scheduler = after;
-    }
+    advancedBy (r .tickets) (r .scheduler) (withJobs (r .scheduler) (pass (view (r .scheduler) .settings) (r .scheduler .clock) [] (r .scheduler .jobs)))
 
 abbrev pub completes : Scheduler → ℕ → Outcome
 completes d t = completesBy (removed d (select.RunningTicket t))
-
-begun-stored : (m : Model) (ks : List Job) → length (m .jobs) ≡ length ks → begun (store m .jobs) (store (withModelJobs m ks) .jobs) ≡ begun (m .jobs) ks
-unfolding store
-begun-stored m ks e = begun-pad (m .jobs) ks e
 
 module _ (d : Scheduler) (t : ℕ) (h : Holds Valid d) where
   abbrev m : Model
@@ -134,22 +80,15 @@ module _ (d : Scheduler) (t : ℕ) (h : Holds Valid d) where
   unfolding view store
   pass-is = pass-stored rest replannable
 
-  started-is : begun (store rest .jobs) (pass (view (store rest) .settings) (store rest .clock) [] (store rest .jobs)) ≡ begun (rest .jobs) (after-pass .jobs)
-  started-is =
-      ap (λ (e : Scheduler). begun (store rest .jobs) (e .jobs)) pass-is
-      ∙ begun-stored rest (after-pass .jobs) (sym (pass-length (rest .settings) (rest .clock) [] (rest .jobs)))
-
   abbrev gone : List Job
   gone = keep (picks (select.RunningTicket t)) (m .jobs)
 
   pub taken-held : (length (ticketsOf gone) ≡ 0 → ⊥) → completes d t ≡ outcome (call m (complete t))
-  unfolding call completeRefusal verdict completed advanced
+  unfolding call completeRefusal verdict completed
   taken-held n =
       ap completesBy left-is
-      ∙ (λ i. record {
-        answer = record { refusal = refusal.None; ticket = 0; promise = 0; ended = tickets (ticketsOf gone); started = tickets (started-is i); head = 0; forecast = 0 };
-        scheduler = pass-is i;
-      })
+      ∙ ap (advancedBy (tickets (ticketsOf gone)) (store rest)) pass-is
+      ∙ advanced-stored m (m .clock) (select.RunningTicket t) (after-pass .jobs) (sym (pass-length (rest .settings) (rest .clock) [] (rest .jobs)))
       ∙ rw (any-some (picks (select.RunningTicket t)) (m .jobs) (λ e. n (length-map gone ticketOf ∙ e)))
 
   pub refused-call : length (ticketsOf gone) ≡ 0 → refusedOutcome d refusal.NotRunning ≡ outcome (call m (complete t))

@@ -25,7 +25,7 @@ use Rattle.profile.specs.Laid.{Laid, laid-reserve, laid-release}
 use Rattle.conservative_rules.specs.Conservative.{span, spans, placed, moved}
 use Rattle.conservative_rules.specs.Valid.{Follows, follows-start, moved-follows, used-append}
 use Rattle.conservative.specs.Slots.{Slots, all-spans}
-use Rattle.conservative.specs.Turn.{startsAt, turned-other}
+use Rattle.conservative.specs.Turn.{turned-other}
 
 -- p is the profile of the slots xs, j and ys, and j waits
 pub record Replans (p : Profile) (j : Job) (now : ℕ) : Type 0 where

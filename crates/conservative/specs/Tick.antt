@@ -5,21 +5,23 @@ use mathlib.Core.Bool.{true, false}
 use Prim.Native.Nat.{ℕ, suc, _+_, _≤_, _<_}
 use native.Mathlib.Numerals.{add-one}
 use native.Mathlib.Omega.{arith}
-use lib.ListN.{length}
+use mathlib.Core.List.{map}
+use lib.ListN.{length, length-map}
 use borrow.Author.Tests.{le-ltb, lt-ltb}
 use Rattle.scheduler.specs.declared.Refusal.the-variants as refusal
 use Rattle.scheduler.specs.declared.Scheduler.{Scheduler}
 use Rattle.scheduler.specs.declared.Select.the-variants as select
 use Rattle.scheduler.specs.declared.Outcome.{Outcome}
 use Rattle.scheduler.specs.Settings.{horizon, slots}
-use Rattle.scheduler.specs.Table.{removed}
+use Rattle.scheduler.specs.Table.{withJobs, removed}
 use Rattle.scheduler.specs.TableLaws.{removed-stored}
 use Rattle.scheduler.specs.Model.{Model, store, without}
 use Rattle.scheduler.specs.Answers.{outcome, refuse, verdict}
 use Rattle.scheduler.specs.Refusals.{tickRefusal}
 use Rattle.history.specs.Calls.{tick}
-use Rattle.conservative_rules.specs.Conservative.{call, ticked, advanced}
-use Rattle.conservative.specs.Turn.{turn, turn-stored}
+use Rattle.conservative_rules.specs.Conservative.{call, ticked, turned}
+use Rattle.conservative.specs.Turn.{turned-stored}
+use Rattle.conservative.specs.Advance.{advancedBy, advanced-stored}
 
 abbrev later : Scheduler → Scheduler
 later d = record { kind = d .kind; nodes = d .nodes; clock = d .clock + 1; next = d .next; jobs = d .jobs }
@@ -28,11 +30,7 @@ later d = record { kind = d .kind; nodes = d .nodes; clock = d .clock + 1; next 
 abbrev ticksAt : Scheduler → ℕ → Outcome
 ticksAt d n =
     let r = removed d (select.EndingAt n) in
-    let t = turn n (r .scheduler) in
-    record {
-      answer = record { refusal = refusal.None; ticket = 0; promise = 0; ended = r .tickets; started = t .started; head = 0; forecast = 0 };
-      scheduler = t .scheduler;
-    }
+    advancedBy (r .tickets) (r .scheduler) (withJobs (r .scheduler) (map (turned n) (r .scheduler .jobs)))
 
 abbrev pub ticks : Scheduler → Outcome
 ticks d = ticksAt (later d) (d .clock + 1)
@@ -45,9 +43,13 @@ unfolding store
 ticks-begin m = rw (add-one (m .clock))
 
 pub ticks-stored : (m : Model) → length (m .jobs) ≤ slots (m .settings) → m .clock < horizon (m .settings) → ticks (store m) ≡ outcome (call m tick)
-unfolding call ticked advanced tickRefusal verdict
+unfolding call ticked tickRefusal verdict
 ticks-stored m few low =
-    ticks-begin m ∙ rw (removed-stored (next-minute m) (select.EndingAt (suc (m .clock))) few, turn-stored (suc (m .clock)) (without m (suc (m .clock)) (select.EndingAt (suc (m .clock)))), le-ltb (horizon (m .settings)) (suc (m .clock)) (omega arith))
+    let n = suc (m .clock) in
+    let rest = without m n (select.EndingAt n) in
+    ticks-begin m
+    ∙ rw (removed-stored (next-minute m) (select.EndingAt n) few, turned-stored n rest, le-ltb (horizon (m .settings)) n (omega arith))
+    (advanced-stored m n (select.EndingAt n) (map (turned n) (rest .jobs)) (sym (length-map (rest .jobs) (turned n))))
 
 pub tick-refused : (m : Model) → horizon (m .settings) ≤ m .clock → call m tick ≡ refuse m refusal.PastHorizon
 unfolding call tickRefusal verdict

@@ -7,26 +7,18 @@ use Prim.Native.Nat.{ℕ, zero, suc, _-_}
 use lib.Dec.{eqb}
 use lib.ListN.{length, replicate, length-map}
 use borrow.Author.Tests.{eqb-true}
-use Rattle.lists.specs.Tests.{case, true-false, both}
-use Rattle.lists.specs.Lists.{keep}
-use Rattle.lists.specs.Pads.{pad, keep-pad}
+use Rattle.lists.specs.Tests.{true-false}
+use Rattle.lists.specs.Pads.{pad}
 use Rattle.scheduler.specs.declared.State.{State}
 use Rattle.scheduler.specs.declared.State.the-variants.{Unused, Waiting, Running}
 use Rattle.scheduler.specs.declared.Job.{Job}
 use Rattle.scheduler.specs.declared.Scheduler.{Scheduler}
 use Rattle.scheduler.specs.Limits.{slots}
-use Rattle.scheduler.specs.Jobs.{unused, isWaiting, isRunning, waiting?, running?}
-use Rattle.scheduler.specs.Table.{withJobs, ticketsOf, tickets}
+use Rattle.scheduler.specs.Jobs.{unused, waiting?}
+use Rattle.scheduler.specs.Table.{withJobs}
 use Rattle.scheduler.specs.Model.{Model, store, withModelJobs}
-use Rattle.conservative_rules.specs.Conservative.{stateAt, placed, turned, begun}
-use Rattle.conservative.specs.declared.Moved.{Moved}
-
--- it waits, and its planned start is now
-abbrev pub startsAt : ℕ → Job → Bool
-startsAt now j = isWaiting j && eqb (j .start) now
-
-unfoldable pub turn : ℕ → Scheduler → Moved
-turn now d = record { started = tickets (ticketsOf (keep (startsAt now) (d .jobs))); scheduler = withJobs d (map (turned now) (d .jobs)) }
+use Rattle.conservative_rules.specs.Conservative.{placed, turned}
+use Rattle.conservative_rules.specs.Faithful.{startsAt}
 
 -- a job by its parts
 abbrev job : State → ℕ → Job → Job
@@ -50,25 +42,6 @@ turned-other now j e = go (j .state) e
     go Waiting q = ap (λ (t : Bool). job (cond t Running Waiting) (j .start) j) q
     go Running q = refl
 
--- those that start are those that wait before and run after
-pub begun-turned : (now : ℕ) (js : List Job) → begun js (map (turned now) js) ≡ ticketsOf (keep (startsAt now) js)
-begun-turned now [] = refl
-begun-turned now (j ∷ js) =
-    case (startsAt now j)
-    (λ e. rw (begins e, e, begun-turned now js))
-    (λ e. rw (stays e, e, begun-turned now js))
-  where
-    begins : startsAt now j ≡ true → (isWaiting j && isRunning (turned now j)) ≡ true
-    begins e = rw (both (isWaiting j) (eqb (j .start) now) e .0, both (isWaiting j) (eqb (j .start) now) e .1)
-
-    stays : startsAt now j ≡ false → (isWaiting j && isRunning (turned now j)) ≡ false
-    stays e = ap (λ (k : Job). isWaiting j && isRunning k) (turned-other now j e) ∙ go (j .state)
-      where
-        go : (s : State) → (waiting? s && running? s) ≡ false
-        go Unused = refl
-        go Waiting = refl
-        go Running = refl
-
 -- unused slots stay unused
 turned-same : (now k : ℕ) → map (turned now) (replicate k unused) ≡ replicate k unused
 turned-same now zero = refl
@@ -81,9 +54,6 @@ turned-pad now js =
     ∙ rw (turned-same now (slots - length js), length-map js (turned now))
 
 -- the slots of a stored model
-pub turn-stored : (now : ℕ) (m : Model) → turn now (store m) ≡ record { started = tickets (begun (m .jobs) (map (turned now) (m .jobs))); scheduler = store (withModelJobs m (map (turned now) (m .jobs))) }
-unfolding turn store
-turn-stored now m = λ i. record {
-  started = tickets ((ap ticketsOf (keep-pad slots unused (startsAt now) (m .jobs) refl) ∙ sym (begun-turned now (m .jobs))) i);
-  scheduler = withJobs (store m) (turned-pad now (m .jobs) i);
-}
+pub turned-stored : (now : ℕ) (m : Model) → withJobs (store m) (map (turned now) (store m .jobs)) ≡ store (withModelJobs m (map (turned now) (m .jobs)))
+unfolding store
+turned-stored now m = ap (withJobs (store m)) (turned-pad now (m .jobs))

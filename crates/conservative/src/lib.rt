@@ -4,20 +4,20 @@ ghost use Rattle.scheduler.specs.Model.{view};
 ghost use Rattle.scheduler.specs.Answers.{outcome};
 ghost use Rattle.jobs.specs.Premise.{Holds};
 ghost use Rattle.history.specs.Calls as calls;
-ghost use Rattle.conservative_rules.specs.Conservative.{call, placed, points, pass, begun};
+ghost use Rattle.conservative_rules.specs.Conservative.{call, placed, points, pass, begun, turned};
 ghost use Rattle.conservative_rules.specs.Valid.{Valid};
 ghost use Prim.Native.Nat.{_≤_, _<_};
 ghost use Rattle.scheduler.specs.Table.{counted, withJobs, tickets};
-ghost use mathlib.Core.List.{[]};
+ghost use mathlib.Core.List.{[], map};
 ghost use lib.ListN.{length};
 ghost use Rattle.profile.specs.Stored.{stored, pointsOf};
 ghost use Rattle.conservative.specs.Show.{over, minutesOf, freeOf, roomOf, shownTo, minutesIn, freeIn};
 ghost use Rattle.conservative.specs.Slots.{spanOf, Planned};
 ghost use Rattle.conservative.specs.Replan.{Replans};
 ghost use Rattle.conservative.specs.Pass.{replanned, Replannable};
-ghost use Rattle.conservative.specs.Complete.{began};
+ghost use Rattle.conservative.specs.Advance.{began, advancedBy};
 ghost use Rattle.conservative.specs.Submit.{accepted};
-ghost use Rattle.conservative.specs.Turn.{startsAt, turn};
+ghost use Rattle.conservative_rules.specs.Faithful.{startsAt};
 use profile::Profile;
 use scheduler::Answer;
 use scheduler::Job;
@@ -28,12 +28,6 @@ use scheduler::Select;
 use scheduler::State;
 use scheduler::Submission;
 use scheduler::Tickets;
-
-// A scheduler whose waiting jobs have been placed anew, and those that started by it.
-pub struct Moved {
-    pub started: Tickets,
-    pub scheduler: Scheduler,
-}
 
 // The nodes that a job takes, from its start until they are free again.
 fn span_of(job: Job) -> plan::Span
@@ -184,18 +178,11 @@ fn began(before: Job, after: Job) -> bool
     }
 }
 
-pub fn complete(d: Scheduler, ticket: u32) -> Outcome
-    requires { ⌜ Holds Valid d ⌝ }
-    ensures { λ r. ⌜ r ≡ outcome (call (view d) (calls.complete ticket)) ⌝ }
+// The outcome of a call after which some jobs have left and the others stand as in `after`.
+fn advance(ended: Tickets, before: Scheduler, after: Scheduler) -> Outcome
+    ensures { λ r. ⌜ r ≡ advancedBy ended before after ⌝ }
 {
-    let left = d.remove(Select::RunningTicket(ticket));
-    let ended = left.tickets;
-    if ended.count == 0 {
-        return d.refused(Refusal::NotRunning);
-    }
-    let rest = left.scheduler;
-    let scheduler = replan_all(rest);
-    let started = newly_running(rest, scheduler);
+    let started = newly_running(before, after);
     let answer = Answer {
         refusal: Refusal::None,
         ticket: 0,
@@ -207,8 +194,21 @@ pub fn complete(d: Scheduler, ticket: u32) -> Outcome
     };
     Outcome {
         answer: answer,
-        scheduler: scheduler,
+        scheduler: after,
     }
+}
+
+pub fn complete(d: Scheduler, ticket: u32) -> Outcome
+    requires { ⌜ Holds Valid d ⌝ }
+    ensures { λ r. ⌜ r ≡ outcome (call (view d) (calls.complete ticket)) ⌝ }
+{
+    let left = d.remove(Select::RunningTicket(ticket));
+    let ended = left.tickets;
+    if ended.count == 0 {
+        return d.refused(Refusal::NotRunning);
+    }
+    let rest = left.scheduler;
+    advance(ended, rest, replan_all(rest))
 }
 
 // The outcome of a submission that is taken in with the planned start: that start is its promise.
@@ -264,30 +264,19 @@ pub fn submit(d: Scheduler, s: Submission) -> Outcome
 }
 
 // The waiting jobs whose planned start is now start.
-fn start_due(d: Scheduler, now: u32) -> Moved
-    ensures { λ r. ⌜ r ≡ turn now d ⌝ }
+fn start_due(d: Scheduler, now: u32) -> Scheduler
+    ensures { λ r. ⌜ r ≡ withJobs d (map (turned now) (d .jobs)) ⌝ }
 {
     let mut e = d;
-    let mut list = [0u32; 64];
-    let mut n: usize = 0;
     let mut i: usize = 0;
     while i < Scheduler::LIVE {
         let j = d.jobs[i];
         if starts_at(j, now) {
             e.jobs[i] = place(j, now, now);
-            list[n] = j.ticket;
-            n += 1;
         }
         i += 1;
     }
-    let started = Tickets {
-        count: n,
-        list: list,
-    };
-    Moved {
-        started: started,
-        scheduler: e,
-    }
+    e
 }
 
 pub fn tick(d: Scheduler) -> Outcome
@@ -303,23 +292,7 @@ pub fn tick(d: Scheduler) -> Outcome
     later.clock = now;
     let left = later.remove(Select::EndingAt(now));
     let rest = left.scheduler;
-    let moved = start_due(rest, now);
-    let ended = left.tickets;
-    let started = moved.started;
-    let scheduler = moved.scheduler;
-    let answer = Answer {
-        refusal: Refusal::None,
-        ticket: 0,
-        promise: 0,
-        ended: ended,
-        started: started,
-        head: 0,
-        forecast: 0,
-    };
-    Outcome {
-        answer: answer,
-        scheduler: scheduler,
-    }
+    advance(left.tickets, rest, start_due(rest, now))
 }
 
 // What a profile call answers: how many points it wrote.

@@ -10,7 +10,7 @@ use Rattle.conservative.proofs.complete.Statement.{statement}
 use Rattle.conservative.proofs.complete.Tie as tie
 use Rattle.conservative.proofs.complete.Reads as reads
 use Rattle.conservative.proofs.complete.Lts as lts
-use Rattle.conservative.proofs.newly_running.Reads as newly-running-reads
+use Rattle.conservative.proofs.advance.Reads as advance-reads
 use Rattle.conservative.proofs.replan_all.Reads as replan-all-reads
 use Rattle.scheduler.proofs.Scheduler.refused.Reads as refused-reads
 use Rattle.scheduler.proofs.Scheduler.remove.Reads as remove-reads
@@ -35,8 +35,8 @@ replan-all-requires c κs =
     let k : c .before .before .before .before .remove .result ≡ removed (s .args .d) (select.RunningTicket (s .args .ticket)) = c .before .before .before .before .remove .ensures in
     rw (k ∙ left-is (s .args .d) (s .args .ticket) (s .pre)) (rest-held (s .args .d) (s .args .ticket) (s .pre))
 
-newly-running-requires : tie.Need-newly-running-requires
-newly-running-requires c κs = search needs
+advance-requires : tie.Need-advance-requires
+advance-requires c κs = search needs
 
 returns-2 : tie.Need-returns-2
 unfolding tickets
@@ -44,7 +44,7 @@ returns-2 c =
     let s = c .before .before .before .before .before .before .before in
     let k : c .before .before .before .before .before .before .remove .result ≡ removed (s .args .d) (select.RunningTicket (s .args .ticket)) = c .before .before .before .before .before .before .remove .ensures in
     let e = k ∙ left-is (s .args .d) (s .args .ticket) (s .pre) in
-    rw (c .newly-running .ensures, c .before .replan-all .ensures, k)
+    rw (c .advance .ensures, c .before .replan-all .ensures, k)
     (taken-held (s .args .d) (s .args .ticket) (s .pre) (λ z. c .before .before .before .if1 .left (ap (λ (r : Removed). r .tickets .count) e ∙ z)))
 
 pub complete-spec : {M : Type 1} → statement M
@@ -55,5 +55,5 @@ complete-spec =
     refused-requires
     returns
     replan-all-requires
-    newly-running-requires
+    advance-requires
     returns-2)

@@ -13,7 +13,7 @@ use Rattle.scheduler.specs.Jobs.{unused}
 use Rattle.scheduler.specs.Table.{tickets}
 use Rattle.scheduler.proofs.Whole.{whole}
 use Rattle.conservative_rules.specs.Conservative.{begun}
-use Rattle.conservative.specs.Complete.{began, begun-yes, begun-no}
+use Rattle.conservative.specs.Advance.{began, begun-yes, begun-no}
 use borrow.Author.Needs.{needs}
 use Rattle.conservative.proofs.newly_running.Statement.{statement}
 use Rattle.conservative.proofs.newly_running.Tie as tie

@@ -10,6 +10,12 @@ use Rattle.conservative.specs.Tick.{ticks, ticks-stored, tick-refused}
 use borrow.Author.Needs.{needs}
 use Rattle.conservative.proofs.tick.Statement.{statement}
 use Rattle.conservative.proofs.tick.Tie as tie
+use Rattle.conservative.proofs.tick.Reads as reads
+use Rattle.conservative.proofs.tick.Lts as lts
+use Rattle.conservative.proofs.advance.Reads as advance-reads
+use Rattle.conservative.proofs.start_due.Reads as start-due-reads
+use Rattle.scheduler.proofs.Scheduler.refused.Reads as refused-reads
+use Rattle.scheduler.proofs.Scheduler.remove.Reads as remove-reads
 
 refused-requires : tie.Need-refused-requires
 refused-requires c κs = search needs
@@ -30,17 +36,25 @@ remove-requires c κs = search needs
 start-due-requires : tie.Need-start-due-requires
 start-due-requires c κs = search needs
 
+advance-requires : tie.Need-advance-requires
+advance-requires c κs = search needs
+
 returns-2 : tie.Need-returns-2
 unfolding view
 returns-2 c =
-    let k = c .before .before .before in
-    let s = k .before .before .before .before in
+    let s = c .before .before .before .before .before in
     let d = s .args .d in
     let h = s .pre in
-    let few = h .holds .sound .few in
-    rw (k .start-due .ensures, k .before .before .remove .ensures) (ap ticks (h .stored) ∙ ticks-stored (view d) few (k .before .before .before .if1 .left))
+    rw (c .advance .ensures, c .before .start-due .ensures, c .before .before .before .remove .ensures) (ap ticks (h .stored) ∙ ticks-stored (view d) (h .holds .sound .few) (c .before .before .before .before .if1 .left))
 
 pub tick-spec : {M : Type 1} → statement M
 tick-spec =
     tie.close
-    (tie.spec refused-requires returns add-now remove-requires start-due-requires returns-2)
+    (tie.spec
+    refused-requires
+    returns
+    add-now
+    remove-requires
+    start-due-requires
+    advance-requires
+    returns-2)
