@@ -34,7 +34,8 @@ use Rattle.jobs.specs.Sound.{SoundJob}
 use Rattle.history.specs.Calls.{Call, submit, complete, tick, profile, refusedWait}
 use Rattle.conservative_rules.specs.Conservative.{span, spans, planned, newJob, withNew, points, maxPoints, submitRefusal, submitted, begun, advanced, moved, completed, turned, ticked, profileRefusal, call}
 use Rattle.conservative_rules.specs.Computed.{startOf, promiseOf}
-use Rattle.conservative_rules.specs.Valid.{Valid, zip-left, Follows, follows-ticket, follows-start, follows-promise, Outcome, idle, joins, leaves, outcome, judged-by, call-valid}
+use Rattle.jobs.specs.Judged.{judged-by, judged-refusal, judged-refused}
+use Rattle.conservative_rules.specs.Valid.{Valid, zip-left, Follows, follows-ticket, follows-start, follows-promise, Outcome, idle, joins, leaves, outcome, call-valid}
 use Rattle.conservative_rules.specs.Lawful.{runs-waits, waits-stays}
 use Rattle.conservative_rules.specs.Loops.{loop, pass-as-loop}
 
@@ -335,10 +336,6 @@ points-are m = profile-is (m .settings .nodes) (spans (m .settings) (m .jobs)) (
 -- ## Refusals
 
 -- "A refusal gives its number, no tickets, and the desk .. unchanged": a refused call is its refusal and nothing else
-judged-refused : (m : Model) (r : Refusal) (o : Result) → o .reply .refusal ≡ refusal.None → accepts (judged m r o .reply .refusal) ≡ false
-    → judged m r o ≡ refuse m (judged m r o .reply .refusal)
-judged-refused m r o n = judged-by (λ (x : Result). accepts (x .reply .refusal) ≡ false → x ≡ refuse m (x .reply .refusal)) m r o (λ e a. true-false true refl (rw n at a)) (λ e a. refl)
-
 pub refused-is : (m : Model) (c : Call) → accepts (call m c .reply .refusal) ≡ false → call m c ≡ refuse m (call m c .reply .refusal)
 unfolding call submitted completed ticked advanced
 refused-is m (submit n e) = let s = planned m n e in judged-refused m (submitRefusal m n e s) (submitted m n e s) refl
@@ -346,22 +343,6 @@ refused-is m (complete t) = judged-refused m (completeRefusal m t) (completed m 
 refused-is m tick = judged-refused m (tickRefusal m) (ticked m) refl
 refused-is m (profile room) = λ a. refl
 refused-is m (refusedWait w) = λ a. refl
-
-accepts-none : (r : Refusal) → accepts r ≡ true → r ≡ refusal.None
-accepts-none refusal.None e = refl
-accepts-none refusal.NodesOutOfRange e = true-false false e refl
-accepts-none refusal.MinutesOutOfRange e = true-false false e refl
-accepts-none refusal.OpeningOutOfRange e = true-false false e refl
-accepts-none refusal.Full e = true-false false e refl
-accepts-none refusal.NoTicketLeft e = true-false false e refl
-accepts-none refusal.PastHorizon e = true-false false e refl
-accepts-none refusal.NotRunning e = true-false false e refl
-accepts-none refusal.ProfileTooLong e = true-false false e refl
-accepts-none refusal.Malformed e = true-false false e refl
-accepts-none refusal.TooShort e = true-false false e refl
-
-judged-refusal : (m : Model) (r : Refusal) (o : Result) → o .reply .refusal ≡ refusal.None → judged m r o .reply .refusal ≡ r
-judged-refusal m r o n = judged-by (λ (x : Result). x .reply .refusal ≡ r) m r o (λ e. n ∙ sym (accepts-none r e)) (λ e. refl)
 
 -- 8 is "none known": 64 live jobs make at most 129 points, so the test that comes after "64 stacks live" never refuses
 few-points : (m : Model) (n e s : ℕ) → length (m .jobs) < limit.slots → length (points (withNew m n e s)) ≤ maxPoints

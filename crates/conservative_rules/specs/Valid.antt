@@ -33,6 +33,7 @@ use Rattle.scheduler.specs.Answers.{Result, accepts, refuse, refusing}
 use Rattle.scheduler.specs.Refusals.{judged, completeRefusal, tickRefusal}
 use Rattle.scheduler.specs.Opening.{openingRefusal, opening}
 use Rattle.jobs.specs.Order.{asc-same}
+use Rattle.jobs.specs.Judged.{judged-by}
 use Rattle.jobs.specs.Sound.{SoundJob, Sound, Fit, opening-sound, passed, submit-fit, sound-join, Leaving, early, in-time, sound-leave}
 use Rattle.history.specs.Calls.{Call, submit, complete, tick, profile, refusedWait}
 use Rattle.history.specs.Book.{clockAfter}
@@ -258,10 +259,6 @@ module _ (S : Settings) (now : ℕ) where
   turns-used t (j ∷ js) = omega (arith, turned-takes S now t j, turns-used t js)
 
 -- ### Every call comes out in one of these ways
-
--- what holds of an outcome where no test refuses it, and of the refusal where one does, holds of the call
-pub judged-by : (P : Result → Type 0) (m : Model) (r : Refusal) (o : Result) → (accepts r ≡ true → P o) → (accepts r ≡ false → P (refuse m r)) → P (judged m r o)
-judged-by P m r o f g = case (accepts r) (λ e. rw e (f e)) (λ e. rw e (g e))
 
 pub outcome : (m : Model) (c : Call) → Valid m → Outcome m c (call m c)
 unfolding call submitRefusal completeRefusal tickRefusal completed ticked advanced

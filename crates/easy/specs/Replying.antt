@@ -28,7 +28,7 @@ use Rattle.easy_rules.specs.Settling.{settles, settles-rest}
 use Rattle.easy_rules.specs.Valid.{Ready, Valid, settles-ready}
 use Rattle.easy.specs.declared.Announced.{Announced}
 use Rattle.easy.specs.declared.Settled.{Settled}
-use Rattle.easy.specs.Starts.{settlement, Settles}
+use Rattle.easy.specs.Starts.{settlement, Settleable}
 use Rattle.easy.specs.Starting.{sound-of, slots-waiting, settled-tickets}
 use Rattle.easy.specs.Replies.{ticketIn, announced}
 
@@ -56,7 +56,7 @@ module _ (b m : Model) where
 
 -- ## The settling
 
-pub ready-settles : (d : Scheduler) → Holds Ready d → Settles d noTickets
+pub ready-settles : (d : Scheduler) → Holds Ready d → Settleable d noTickets
 unfolding tickets
 ready-settles d h = record {
   ready = h;

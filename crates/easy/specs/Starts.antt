@@ -31,6 +31,6 @@ abbrev pub settlement : Settling → Tickets → Settled
 settlement s t = record { started = followed t (s .started); scheduler = store (s .model) }
 
 -- ready to settle, with room for the tickets of all that wait
-pub record Settles (d : Scheduler) (t : Tickets) : Type 0 where
+pub record Settleable (d : Scheduler) (t : Tickets) : Type 0 where
   pub ready : Holds Ready d
   pub room : t .count + counted select.Waiting (d .jobs) ≤ 64

@@ -25,10 +25,10 @@ ghost use Rattle.easy_rules.specs.Easy.{head, free, freed, avail, shadow, choic
 ghost use Rattle.easy_rules.specs.Valid.{Ready, Valid, latestEnd};
 ghost use Rattle.easy_rules.specs.Code.{sooner};
 ghost use Rattle.easy.specs.Choice.{Lacks, jobAt, window, admits};
-ghost use Rattle.easy.specs.Starts.{startAt, push, settlement, Settles};
+ghost use Rattle.easy.specs.Starts.{startAt, push, settlement, Settleable};
 ghost use Rattle.easy.specs.Replies.{ticketIn, announced, Leaves};
 
-// What a job that passes the head may use: the nodes free now until the shadow, and the extra nodes for any time.
+// What a job that passes the head may use: the free nodes until the shadow, and the extra nodes for any time.
 struct Window {
     clock: u32,
     free: u32,
@@ -42,6 +42,7 @@ struct Announced {
     minute: u32,
 }
 
+// The tickets of the jobs started, and the scheduler after them.
 struct Settled {
     started: Tickets,
     scheduler: Scheduler,
@@ -222,6 +223,7 @@ fn start_at(d: Scheduler, i: usize) -> Scheduler
     d.put(i, started)
 }
 
+// One ticket more.
 fn push(t: Tickets, ticket: u32) -> Tickets
     requires { ⌜ t .count < 64 ⌝ }
     ensures { λ r. ⌜ r ≡ push t ticket ⌝ }
@@ -237,7 +239,7 @@ fn push(t: Tickets, ticket: u32) -> Tickets
 
 // Starts one job and settles again, until no job can start. The tickets handed in are followed by those of the jobs started.
 fn settle(d: Scheduler, started: Tickets) -> Settled
-    requires { ⌜ Settles d started ⌝ }
+    requires { ⌜ Settleable d started ⌝ }
     ensures { λ r. ⌜ r ≡ settlement (settled (view d)) started ⌝ }
 {
     let next = choose(d);
@@ -424,7 +426,7 @@ pub fn tick(d: Scheduler) -> Outcome
     let which = Select::EndingAt(clock);
     let ends = d.locate(which);
     match ends {
-        // No job ends, so none can start.
+        // No job ends, so none can start: the answer is empty, and only the clock moves.
         Slot::Nowhere => {
             let mut e = d;
             e.clock = clock;

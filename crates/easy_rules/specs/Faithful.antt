@@ -25,6 +25,7 @@ use Rattle.scheduler.specs.Table.{ticketOf, ticketsOf}
 use Rattle.scheduler.specs.Model.{Model, joined}
 use Rattle.scheduler.specs.Answers.{Result, verdict, accepts, refusing, refuse}
 use Rattle.scheduler.specs.Refusals.{judged, completeRefusal, tickRefusal}
+use Rattle.jobs.specs.Judged.{judged-accepted, judged-refusal, judged-refused}
 use Rattle.jobs.specs.Order.{Asc}
 use Rattle.jobs.specs.Sound.{Sound, Fit}
 use Rattle.history.specs.Calls.{Call, submit, complete, tick, profile, refusedWait}
@@ -206,29 +207,9 @@ refusalOf m tick = tickRefusal m
 refusalOf m (profile room) = refusal.None
 refusalOf m (refusedWait r) = r
 
-accepts-none : (r : Refusal) → accepts r ≡ true → r ≡ refusal.None
-accepts-none refusal.None e = refl
-accepts-none refusal.NodesOutOfRange e = true-false false e refl
-accepts-none refusal.MinutesOutOfRange e = true-false false e refl
-accepts-none refusal.OpeningOutOfRange e = true-false false e refl
-accepts-none refusal.Full e = true-false false e refl
-accepts-none refusal.NoTicketLeft e = true-false false e refl
-accepts-none refusal.PastHorizon e = true-false false e refl
-accepts-none refusal.NotRunning e = true-false false e refl
-accepts-none refusal.ProfileTooLong e = true-false false e refl
-accepts-none refusal.Malformed e = true-false false e refl
-accepts-none refusal.TooShort e = true-false false e refl
-
 finished-none : (m mid : Model) (t : ℕ) (ts : List ℕ) → finished m mid t ts .reply .refusal ≡ refusal.None
 unfolding finished
 finished-none m mid t ts = refl
-
-module _ (m : Model) (r : Refusal) (o : Result) (e : o .reply .refusal ≡ refusal.None) where
-  judged-refusal : judged m r o .reply .refusal ≡ r
-  judged-refusal = case (accepts r) (λ a. rw a (e ∙ sym (accepts-none r a))) (λ a. rw a)
-
-  judged-same : accepts (judged m r o .reply .refusal) ≡ false → judged m r o ≡ refuse m (judged m r o .reply .refusal)
-  judged-same n = case (accepts r) (λ a. true-false (accepts (judged m r o .reply .refusal)) (ap accepts judged-refusal ∙ a) n) (λ a. rw a)
 
 pub refusal-is : (m : Model) (c : Call) → call m c .reply .refusal ≡ refusalOf m c
 unfolding call advanced
@@ -241,9 +222,9 @@ refusal-is m (refusedWait r) = refl
 -- A refused call leaves the model as it was, and gives its number and nothing else.
 pub refused-same : (m : Model) (c : Call) → accepts (call m c .reply .refusal) ≡ false → call m c ≡ refuse m (call m c .reply .refusal)
 unfolding call advanced
-refused-same m (submit n e) a = judged-same m (submitRefusal m n e) (finished m (joined m (newJob (m .next) n e)) (m .next) []) (finished-none m _ _ _) a
-refused-same m (complete t) a = judged-same m (completeRefusal m t) (advanced m (m .clock) (select.RunningTicket t)) (finished-none m _ _ _) a
-refused-same m tick a = judged-same m (tickRefusal m) (advanced m (suc (m .clock)) (select.EndingAt (suc (m .clock)))) (finished-none m _ _ _) a
+refused-same m (submit n e) a = judged-refused m (submitRefusal m n e) (finished m (joined m (newJob (m .next) n e)) (m .next) []) (finished-none m _ _ _) a
+refused-same m (complete t) a = judged-refused m (completeRefusal m t) (advanced m (m .clock) (select.RunningTicket t)) (finished-none m _ _ _) a
+refused-same m tick a = judged-refused m (tickRefusal m) (advanced m (suc (m .clock)) (select.EndingAt (suc (m .clock)))) (finished-none m _ _ _) a
 refused-same m (profile room) a = refl
 refused-same m (refusedWait r) a = refl
 
@@ -305,10 +286,6 @@ tick-because m =
     (λ e. rw (e, lt-ltb (horizon (m .settings)) (suc (m .clock)) (leb-false (suc (m .clock)) (horizon (m .settings)) e)))
 
 -- ## Ends
-
-module _ (m : Model) (r : Refusal) (o : Result) where
-  judged-accepted : accepts (judged m r o .reply .refusal) ≡ true → (accepts r ≡ true) × (judged m r o ≡ o)
-  judged-accepted e = case (accepts r) (λ a. (a, rw a)) (λ a. true-false (accepts r) (rw a at e) a)
 
 advanced-ended : (m : Model) (c : ℕ) (s : Select) → advanced m c s .reply .ended ≡ ticketsOf (keep (picks s) (m .jobs))
 unfolding advanced finished

@@ -1,3 +1,4 @@
 pub mod Order
 pub mod Sound
 pub mod Premise
+pub mod Judged

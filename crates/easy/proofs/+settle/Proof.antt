@@ -1,3 +1,5 @@
+-- `easy::settle` meets its contract, and ends: one job fewer waits at each call.
+-- Assumes nothing.
 use Prim.Native.Nat.{ℕ, _<_}
 use native.Mathlib.Omega.{arith}
 use mathlib.Core.Path.{_≡_, sym, ap, _∙_}

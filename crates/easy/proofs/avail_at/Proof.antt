@@ -1,3 +1,5 @@
+-- `easy::avail_at` meets its contract. The invariant: the sum and what the slots that are left have given back is the whole.
+-- Assumes nothing.
 use Prim.Native.Nat.{_+_, _-_, _≤_}
 use native.Mathlib.Omega.{arith}
 use mathlib.Core.Path.{_≡_}

@@ -1,3 +1,5 @@
+-- `easy::forward` meets its contract. The invariant: the first that the window admits is among the slots that are left.
+-- Assumes nothing.
 use Prim.Native.Nat.{_-_, _≤_, _<_}
 use native.Mathlib.Omega.{arith}
 use mathlib.Core.Path.{_≡_, sym, ap, _∙_}

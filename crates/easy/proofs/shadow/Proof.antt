@@ -1,3 +1,5 @@
+-- `easy::shadow` meets its contract. The invariant: the search over the slots that are left, from the best minute so far, finds the shadow.
+-- Assumes nothing.
 use Prim.Native.Nat.{_-_, _≤_, _<_}
 use native.Mathlib.Omega.{arith}
 use mathlib.Core.Path.{_≡_, sym, _∙_}
