@@ -2,4 +2,3 @@ pub mod Rules
 pub mod Statement
 pub mod Proof
 pub mod Premise
-pub mod Marked

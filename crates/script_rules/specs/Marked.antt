@@ -2,11 +2,11 @@
 -- Assumes nothing.
 use mathlib.Core.Path.{_≡_, refl}
 use mathlib.Core.Bool.{cond}
-use mathlib.Core.List.{List, [], _∷_, _++_, map}
+use mathlib.Core.List.{List, [], _∷_, map}
 use mathlib.Core.Option.{Option, none, some}
 use Prim.Native.Nat.{ℕ}
 use lib.Dec.{eqb}
-use lib.ListN.{drop, replicate}
+use lib.ListN.{drop}
 use Rattle.lists.specs.Lists.{All}
 use Rattle.plan.specs.Spans as plan
 use Rattle.walltime.specs.WallTime.{wallTime}
@@ -16,10 +16,17 @@ use Rattle.scheduler.specs.Answers.{Reply, Forecast, code, verdict}
 use Rattle.scheduler.specs.Refusals as refusals
 use Rattle.scheduler.specs.Model.{Model}
 use Rattle.scheduler.specs.Opening as opening
-use Rattle.history.specs.Calls.{Call, Request, ask, wait, submit, complete, tick, Event, events, after, allCalls}
+use Rattle.history.specs.Calls.{Request, ask, submit, Event, events, after, allCalls}
 use Rattle.conservative_rules.specs.Conservative as conservative
 use Rattle.easy_rules.specs.Easy as easy
 use Rattle.guarantees.specs.Rules.{call}
+use Rattle.text.specs.Fields.{fieldsOf}
+use Rattle.text.specs.Numbers as numbers
+use Rattle.text.specs.Words.{isWord}
+use Rattle.script_rules.specs.Lines.{linesOf}
+use Rattle.script_rules.specs.Reading as reading
+use Rattle.script_rules.specs.Writing as writing
+use Rattle.script_rules.specs.Printout as script
 
 -- an answer in numbers: the refusal's number; ticket and promise; tickets ended; tickets started; the new head and its forecast
 pub record Said : Type 0 where
@@ -61,12 +68,10 @@ third k n e = drop 2 (play k (ask (submit 6 20) ∷ ask (submit 8 10) ∷ ask (s
 abbrev with-jobs : List Request → Model
 with-jobs qs = after call (fresh Easy) (allCalls call (fresh Easy) qs)
 
-abbrev nothing : Said
-nothing = record { number = 0; took = []; over = []; start = []; head = [] }
-
 pub data Value : Type 0 where
   number : ℕ → Value
   answers : List Said → Value
+  bytes : List ℕ → Value
 
 pub record Row : Type 0 where
   pub got : Value
@@ -81,8 +86,41 @@ answered x y = record { got = answers x; want = answers y }
 abbrev took : List ℕ → List ℕ → List ℕ → Said
 took t s h = record { number = 0; took = t; over = []; start = s; head = h }
 
-abbrev ended : List ℕ → List ℕ → Said
-ended o s = record { number = 0; took = []; over = o; start = s; head = [] }
+-- the day sheet of the example; a space stands for a tab
+abbrev sheet : List ℕ
+sheet =
+    -- desk promise 10 0 1
+    100 ∷ 101 ∷ 115 ∷ 107 ∷ 9 ∷ 112 ∷ 114 ∷ 111 ∷ 109 ∷ 105 ∷ 115 ∷ 101 ∷ 9 ∷ 49 ∷ 48 ∷ 9 ∷ 48 ∷ 9 ∷ 49 ∷ 10 ∷
+    -- in 6 20
+    105 ∷ 110 ∷ 9 ∷ 54 ∷ 9 ∷ 50 ∷ 48 ∷ 10 ∷
+    -- in 8 10
+    105 ∷ 110 ∷ 9 ∷ 56 ∷ 9 ∷ 49 ∷ 48 ∷ 10 ∷
+    -- in 4 25
+    105 ∷ 110 ∷ 9 ∷ 52 ∷ 9 ∷ 50 ∷ 53 ∷ 10 ∷
+    -- end 1
+    101 ∷ 110 ∷ 100 ∷ 9 ∷ 49 ∷ 10 ∷
+    -- wait 30
+    119 ∷ 97 ∷ 105 ∷ 116 ∷ 9 ∷ 51 ∷ 48 ∷ 10 ∷ []
+
+-- what it prints
+abbrev sheetPrints : List ℕ
+sheetPrints =
+    -- took 1 0
+    116 ∷ 111 ∷ 111 ∷ 107 ∷ 9 ∷ 49 ∷ 9 ∷ 48 ∷ 10 ∷
+    -- start 1 0
+    115 ∷ 116 ∷ 97 ∷ 114 ∷ 116 ∷ 9 ∷ 49 ∷ 9 ∷ 48 ∷ 10 ∷
+    -- took 2 20
+    116 ∷ 111 ∷ 111 ∷ 107 ∷ 9 ∷ 50 ∷ 9 ∷ 50 ∷ 48 ∷ 10 ∷
+    -- took 3 30
+    116 ∷ 111 ∷ 111 ∷ 107 ∷ 9 ∷ 51 ∷ 9 ∷ 51 ∷ 48 ∷ 10 ∷
+    -- over 1 0
+    111 ∷ 118 ∷ 101 ∷ 114 ∷ 9 ∷ 49 ∷ 9 ∷ 48 ∷ 10 ∷
+    -- start 2 0
+    115 ∷ 116 ∷ 97 ∷ 114 ∷ 116 ∷ 9 ∷ 50 ∷ 9 ∷ 48 ∷ 10 ∷
+    -- over 2 10
+    111 ∷ 118 ∷ 101 ∷ 114 ∷ 9 ∷ 50 ∷ 9 ∷ 49 ∷ 48 ∷ 10 ∷
+    -- start 3 10
+    115 ∷ 116 ∷ 97 ∷ 114 ∷ 116 ∷ 9 ∷ 51 ∷ 9 ∷ 49 ∷ 48 ∷ 10 ∷ []
 
 unfoldable pub rows : List Row
 rows =
@@ -103,19 +141,32 @@ rows =
     ∷ answered (third Easy 3 21) (took (3 ∷ 0 ∷ []) [] [] ∷ [])
     -- "Loose, rack of 10, running 5 and 3 nodes, both to 20, head needing 4: extra is 6, not 3."
     ∷ gives (easy.extra (with-jobs (ask (submit 5 20) ∷ ask (submit 3 20) ∷ ask (submit 4 20) ∷ [])) 4) 6
-    -- the day sheet's example
-    ∷ answered
-    (play Conservative (ask (submit 6 20) ∷ ask (submit 8 10) ∷ ask (submit 4 25) ∷ ask (complete 1) ∷ wait 30 ∷ []))
-    (took (1 ∷ 0 ∷ []) (1 ∷ []) []
-    ∷ took (2 ∷ 20 ∷ []) [] []
-    ∷ took (3 ∷ 30 ∷ []) [] []
-    ∷ ended (1 ∷ []) (2 ∷ [])
-    ∷ (replicate 9 nothing ++ (ended (2 ∷ []) (3 ∷ []) ∷ replicate 20 nothing)))
+    -- "Input .. prints exactly", byte for byte
+    ∷ record { got = bytes (script.printout sheet); want = bytes sheetPrints }
     ∷ []
 
 pub marked : All (λ (r : Row). r .got ≡ r .want) rows
 unfolding
     rows
+    fieldsOf
+    isWord
+    numbers.digitsFrom
+    numbers.numberOf
+    numbers.decimalBy
+    numbers.decimalOf
+    linesOf
+    reading.hasForm
+    reading.kindOf
+    reading.openingIn
+    reading.requestIn
+    writing.row
+    writing.noRow
+    writing.rowsOf
+    writing.taken
+    writing.textOf
+    script.printedAll
+    script.played
+    script.printout
     opening.opening
     opening.openingRefusal
     verdict

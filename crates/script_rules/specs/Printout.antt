@@ -1,0 +1,60 @@
+-- The printout of a script, for every input. Document 01, "The day sheet and its printout".
+-- Assumes nothing.
+use mathlib.Core.Bool.{cond}
+use mathlib.Core.List.{List, [], _∷_, _++_}
+use mathlib.Core.Option.{Option, none, some}
+use Prim.Native.Nat.{ℕ}
+use lib.Dec.{ltb}
+use lib.ListN.{length}
+use Rattle.scheduler.specs.declared.Opening.{Opening}
+use Rattle.scheduler.specs.declared.Refusal.the-variants as refusal
+use Rattle.scheduler.specs.Model.{Model}
+use Rattle.scheduler.specs.Opening.{opening, openingRefusal}
+use Rattle.scheduler.specs.Answers.{accepts, code}
+use Rattle.history.specs.Calls.{Call, Request, after, callsOf}
+use Rattle.guarantees.specs.Rules.{call}
+use Rattle.script_rules.specs.Lines.{Line, linesOf}
+use Rattle.script_rules.specs.Reading.{openingOf, requestOf}
+use Rattle.script_rules.specs.Writing.{textOf, noRow}
+
+-- 9: "the line lacks the form above, or is a second `desk` line"
+abbrev pub malformed : List ℕ
+malformed = noRow (code refusal.Malformed)
+
+-- what one call prints
+abbrev pub printed : Model → Call → List ℕ
+printed m c = let r = call m c in textOf (m .settings .kind) (r .model .clock) (r .reply)
+
+unfoldable pub printedAll : Model → List Call → List ℕ
+printedAll m [] = []
+printedAll m (c ∷ cs) = printed m c ++ printedAll (call m c .model) cs
+
+-- the later lines, from a model on: "later ones print it and go on"
+abbrev pub calledBy : Model → Option Request → List Call
+calledBy m none = []
+calledBy m (some q) = callsOf m q
+
+abbrev pub printedBy : Model → Option Request → List ℕ
+printedBy m none = malformed
+printedBy m (some q) = printedAll m (callsOf m q)
+
+unfoldable pub played : Model → List Line → List ℕ
+played m [] = []
+played m (l ∷ ls) = printedBy m (requestOf l) ++ played (after call m (calledBy m (requestOf l))) ls
+
+-- "A refused first line prints `no` and its number and stops"
+abbrev pub openedBy : Option Opening → List Line → List ℕ
+openedBy none ls = malformed
+openedBy (some o) ls = cond (accepts (openingRefusal o)) (played (opening o) ls) (noRow (code (openingRefusal o)))
+
+abbrev pub fromFirst : List Line → List ℕ
+fromFirst [] = []
+fromFirst (l ∷ ls) = openedBy (openingOf l) ls
+
+-- "A sheet has at most 65,536 bytes"
+abbrev pub longestScript : ℕ
+longestScript = 65536
+
+-- "a longer one prints only `no 9`, an empty one nothing"
+unfoldable pub printout : List ℕ → List ℕ
+printout s = cond (ltb longestScript (length s)) malformed (fromFirst (linesOf s))

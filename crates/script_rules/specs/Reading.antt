@@ -1,0 +1,86 @@
+-- What a line says. Document 01: "First line: `desk`, `promise` or `loose`, nodes, minute, ticket. Later: `in` nodes estimate; `end`
+-- ticket; `wait` minutes"; "fields parted by one tab". Every other line "lacks the form".
+-- Assumes nothing.
+use mathlib.Core.Bool.{Bool, true, false, cond, _&&_}
+use mathlib.Core.List.{List, [], _∷_}
+use mathlib.Core.Option.{Option, none, some}
+use Prim.Native.Nat.{ℕ}
+use lib.Dec.{eqb}
+use lib.ListN.{length}
+use Rattle.text.specs.declared.Parsed.{Parsed}
+use Rattle.text.specs.declared.Parsed.the-variants.{Is, Not}
+use Rattle.text.specs.Fields.{fieldsOf, fieldOf}
+use Rattle.text.specs.Numbers.{numberOf}
+use Rattle.text.specs.Words.{isWord}
+use Rattle.scheduler.specs.declared.Kind.{Kind}
+use Rattle.scheduler.specs.declared.Kind.the-variants.{Conservative, Easy}
+use Rattle.scheduler.specs.declared.Opening.{Opening}
+use Rattle.history.specs.Calls.{Request, ask, wait, submit, complete}
+use Rattle.script_rules.specs.Lines.{Line}
+
+abbrev pub deskWord : List ℕ
+deskWord = 100 ∷ 101 ∷ 115 ∷ 107 ∷ []
+
+abbrev pub promiseWord : List ℕ
+promiseWord = 112 ∷ 114 ∷ 111 ∷ 109 ∷ 105 ∷ 115 ∷ 101 ∷ []
+
+abbrev pub looseWord : List ℕ
+looseWord = 108 ∷ 111 ∷ 111 ∷ 115 ∷ 101 ∷ []
+
+abbrev pub inWord : List ℕ
+inWord = 105 ∷ 110 ∷ []
+
+abbrev pub endWord : List ℕ
+endWord = 101 ∷ 110 ∷ 100 ∷ []
+
+abbrev pub waitWord : List ℕ
+waitWord = 119 ∷ 97 ∷ 105 ∷ 116 ∷ []
+
+-- the field k as a number
+abbrev pub numberAt : List ℕ → ℕ → Parsed
+numberAt s k = numberOf (fieldOf s k)
+
+-- so many fields, the first of them this word
+unfoldable pub hasForm : List ℕ → ℕ → List ℕ → Bool
+hasForm s n w = eqb (length (fieldsOf s)) n && isWord w (fieldOf s 0)
+
+-- numbers, all of them read
+abbrev pub withNumber : {A : Type 0} → Parsed → (ℕ → Option A) → Option A
+withNumber (Is v) f = f v
+withNumber Not f = none
+
+unfoldable pub kindOf : List ℕ → Option Kind
+kindOf s = cond (isWord promiseWord s) (some Conservative) (cond (isWord looseWord s) (some Easy) none)
+
+abbrev pub withKind : {A : Type 0} → Option Kind → (Kind → Option A) → Option A
+withKind (some k) f = f k
+withKind none f = none
+
+unfoldable pub openingIn : List ℕ → Option Opening
+openingIn s =
+    cond
+    (hasForm s 5 deskWord)
+    (withKind (kindOf (fieldOf s 1)) (λ k. withNumber (numberAt s 2) (λ n. withNumber (numberAt s 3) (λ m. withNumber (numberAt s 4) (λ t.
+    some (record { kind = k; nodes = n; minute = m; ticket = t }))))))
+    none
+
+unfoldable pub requestIn : List ℕ → Option Request
+requestIn s =
+    cond
+    (hasForm s 3 inWord)
+    (withNumber (numberAt s 1) (λ n. withNumber (numberAt s 2) (λ e. some (ask (submit n e)))))
+    (cond
+    (hasForm s 2 endWord)
+    (withNumber (numberAt s 1) (λ t. some (ask (complete t))))
+    (cond (hasForm s 2 waitWord) (withNumber (numberAt s 1) (λ n. some (wait n))) none))
+
+-- "An unclosed last line is refused by 9."
+abbrev pub closedOnly : {A : Type 0} → Bool → Option A → Option A
+closedOnly true a = a
+closedOnly false a = none
+
+abbrev pub openingOf : Line → Option Opening
+openingOf l = closedOnly (l .closed) (openingIn (l .bytes))
+
+abbrev pub requestOf : Line → Option Request
+requestOf l = closedOnly (l .closed) (requestIn (l .bytes))
