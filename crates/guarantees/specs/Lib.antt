@@ -2,3 +2,4 @@ pub mod Rules
 pub mod Statement
 pub mod Proof
 pub mod Premise
+pub mod Named
