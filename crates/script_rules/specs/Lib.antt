@@ -2,4 +2,5 @@ pub mod Lines
 pub mod Reading
 pub mod Writing
 pub mod Printout
+pub mod Plays
 pub mod Marked

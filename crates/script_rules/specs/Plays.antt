@@ -1,0 +1,122 @@
+-- Every script plays a list of calls: the guarantees hold of what it prints.
+-- Assumes nothing.
+use mathlib.Core.Path.{_≡_, refl, sym, ap, subst, _∙_}
+use mathlib.Core.List.{List, [], _∷_, _++_, append-nil, append-assoc}
+use mathlib.Core.Option.{Option, none, some}
+use Prim.Native.Nat.{ℕ}
+use lib.ListN.{take}
+use Rattle.scheduler.specs.declared.Kind.{Kind}
+use Rattle.scheduler.specs.declared.Opening.{Opening}
+use Rattle.scheduler.specs.Model.{Model}
+use Rattle.scheduler.specs.Opening.{opening}
+use Rattle.history.specs.Calls.{Call, Request, Event, after, events, callsOf, allCalls}
+use Rattle.history.specs.Guarantee.{Guarantee}
+use Rattle.guarantees.specs.Rules.{call}
+use Rattle.guarantees.specs.Statement.{bookFrom, blank}
+use Rattle.guarantees.specs.Proof.{demand3-with-waits}
+use Rattle.script_rules.specs.Lines.{Line}
+use Rattle.script_rules.specs.Reading.{requestOf}
+use Rattle.script_rules.specs.Writing.{textOf}
+use Rattle.script_rules.specs.Printout.{malformed, printedAll, calledBy, printedBy, played}
+
+-- what the lines are answered, in order: that one lacks the form, or an answer to a call with the clock after it
+pub data Item : Type 0 where
+  notRead : Item
+  answered : Kind → (minute : ℕ) → Event → Item
+
+abbrev pub itemText : Item → List ℕ
+itemText notRead = malformed
+itemText (answered k now e) = textOf k now (e .reply)
+
+abbrev pub texts : List Item → List ℕ
+texts [] = []
+texts (i ∷ is) = itemText i ++ texts is
+
+abbrev pub withEvent : Item → List Event → List Event
+withEvent notRead es = es
+withEvent (answered k now e) es = e ∷ es
+
+-- the calls and answers among them
+abbrev pub told : List Item → List Event
+told [] = []
+told (i ∷ is) = withEvent i (told is)
+
+abbrev pub answers : Model → List Call → List Item
+answers m [] = []
+answers m (c ∷ cs) = let r = call m c in answered (m .settings .kind) (r .model .clock) (record { call = c; reply = r .reply }) ∷ answers (r .model) cs
+
+abbrev pub itemsBy : Model → Option Request → List Item
+itemsBy m none = notRead ∷ []
+itemsBy m (some q) = answers m (callsOf m q)
+
+abbrev pub items : Model → List Line → List Item
+items m [] = []
+items m (l ∷ ls) = itemsBy m (requestOf l) ++ items (after call m (calledBy m (requestOf l))) ls
+
+-- the requests of the lines that have the form
+abbrev pub andRequest : Option Request → List Request → List Request
+andRequest none qs = qs
+andRequest (some q) qs = q ∷ qs
+
+abbrev pub requests : List Line → List Request
+requests [] = []
+requests (l ∷ ls) = andRequest (requestOf l) (requests ls)
+
+texts-append : (is js : List Item) → texts (is ++ js) ≡ texts is ++ texts js
+texts-append [] js = refl
+texts-append (i ∷ is) js = ap (λ t. itemText i ++ t) (texts-append is js) ∙ sym (append-assoc (itemText i) (texts is) (texts js))
+
+told-append : (is js : List Item) → told (is ++ js) ≡ told is ++ told js
+told-append [] js = refl
+told-append (notRead ∷ is) js = told-append is js
+told-append (answered k now e ∷ is) js = ap (λ t. e ∷ t) (told-append is js)
+
+answers-texts : (m : Model) (cs : List Call) → printedAll m cs ≡ texts (answers m cs)
+unfolding printedAll
+answers-texts m [] = refl
+answers-texts m (c ∷ cs) = ap (λ t. textOf (m .settings .kind) (call m c .model .clock) (call m c .reply) ++ t) (answers-texts (call m c .model) cs)
+
+answers-told : (m : Model) (cs : List Call) → told (answers m cs) ≡ events call m cs
+answers-told m [] = refl
+answers-told m (c ∷ cs) = ap (λ t. record { call = c; reply = call m c .reply } ∷ t) (answers-told (call m c .model) cs)
+
+events-append : (m : Model) (cs ds : List Call) → events call m (cs ++ ds) ≡ events call m cs ++ events call (after call m cs) ds
+events-append m [] ds = refl
+events-append m (c ∷ cs) ds = ap (λ t. record { call = c; reply = call m c .reply } ∷ t) (events-append (call m c .model) cs ds)
+
+by-texts : (m : Model) (q : Option Request) → printedBy m q ≡ texts (itemsBy m q)
+by-texts m none = sym (append-nil malformed)
+by-texts m (some q) = answers-texts m (callsOf m q)
+
+-- the printout of the lines is the text of their items,
+pub prints : (m : Model) (ls : List Line) → played m ls ≡ texts (items m ls)
+unfolding played
+prints m [] = refl
+prints m (l ∷ ls) =
+    let q = requestOf l in
+    let rest = after call m (calledBy m q) in
+    ap (λ t. t ++ played rest ls) (by-texts m q)
+    ∙ ap (λ t. texts (itemsBy m q) ++ t) (prints rest ls)
+    ∙ sym (texts-append (itemsBy m q) (items rest ls))
+
+-- and the calls among these, with their answers, are a list of calls of the scheduler
+pub tells : (m : Model) (ls : List Line) → told (items m ls) ≡ events call m (allCalls call m (requests ls))
+tells m [] = refl
+tells m (l ∷ ls) = line (requestOf l) (tells (after call m (calledBy m (requestOf l))) ls)
+  where
+    line : (q : Option Request) → told (items (after call m (calledBy m q)) ls) ≡ events call (after call m (calledBy m q)) (allCalls call (after call m (calledBy m q)) (requests ls))
+        → told (itemsBy m q ++ items (after call m (calledBy m q)) ls) ≡ events call m (allCalls call m (andRequest q (requests ls)))
+    line none e = e
+    line (some q) e =
+        let cs = callsOf m q in
+        let rest = after call m cs in
+        told-append (answers m cs) (items rest ls)
+        ∙ ap (λ t. t ++ told (items rest ls)) (answers-told m cs)
+        ∙ ap (λ t. events call m cs ++ t) e
+        ∙ sym (events-append m cs (allCalls call rest (requests ls)))
+
+-- so after each single call of a script, promises are kept, bounds and forecasts are kept, and running jobs never hold more nodes
+-- than the machine has
+pub script-keeps : (o : Opening) (ls : List Line) (i : ℕ)
+    → Guarantee (o .kind) (opening o .settings .nodes) (bookFrom (opening o) (blank (opening o)) (take i (allCalls call (opening o) (requests ls))))
+script-keeps o ls i = demand3-with-waits o (requests ls) i
