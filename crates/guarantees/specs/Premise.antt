@@ -7,7 +7,7 @@ use Rattle.scheduler.specs.declared.Kind.{Kind}
 use Rattle.scheduler.specs.declared.Kind.the-variants.{Conservative, Easy}
 use Rattle.scheduler.specs.declared.Opening.{Opening}
 use Rattle.scheduler.specs.declared.Scheduler.{Scheduler}
-use Rattle.scheduler.specs.Model.{Model, Live, store, view}
+use Rattle.scheduler.specs.Model.{Model, Live, store, view, view-store}
 use Rattle.scheduler.specs.Answers.{outcome}
 use Rattle.scheduler.specs.Opening.{opening, opened}
 use Rattle.jobs.specs.Sound.{Sound}
@@ -83,3 +83,7 @@ sound-by Easy m v = v .ready .sound
 
 pub premise-sound : (d : Scheduler) → Premise d → Sound (view d)
 premise-sound d h = sound-by (view d .settings .kind) (view d) (h .holds)
+
+-- a valid model is read back as it was stored
+pub valid-view : (m : Model) → Valid m → view (store m) ≡ m
+valid-view m v = view-store m (live-by (m .settings .kind) m v)

@@ -1,4 +1,5 @@
 pub mod Lines
+pub mod LineLaws
 pub mod Reading
 pub mod Writing
 pub mod Printout

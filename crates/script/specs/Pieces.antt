@@ -1,0 +1,106 @@
+-- What one call of a script prints, and where the script stands after it: a line, or one single step of a wait.
+-- Assumes nothing.
+use mathlib.Core.Bool.{Bool, cond}
+use mathlib.Core.List.{List, [], _∷_, _++_}
+use mathlib.Core.Option.{Option, none, some}
+use Prim.Native.Nat.{ℕ, _+_, _-_}
+use lib.Dec.{eqb, leb, ltb}
+use lib.ListN.{length, take, drop}
+use lib.Seq.{sets}
+use Rattle.text.specs.Lines.{lineAt}
+use Rattle.scheduler.specs.declared.Opening.{Opening}
+use Rattle.scheduler.specs.declared.Refusal.the-variants as refusal
+use Rattle.scheduler.specs.declared.Scheduler.{Scheduler}
+use Rattle.scheduler.specs.Model.{Model, view}
+use Rattle.scheduler.specs.Opening.{openingRefusal, opened}
+use Rattle.scheduler.specs.Answers.{accepts, code, outcome}
+use Rattle.scheduler.specs.Refusals.{waitRefusal}
+use Rattle.history.specs.Calls.{Call, Request, ask, wait, tick}
+use Rattle.guarantees.specs.Rules.{call}
+use Rattle.script_rules.specs.Lines.{Line}
+use Rattle.script_rules.specs.Reading.{openingOf, requestOf}
+use Rattle.script_rules.specs.Writing.{noRow}
+use Rattle.script_rules.specs.Printout.{malformed, printed, longestScript}
+use Rattle.script.specs.declared.Play.{Play}
+use Rattle.script.specs.declared.Stage.the-variants.{First, Playing, Over}
+use Rattle.script.specs.declared.Stage.{Stage}
+use Rattle.script.specs.declared.Step.{Step}
+
+pub record Piece : Type 0 where
+  pub text : List ℕ
+  pub play : Play
+
+-- the line at a place, and where the next one begins
+abbrev pub lineOf : List ℕ → ℕ → Line
+lineOf s at = record { bytes = take (lineAt s at .end - at) (drop at s); closed = lineAt s at .closed }
+
+abbrev pub past : List ℕ → ℕ → ℕ
+past s at = cond (lineAt s at .closed) (lineAt s at .end + 1) (lineAt s at .end)
+
+abbrev pub over : Play → Play
+over p = record { stage = Over; at = p .at; steps = p .steps; scheduler = p .scheduler }
+
+abbrev pub going : ℕ → ℕ → Scheduler → Play
+going at steps d = record { stage = Playing; at = at; steps = steps; scheduler = d }
+
+-- the first line
+abbrev pub openingPiece : Play → ℕ → Option Opening → Piece
+openingPiece p next none = record { text = malformed; play = over p }
+openingPiece p next (some o) =
+    cond
+    (accepts (openingRefusal o))
+    (record { text = []; play = going next 0 (opened o .scheduler) })
+    (record { text = noRow (code (openingRefusal o)); play = over p })
+
+unfoldable pub firstPiece : List ℕ → Play → Piece
+firstPiece s p =
+    cond
+    (ltb longestScript (length s))
+    (record { text = malformed; play = over p })
+    (cond (leb (length s) (p .at)) (record { text = []; play = over p }) (openingPiece p (past s (p .at)) (openingOf (lineOf s (p .at)))))
+
+-- one call
+abbrev pub callPiece : ℕ → ℕ → Scheduler → Call → Piece
+callPiece at steps d c = record { text = printed (view d) c; play = going at steps (outcome (call (view d) c) .scheduler) }
+
+-- a later line; a wait that is not refused is as many steps, which come next
+abbrev pub requestPiece : ℕ → Scheduler → Option Request → Piece
+requestPiece next d none = record { text = malformed; play = going next 0 d }
+requestPiece next d (some (ask c)) = callPiece next 0 d c
+requestPiece next d (some (wait n)) =
+    cond
+    (accepts (waitRefusal (view d) n))
+    (record { text = []; play = going next n d })
+    (record { text = noRow (code (waitRefusal (view d) n)); play = going next 0 d })
+
+-- with so many steps still to go, a step; with none, the next line
+abbrev pub laterBy : ℕ → List ℕ → Play → Piece
+laterBy n s p =
+    cond
+    (eqb n 0)
+    (cond (leb (length s) (p .at)) (record { text = []; play = over p }) (requestPiece (past s (p .at)) (p .scheduler) (requestOf (lineOf s (p .at)))))
+    (callPiece (p .at) (n - 1) (p .scheduler) tick)
+
+unfoldable pub laterPiece : List ℕ → Play → Piece
+laterPiece s p = laterBy (p .steps) s p
+
+abbrev pub pieceBy : Stage → List ℕ → Play → Piece
+pieceBy First s p = firstPiece s p
+pieceBy Playing s p = laterPiece s p
+pieceBy Over s p = record { text = []; play = p }
+
+abbrev pub pieceOf : List ℕ → Play → Piece
+pieceOf s p = pieceBy (p .stage) s p
+
+-- A piece into a page with room for so many bytes. 10: "the lent list, page or text is shorter than what goes into it"; the page
+-- and the state are then as they were.
+unfoldable pub stepOf : Play → Piece → ℕ → Step
+stepOf p x room =
+    cond
+    (ltb room (length (x .text)))
+    (record { refusal = refusal.TooShort; written = 0; play = p })
+    (record { refusal = refusal.None; written = length (x .text); play = x .play })
+
+-- bytes past what is written keep what they held
+unfoldable pub pageOf : Piece → List ℕ → List ℕ
+pageOf x page = cond (ltb (length page) (length (x .text))) page (sets page 0 (x .text))
