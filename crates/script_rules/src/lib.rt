@@ -1,1 +1,1 @@
-// Laws of lists of jobs, and what holds of every model that calls hand back, of either kind: there is no code here.
+// The printout of a script, defined for every input, and its laws: there is no code here.
