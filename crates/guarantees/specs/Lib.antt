@@ -3,3 +3,4 @@ pub mod Statement
 pub mod Proof
 pub mod Premise
 pub mod Named
+pub mod Chain

@@ -3,16 +3,18 @@
 use mathlib.Core.Path.{_≡_, refl, sym, ap, subst, _∙_}
 use mathlib.Core.List.{List, [], _∷_, _++_, append-nil, append-assoc}
 use mathlib.Core.Option.{Option, none, some}
-use Prim.Native.Nat.{ℕ}
+use Prim.Native.Nat.{ℕ, zero, suc}
 use lib.ListN.{take}
 use Rattle.scheduler.specs.declared.Kind.{Kind}
 use Rattle.scheduler.specs.declared.Opening.{Opening}
 use Rattle.scheduler.specs.Model.{Model}
 use Rattle.scheduler.specs.Opening.{opening}
 use Rattle.history.specs.Calls.{Call, Request, Event, after, events, callsOf, allCalls}
+use Rattle.scheduler.specs.Settings.{unit}
+use Rattle.history.specs.Book.{enterAll}
 use Rattle.history.specs.Guarantee.{Guarantee}
 use Rattle.guarantees.specs.Rules.{call}
-use Rattle.guarantees.specs.Statement.{bookFrom, blank}
+use Rattle.guarantees.specs.Statement.{blank}
 use Rattle.guarantees.specs.Proof.{demand3-with-waits}
 use Rattle.script_rules.specs.Lines.{Line}
 use Rattle.script_rules.specs.Reading.{requestOf}
@@ -115,8 +117,25 @@ tells m (l ∷ ls) = line (requestOf l) (tells (after call m (calledBy m (reques
         ∙ ap (λ t. events call m cs ++ t) e
         ∙ sym (events-append m cs (allCalls call rest (requests ls)))
 
--- so after each single call of a script, promises are kept, bounds and forecasts are kept, and running jobs never hold more nodes
--- than the machine has
-pub script-keeps : (o : Opening) (ls : List Line) (i : ℕ)
-    → Guarantee (o .kind) (opening o .settings .nodes) (bookFrom (opening o) (blank (opening o)) (take i (allCalls call (opening o) (requests ls))))
-script-keeps o ls i = demand3-with-waits o (requests ls) i
+first-events : (m : Model) (cs : List Call) (i : ℕ) → take i (events call m cs) ≡ events call m (take i cs)
+first-events m cs zero = refl
+first-events m [] (suc i) = refl
+first-events m (c ∷ cs) (suc i) = ap (λ t. record { call = c; reply = call m c .reply } ∷ t) (first-events (call m c .model) cs i)
+
+-- A script prints the text of its items; and by the calls and answers among them, after each single one, promises are kept, bounds and
+-- forecasts are kept, and running jobs never hold more nodes than the machine has.
+pub record Keeps (o : Opening) (ls : List Line) : Type 0 where
+  pub text : played (opening o) ls ≡ texts (items (opening o) ls)
+  pub kept : (i : ℕ)
+      → Guarantee (o .kind) (opening o .settings .nodes)
+      (enterAll (unit (opening o .settings)) (blank (opening o)) (take i (told (items (opening o) ls))))
+
+pub script-keeps : (o : Opening) (ls : List Line) → Keeps o ls
+script-keeps o ls = record {
+  text = prints (opening o) ls;
+  kept = λ i.
+  let m = opening o in
+  let cs = allCalls call m (requests ls) in
+  let same : events call m (take i cs) ≡ take i (told (items m ls)) = sym (first-events m cs i) ∙ ap (take i) (sym (tells m ls)) in
+  subst (λ (es : List Event). Guarantee (o .kind) (m .settings .nodes) (enterAll (unit (m .settings)) (blank m) es)) same (demand3-with-waits o (requests ls) i);
+}
