@@ -1,0 +1,43 @@
+-- What the answers of the readers mean, in the words of the definitions of a line.
+-- Assumes nothing.
+use mathlib.Core.Option.{Option, none, some}
+use Rattle.text.specs.declared.Parsed.{Parsed}
+use Rattle.scheduler.specs.declared.Kind.{Kind}
+use Rattle.scheduler.specs.declared.Opening.{Opening}
+use Rattle.history.specs.Calls.{Request, ask, wait, submit, complete}
+use Rattle.script_rules.specs.Reading.{withNumber, withKind}
+use Rattle.reading.specs.declared.FirstLine.{FirstLine}
+use Rattle.reading.specs.declared.FirstLine.the-variants as first
+use Rattle.reading.specs.declared.Asked.{Asked}
+use Rattle.reading.specs.declared.Asked.the-variants as asked
+use Rattle.reading.specs.declared.Named.{Named}
+use Rattle.reading.specs.declared.Named.the-variants as named
+
+abbrev pub opens : FirstLine → Option Opening
+opens (first.Opens o) = some o
+opens first.Malformed = none
+
+abbrev pub asks : Asked → Option Request
+asks (asked.Submit s) = some (ask (submit (s .nodes) (s .estimate)))
+asks (asked.Complete t) = some (ask (complete t))
+asks (asked.Wait n) = some (wait n)
+asks asked.Malformed = none
+
+abbrev pub follows : Named → Option Kind
+follows (named.Rules k) = some k
+follows named.Nothing = none
+
+-- what the fields of a line say together, once each has been read
+abbrev pub openingFrom : Option Kind → Parsed → Parsed → Parsed → Option Opening
+openingFrom kind nodes minute ticket =
+    withKind kind (λ k. withNumber nodes (λ n. withNumber minute (λ m. withNumber ticket (λ t.
+    some (record { kind = k; nodes = n; minute = m; ticket = t })))))
+
+abbrev pub submissionFrom : Parsed → Parsed → Option Request
+submissionFrom nodes estimate = withNumber nodes (λ n. withNumber estimate (λ e. some (ask (submit n e))))
+
+abbrev pub completionFrom : Parsed → Option Request
+completionFrom ticket = withNumber ticket (λ t. some (ask (complete t)))
+
+abbrev pub waitFrom : Parsed → Option Request
+waitFrom minutes = withNumber minutes (λ n. some (wait n))

@@ -1,0 +1,79 @@
+-- Every number that a line says is at most 9999999: document 01, "Numbers have 1 to 7 digits". And a line asks for no other call than
+-- a submission and a completion.
+-- Assumes nothing.
+use mathlib.Core.Path.{_≡_, refl, subst}
+use mathlib.Core.Bool.{Bool, true, false, cond}
+use mathlib.Core.List.{List}
+use mathlib.Core.Option.{Option, none, some}
+use Prim.Native.Nat.{ℕ, _≤_}
+use native.Mathlib.Omega.{arith}
+use Rattle.text.specs.declared.Parsed.{Parsed}
+use Rattle.text.specs.declared.Parsed.the-variants.{Is, Not}
+use Rattle.text.specs.NumberLaws.{number-most}
+use Rattle.text.specs.Fields.{fieldOf}
+use Rattle.scheduler.specs.declared.Kind.{Kind}
+use Rattle.scheduler.specs.declared.Opening.{Opening}
+use Rattle.history.specs.Calls.{Request, ask, wait, submit, complete, tick, profile, refusedWait}
+use Rattle.script_rules.specs.Reading.{numberAt, withNumber, withKind, kindOf, hasForm, inWord, endWord, waitWord, deskWord, openingIn, requestIn}
+
+abbrev pub Small : ℕ → Type 0
+Small n = n ≤ 9999999
+
+abbrev pub SmallOpening : Opening → Type 0
+SmallOpening o = Small (o .nodes) × Small (o .minute) × Small (o .ticket)
+
+abbrev pub SmallRequest : Request → Type 0
+SmallRequest (ask (submit n e)) = Small n × Small e
+SmallRequest (ask (complete t)) = Small t
+SmallRequest (ask tick) = ⊥
+SmallRequest (ask (profile room)) = ⊥
+SmallRequest (ask (refusedWait why)) = ⊥
+SmallRequest (wait n) = Small n
+
+-- what holds of an answer, where there is one
+abbrev pub Any : {A : Type 0} → (A → Type 0) → Option A → Type 0
+Any {A} P o = (a : A) → o ≡ some a → P a
+
+module _ {A : Type 0} (P : A → Type 0) where
+  any-none : Any P none
+  any-none a e = absurd (let z : _≡_ {A = ℕ} 0 1 = cc in omega arith)
+
+  any-some : (b : A) → P b → Any P (some b)
+  any-some b h a e = let q : b ≡ a = cc in subst P q h
+
+  any-number : (p : Parsed) (f : ℕ → Option A) → ((v : ℕ) → p ≡ Is v → Any P (f v)) → Any P (withNumber p f)
+  any-number (Is v) f h = h v refl
+  any-number Not f h = any-none
+
+  any-field : (s : List ℕ) (k : ℕ) (f : ℕ → Option A) → ((v : ℕ) → Small v → Any P (f v)) → Any P (withNumber (numberAt s k) f)
+  any-field s k f h = any-number (numberAt s k) f (λ v e. h v (number-most (fieldOf s k) v e))
+
+  any-kind : (k : Option Kind) (f : Kind → Option A) → ((κ : Kind) → Any P (f κ)) → Any P (withKind k f)
+  any-kind (some κ) f h = h κ
+  any-kind none f h = any-none
+
+  any-cond : (b : Bool) (x y : Option A) → Any P x → Any P y → Any P (cond b x y)
+  any-cond true x y h k = h
+  any-cond false x y h k = k
+
+pub opening-small : (s : List ℕ) (o : Opening) → openingIn s ≡ some o → SmallOpening o
+unfolding openingIn
+opening-small s =
+    any-cond SmallOpening (hasForm s 5 deskWord) _ none
+    (any-kind SmallOpening (kindOf (fieldOf s 1)) _ (λ κ.
+    any-field SmallOpening s 2 _ (λ n small-n. any-field SmallOpening s 3 _ (λ m small-m. any-field SmallOpening s 4 _ (λ t small-t.
+    any-some SmallOpening _ (small-n, small-m, small-t))))))
+    (any-none SmallOpening)
+
+pub request-small : (s : List ℕ) (q : Request) → requestIn s ≡ some q → SmallRequest q
+unfolding requestIn
+request-small s =
+    any-cond SmallRequest (hasForm s 3 inWord) _ _
+    (any-field SmallRequest s 1 _ (λ n small-n. any-field SmallRequest s 2 _ (λ e small-e. any-some SmallRequest (ask (submit n e)) (small-n, small-e))))
+    (any-cond SmallRequest (hasForm s 2 endWord) _ _
+    (any-field SmallRequest s 1 _ (λ t small-t. any-some SmallRequest (ask (complete t)) small-t))
+    (any-cond SmallRequest (hasForm s 2 waitWord) _ none (any-field SmallRequest s 1 _ (λ n small-n. any-some SmallRequest (wait n) small-n)) (any-none SmallRequest)))
+
+-- of a wait
+pub wait-small : (s : List ℕ) (n : ℕ) → requestIn s ≡ some (wait n) → n ≤ 9999999
+wait-small s n = request-small s (wait n)
