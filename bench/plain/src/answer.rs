@@ -1,0 +1,81 @@
+//! What a call gives: refusals by number, and the events of calls that are taken, written as they happen.
+
+#[derive(Clone, Copy, PartialEq, Eq, Debug)]
+pub enum Refusal {
+    Nodes = 1,
+    Minutes = 2,
+    Opening = 3,
+    Full = 4,
+    Tickets = 5,
+    Horizon = 6,
+    NotRunning = 7,
+    Form = 9,
+}
+
+/// The printout.
+pub struct Printout {
+    pub bytes: Vec<u8>,
+}
+
+impl Printout {
+    pub fn new() -> Self {
+        Printout { bytes: Vec::with_capacity(1 << 16) }
+    }
+
+    pub fn took(&mut self, ticket: u32, promise: Option<u32>) {
+        self.word(b"took\t");
+        self.number(ticket);
+        match promise {
+            Some(minute) => {
+                self.bytes.push(b'\t');
+                self.number(minute);
+            }
+            None => self.word(b"\t-"),
+        }
+        self.bytes.push(b'\n');
+    }
+
+    pub fn over(&mut self, ticket: u32, minute: u32) {
+        self.line(b"over\t", ticket, minute);
+    }
+
+    pub fn start(&mut self, ticket: u32, minute: u32) {
+        self.line(b"start\t", ticket, minute);
+    }
+
+    pub fn head(&mut self, ticket: u32, forecast: u32) {
+        self.line(b"head\t", ticket, forecast);
+    }
+
+    pub fn no(&mut self, refusal: Refusal) {
+        self.word(b"no\t");
+        self.number(refusal as u32);
+        self.bytes.push(b'\n');
+    }
+
+    fn line(&mut self, word: &[u8], ticket: u32, minute: u32) {
+        self.word(word);
+        self.number(ticket);
+        self.bytes.push(b'\t');
+        self.number(minute);
+        self.bytes.push(b'\n');
+    }
+
+    fn word(&mut self, word: &[u8]) {
+        self.bytes.extend_from_slice(word);
+    }
+
+    fn number(&mut self, mut n: u32) {
+        let mut digits = [0u8; 10];
+        let mut at = digits.len();
+        loop {
+            at -= 1;
+            digits[at] = b'0' + (n % 10) as u8;
+            n /= 10;
+            if n == 0 {
+                break;
+            }
+        }
+        self.bytes.extend_from_slice(&digits[at..]);
+    }
+}
