@@ -1,3 +1,5 @@
 pub mod Pieces
 pub mod Whole
 pub mod Ends
+pub mod Steps
+pub mod Turns

@@ -134,8 +134,8 @@ pub script-keeps : (o : Opening) (ls : List Line) → Keeps o ls
 script-keeps o ls = record {
   text = prints (opening o) ls;
   kept = λ i.
-  let m = opening o in
-  let cs = allCalls call m (requests ls) in
-  let same : events call m (take i cs) ≡ take i (told (items m ls)) = sym (first-events m cs i) ∙ ap (take i) (sym (tells m ls)) in
-  subst (λ (es : List Event). Guarantee (o .kind) (m .settings .nodes) (enterAll (unit (m .settings)) (blank m) es)) same (demand3-with-waits o (requests ls) i);
+      let m = opening o in
+      let cs = allCalls call m (requests ls) in
+      let same : events call m (take i cs) ≡ take i (told (items m ls)) = sym (first-events m cs i) ∙ ap (take i) (sym (tells m ls)) in
+      subst (λ (es : List Event). Guarantee (o .kind) (m .settings .nodes) (enterAll (unit (m .settings)) (blank m) es)) same (demand3-with-waits o (requests ls) i);
 }

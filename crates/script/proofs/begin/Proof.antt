@@ -1,0 +1,20 @@
+use mathlib.Core.Path.{ap}
+use Rattle.scheduler.specs.declared.Opened.{Opened}
+use Rattle.script.specs.declared.Stage.the-variants.{First}
+use borrow.Author.Needs.{needs}
+use Rattle.script.proofs.begin.Statement.{statement}
+use Rattle.script.proofs.begin.Tie as tie
+use Rattle.script.proofs.begin.Reads as reads
+use Rattle.script.proofs.begin.Lts as lts
+use Rattle.scheduler.proofs.Scheduler.open.Reads as open-reads
+
+-- src/lib.rt:248:9
+open-requires : tie.Need-open-requires
+open-requires c κs = search needs
+
+-- src/lib.rt:245:1
+returns : tie.Need-returns
+returns c = ap (λ (x : Opened). record { stage = First; at = 0; steps = 0; scheduler = x .scheduler }) (c .before .«open» .ensures)
+
+pub begin-spec : {M : Type 1} → statement M
+begin-spec = tie.close (tie.spec open-requires returns)

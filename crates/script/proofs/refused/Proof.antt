@@ -1,0 +1,36 @@
+use Rattle.script.specs.Steps.{step-short, step-fits}
+use borrow.Author.Needs.{needs}
+use Rattle.script.proofs.refused.Statement.{statement}
+use Rattle.script.proofs.refused.Tie as tie
+use Rattle.script.proofs.refused.Reads as reads
+use Rattle.script.proofs.refused.Lts as lts
+use Rattle.writing.proofs.put_refusal.Reads as put-refusal-reads
+use Rattle.writing.proofs.refusal_len.Reads as refusal-len-reads
+
+-- src/lib.rt:80:9
+refusal-len-requires : tie.Need-refusal-len-requires
+refusal-len-requires c κs = search needs
+
+-- src/lib.rt:82:9
+returns : tie.Need-returns
+returns c =
+    let r = c .before .refusal-len .ensures in
+    step-short _ _ _ _ _ (r .0) (r .1) (c .if1 .taken)
+
+-- src/lib.rt:88:5
+put-refusal-requires : tie.Need-put-refusal-requires
+put-refusal-requires c κs = search needs
+
+-- src/lib.rt:77:1
+same-length : tie.Need-same-length
+same-length c = search needs
+
+-- src/lib.rt:77:1
+returns-2 : tie.Need-returns-2
+returns-2 c =
+    let r = c .before .before .before .before .before .refusal-len .ensures in
+    step-fits _ _ _ _ _ (r .0) (r .1) (c .before .before .before .before .if1 .left) _ (c .before .before .put-refusal .ensures .1)
+
+pub refused-spec : {M : Type 1} → statement M
+refused-spec =
+    tie.close (tie.spec refusal-len-requires returns put-refusal-requires same-length returns-2)

@@ -1,0 +1,70 @@
+use mathlib.Core.Path.{sym, ap, _∙_}
+use Rattle.script.specs.Pieces.{piece}
+use Rattle.script.specs.Turns.{stepped-as, wait-takes, wait-refuses}
+use borrow.Author.Needs.{needs}
+use Rattle.script.proofs.wait.Statement.{statement}
+use Rattle.script.proofs.wait.Tie as tie
+use Rattle.script.proofs.wait.Reads as reads
+use Rattle.script.proofs.wait.Lts as lts
+use Rattle.calls.proofs.wait_refusal.Reads as wait-refusal-reads
+use Rattle.scheduler.proofs.Refusal.is_none.Reads as is-none-reads
+use Rattle.script.proofs.going.Reads as going-reads
+use Rattle.script.proofs.refused.Reads as refused-reads
+use Rattle.script.proofs.silent.Reads as silent-reads
+
+-- src/lib.rt:165:9
+wait-refusal-requires : tie.Need-wait-refusal-requires
+wait-refusal-requires c κs = search needs
+
+-- src/lib.rt:166:8
+is-none-requires : tie.Need-is-none-requires
+is-none-requires c κs = search needs
+
+-- src/lib.rt:167:26
+going-requires : tie.Need-going-requires
+going-requires c κs = search needs
+
+-- src/lib.rt:167:9
+silent-requires : tie.Need-silent-requires
+silent-requires c κs = search needs
+
+-- src/lib.rt:167:9
+same-length : tie.Need-same-length
+same-length c = search needs
+
+-- src/lib.rt:167:9
+returns : tie.Need-returns
+returns c =
+    stepped-as (ap (piece _) (c .before .before .before .before .going .ensures) ∙ wait-takes _ _ _ _ (c .before .before .before .before .before .before .before .wait-refusal .ensures) (sym (c .before .before .before .before .before .before .is-none .ensures) ∙ c .before .before .before .before .before .if1 .taken)) (c .before .before .silent .ensures)
+
+-- src/lib.rt:169:16
+going-requires-2 : tie.Need-going-requires-2
+going-requires-2 c κs = search needs
+
+-- src/lib.rt:169:5
+refused-requires : tie.Need-refused-requires
+refused-requires c κs = search needs
+
+-- src/lib.rt:160:1
+same-length-2 : tie.Need-same-length-2
+same-length-2 c = search needs
+
+-- src/lib.rt:160:1
+returns-2 : tie.Need-returns-2
+returns-2 c =
+    stepped-as (ap (piece _) (c .before .before .before .before .going2 .ensures) ∙ wait-refuses _ _ _ _ (c .before .before .before .before .before .before .before .wait-refusal .ensures) (sym (c .before .before .before .before .before .before .is-none .ensures) ∙ c .before .before .before .before .before .if1 .left)) (c .before .before .refused .ensures)
+
+pub wait-spec : {M : Type 1} → statement M
+wait-spec =
+    tie.close
+    (tie.spec
+    wait-refusal-requires
+    is-none-requires
+    going-requires
+    silent-requires
+    same-length
+    returns
+    going-requires-2
+    refused-requires
+    same-length-2
+    returns-2)
