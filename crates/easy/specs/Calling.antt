@@ -4,11 +4,11 @@ use Prim.Native.Nat.{ℕ, suc, _+_, _≤_, _<_}
 use native.Mathlib.Omega.{arith}
 use native.Mathlib.Numerals.{add-one}
 use mathlib.Core.Path.{_≡_, refl, sym, ap, _∙_}
-use mathlib.Core.Bool.{Bool, true, false}
+use mathlib.Core.Bool.{Bool, true, false, cond}
 use mathlib.Core.List.{List, [], _∷_, _++_}
-use lib.Dec.{ltb, eqb}
+use lib.Dec.{ltb}
 use lib.ListN.{length}
-use borrow.Author.Tests.{lt-ltb, le-ltb, ltb-false, eq-eqb, ne-eqb}
+use borrow.Author.Tests.{lt-ltb, le-ltb, ltb-false}
 use Rattle.lists.specs.Tests.{case}
 use Rattle.lists.specs.Lists.{any}
 use Rattle.lists.specs.Loops.{positionFrom}
@@ -21,14 +21,14 @@ use Rattle.scheduler.specs.Jobs.{picks}
 use Rattle.scheduler.specs.Limits.{horizon}
 use Rattle.scheduler.specs.Table.{slot, counted, located, appended}
 use Rattle.scheduler.specs.Model.{store, view, joined, withModelJobs}
-use Rattle.scheduler.specs.TableLaws.{located-stored, live-stored, appended-stored}
-use Rattle.scheduler.specs.Answers.{code, verdict, accepts, outcome, refuse, refusedOutcome}
-use Rattle.scheduler.specs.Refusals.{completeRefusal, tickRefusal}
+use Rattle.scheduler.specs.TableLaws.{located-stored, live-stored, appended-stored, checked-stored, checked-more}
+use Rattle.scheduler.specs.Answers.{verdict, accepts, outcome, refusedOutcome}
+use Rattle.scheduler.specs.Refusals.{submitTests, checked, completeRefusal, tickRefusal}
 use Rattle.scheduler.specs.declared.Select.{Select}
 use Rattle.scheduler.specs.declared.Refusal.the-variants as refusal
 use Rattle.scheduler.specs.declared.Select.the-variants as select
 use Rattle.jobs.specs.Sound.{Sound, Fit, passed, submit-fit, all-live}
-use Rattle.jobs.specs.Premise.{Holds}
+use Rattle.jobs.specs.Premise.{Holds, refused-held}
 use Rattle.history.specs.Calls.{submit, complete, tick}
 use Rattle.easy_rules.specs.Easy.{finished, newJob, submitRefusal, advanced, call}
 use Rattle.easy_rules.specs.Valid.{Ready, Valid, latestEnd, submits, completes, ticks, moved-ready}
@@ -37,23 +37,6 @@ use Rattle.easy.specs.Starting.{valid-sound}
 use Rattle.easy.specs.Replies.{Leaves}
 use Rattle.easy.specs.Replying.{withClock}
 use Rattle.easy.specs.Quiet.{quiet-tick}
-
--- a refused call hands the scheduler back as it was
-refused-is : (d : Scheduler) → d ≡ store (view d) → (r : Refusal) → refusedOutcome d r ≡ outcome (refuse (view d) r)
-refused-is d e r = ap (λ (x : Scheduler). refusedOutcome x r) e
-
-accepts-code : (r : Refusal) → accepts r ≡ eqb (code r) 0
-accepts-code refusal.None = refl
-accepts-code refusal.NodesOutOfRange = refl
-accepts-code refusal.MinutesOutOfRange = refl
-accepts-code refusal.OpeningOutOfRange = refl
-accepts-code refusal.Full = refl
-accepts-code refusal.NoTicketLeft = refl
-accepts-code refusal.PastHorizon = refl
-accepts-code refusal.NotRunning = refl
-accepts-code refusal.ProfileTooLong = refl
-accepts-code refusal.Malformed = refl
-accepts-code refusal.TooShort = refl
 
 -- ## Submission
 
@@ -71,14 +54,33 @@ join-stored d j h l =
     ∙ ap (λ (x : Scheduler). withNext x (d .next + 1)) (appended-stored (view d) j (all-live (view d) (h .holds)) l)
     ∙ ap (λ (t : ℕ). withNext (store (withModelJobs (view d) (view d .jobs ++ (j ∷ [])))) t) (add-one (d .next))
 
-module _ (d : Scheduler) (x : Submission) (h : Holds Valid d) (why : Refusal) (w : why ≡ submitRefusal (view d) (x .nodes) (x .estimate)) where
-  pub submit-refused : (code why ≡ 0 → ⊥) → refusedOutcome d why ≡ outcome (call (view d) (submit (x .nodes) (x .estimate)))
-  unfolding call
-  submit-refused k = rw (← w, accepts-code why, ne-eqb (code why) 0 k) (refused-is d (h .stored) why)
+-- the four tests that both kinds share, then the kind's own
+module _ (d : Scheduler) (n e : ℕ) (h : Holds Sound d) where
+  refusal-is : submitRefusal (view d) n e ≡ cond (accepts (checked d n e)) (verdict ((ltb horizon (latestEnd (view d) e), refusal.PastHorizon) ∷ [])) (checked d n e)
+  unfolding submitRefusal
+  refusal-is =
+      let t : checked d n e ≡ verdict (submitTests (view d) n e []) = ap (λ (x : Scheduler). checked x n e) (h .stored) ∙ checked-stored (view d) n e (all-live (view d) (h .holds)) in
+      rw t (checked-more (view d) n e ((ltb horizon (latestEnd (view d) e), refusal.PastHorizon) ∷ []))
 
-  module _ (k : code why ≡ 0) where
+  pub refusal-checked : accepts (checked d n e) ≡ false → checked d n e ≡ submitRefusal (view d) n e
+  refusal-checked a = rw (refusal-is, a)
+
+  pub refusal-late : accepts (checked d n e) ≡ true → horizon < latestEnd (view d) e → refusal.PastHorizon ≡ submitRefusal (view d) n e
+  unfolding verdict
+  refusal-late a l = rw (refusal-is, a, lt-ltb horizon (latestEnd (view d) e) l)
+
+  pub refusal-none : accepts (checked d n e) ≡ true → latestEnd (view d) e ≤ horizon → refusal.None ≡ submitRefusal (view d) n e
+  unfolding verdict
+  refusal-none a l = rw (refusal-is, a, le-ltb horizon (latestEnd (view d) e) l)
+
+module _ (d : Scheduler) (x : Submission) (h : Holds Valid d) (why : Refusal) (w : why ≡ submitRefusal (view d) (x .nodes) (x .estimate)) where
+  pub submit-refused : accepts why ≡ false → refusedOutcome d why ≡ outcome (call (view d) (submit (x .nodes) (x .estimate)))
+  unfolding call
+  submit-refused k = rw (← w, k) (refused-held Valid d why h)
+
+  module _ (k : accepts why ≡ true) where
     yields : accepts (submitRefusal (view d) (x .nodes) (x .estimate)) ≡ true
-    yields = rw (← w) (accepts-code why ∙ eq-eqb (code why) 0 k)
+    yields = rw (← w) k
 
     fitting : Fit (view d) (x .nodes) (x .estimate) × (accepts (verdict ((ltb horizon (latestEnd (view d) (x .estimate)), refusal.PastHorizon) ∷ [])) ≡ true)
     unfolding submitRefusal
@@ -115,7 +117,7 @@ slots-found d which h = ap (located which) (slots-are d (valid-sound d h)) ∙ l
 module _ (d : Scheduler) (t : ℕ) (h : Holds Valid d) where
   pub complete-refused : Nowhere ≡ located (select.RunningTicket t) (d .jobs) → refusedOutcome d refusal.NotRunning ≡ outcome (call (view d) (complete t))
   unfolding call completeRefusal verdict
-  complete-refused e = rw (any-nowhere (picks (select.RunningTicket t)) 0 (view d .jobs) (sym (e ∙ slots-found d (select.RunningTicket t) h))) (refused-is d (h .stored) refusal.NotRunning)
+  complete-refused e = rw (any-nowhere (picks (select.RunningTicket t)) 0 (view d .jobs) (sym (e ∙ slots-found d (select.RunningTicket t) h))) (refused-held Valid d refusal.NotRunning h)
 
   module _ (i : ℕ) (e : At i ≡ located (select.RunningTicket t) (d .jobs)) where
     runs : any (picks (select.RunningTicket t)) (view d .jobs) ≡ true
@@ -134,7 +136,7 @@ module _ (d : Scheduler) (t : ℕ) (h : Holds Valid d) where
 module _ (d : Scheduler) (h : Holds Valid d) where
   pub tick-refused : horizon < d .clock + 1 → refusedOutcome d refusal.PastHorizon ≡ outcome (call (view d) tick)
   unfolding view call tickRefusal verdict
-  tick-refused l = rw (lt-ltb horizon (suc (d .clock)) (omega arith)) (refused-is d (h .stored) refusal.PastHorizon)
+  tick-refused l = rw (lt-ltb horizon (suc (d .clock)) (omega arith)) (refused-held Valid d refusal.PastHorizon h)
 
   module _ (l : d .clock + 1 ≤ horizon) where
     pub tick-quiet : Nowhere ≡ located (select.EndingAt (d .clock + 1)) (d .jobs) → refusedOutcome (withClock d (d .clock + 1)) refusal.None ≡ outcome (call (view d) tick)

@@ -7,4 +7,3 @@ pub mod Replies
 pub mod Replying
 pub mod Quiet
 pub mod Calling
-pub mod Premises

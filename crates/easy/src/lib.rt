@@ -347,27 +347,19 @@ fn latest_end(d: Scheduler, estimate: u32) -> u32
     d.clock + rank * Scheduler::LONGEST + walltime::wall_time(estimate)
 }
 
-// In document 01's order: 1, 2, 4, 5, 6.
+// In document 01's order: 1, 2, 4 and 5, whatever the kind, then 6.
 fn submit_refusal(d: Scheduler, s: Submission) -> Refusal
     requires { ⌜ Holds Sound d ⌝ }
     ensures { λ r. ⌜ r ≡ submitRefusal (view d) (s .nodes) (s .estimate) ⌝ }
 {
-    if scheduler::outside_range(s.nodes, 1, d.nodes) {
-        return Refusal::NodesOutOfRange;
+    let refusal = d.check(s);
+    if refusal.is_none() {
+        if Scheduler::HORIZON < latest_end(d, s.estimate) {
+            return Refusal::PastHorizon;
+        }
+        return Refusal::None;
     }
-    if scheduler::outside_range(s.estimate, 1, Scheduler::LONGEST) {
-        return Refusal::MinutesOutOfRange;
-    }
-    if Scheduler::LIVE <= d.count(Select::Live) {
-        return Refusal::Full;
-    }
-    if Scheduler::LAST_TICKET < d.next {
-        return Refusal::NoTicketLeft;
-    }
-    if Scheduler::HORIZON < latest_end(d, s.estimate) {
-        return Refusal::PastHorizon;
-    }
-    Refusal::None
+    refusal
 }
 
 // The job submitted stands last, waiting, and the next ticket is one more.
@@ -394,13 +386,13 @@ pub fn submit(d: Scheduler, s: Submission) -> Outcome
     ensures { λ r. ⌜ r ≡ outcome (call (view d) (submit (s .nodes) (s .estimate))) ⌝ }
 {
     let why = submit_refusal(d, s);
-    if why.code() != 0 {
-        return d.refused(why);
+    if why.is_none() {
+        let before = head_ticket(d);
+        let e = admit(d, s);
+        let none = Tickets::none();
+        return finish(before, e, d.next, none);
     }
-    let before = head_ticket(d);
-    let e = admit(d, s);
-    let none = Tickets::none();
-    finish(before, e, d.next, none)
+    d.refused(why)
 }
 
 pub fn complete(d: Scheduler, ticket: u32) -> Outcome

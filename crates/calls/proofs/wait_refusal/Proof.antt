@@ -2,9 +2,10 @@ use Rattle.guarantees.specs.Premise.{premise-sound}
 use Rattle.scheduler.specs.Refusals.{waitRefusal}
 use Rattle.scheduler.specs.Answers.{verdict}
 use Rattle.scheduler.specs.Model.{view}
-use Rattle.scheduler.specs.Limits.{longest, outside}
+use Rattle.scheduler.specs.Limits.{horizon, longest, outside}
 use Rattle.lists.specs.Tests.{neither}
 use borrow.Author.Tests.{lt-ltb, le-ltb, ltb-false}
+use Prim.Native.Nat.{_+_}
 use lib.Dec.{ltb}
 use native.Mathlib.Omega.{arith}
 use mathlib.Core.Bool.{true, false}
@@ -39,14 +40,14 @@ unfolding waitRefusal verdict view
 returns-2 c =
     let s = c .before .before .before .before in
     let t : outside 1 longest (s .args .minutes) ≡ false = sym (c .before .before .before .outside-range .ensures) ∙ c .before .before .if1 .left in
-    rw (t, lt-ltb _ _ (c .if2 .taken))
+    rw (t, lt-ltb horizon (s .args .d .clock + s .args .minutes) (c .if2 .taken))
 
 returns-3 : tie.Need-returns-3
 unfolding waitRefusal verdict view
 returns-3 c =
     let s = c .before .before .before .before in
     let t : outside 1 longest (s .args .minutes) ≡ false = sym (c .before .before .before .outside-range .ensures) ∙ c .before .before .if1 .left in
-    rw (t, le-ltb _ _ (c .if2 .left))
+    rw (t, le-ltb horizon (s .args .d .clock + s .args .minutes) (c .if2 .left))
 
 pub wait-refusal-spec : {M : Type 1} → statement M
 wait-refusal-spec = tie.close (tie.spec outside-range-requires returns add-if2 returns-2 returns-3)

@@ -44,7 +44,7 @@ returns c =
     let o : E .before .before .overlay .result ≡ left-out q = taken-out q _ (rw (E .before .before .before .span-of .ensures) at (E .before .before .overlay .ensures)) in
     let t : E .earliest .result ≡ startAt q =
     E .earliest .ensures ∙ ap (λ (p : Profile). scanned p (j .nodes) (E .before .wall-time .result)) o ∙ ap (scanned (left-out q) (j .nodes)) (E .before .wall-time .ensures) ∙ start-is q in
-    let h = stays-put q (sym t ∙ c .if1 .taken) in
+    let h = stays-put q (omega (arith, t, c .if1 .taken)) in
     λ i. record { job = h .0 i; profile = h .1 i }
 
 place-requires : tie.Need-place-requires

@@ -14,7 +14,7 @@ use Rattle.scheduler.specs.Model.{view}
 use Rattle.scheduler.specs.declared.Select.the-variants as select
 use Rattle.easy_rules.specs.Easy.{choice}
 use Rattle.easy.specs.Choice.{jobAt}
-use Rattle.easy.specs.Starts.{startAt, push}
+use Rattle.easy.specs.Starts.{startAt, push, Settleable}
 use Rattle.easy.specs.Starting.{sound-of, start-low, start-ready, start-fewer, start-settles, rest-settles}
 use Rattle.easy.proofs.+settle.{statement}
 use Rattle.easy.proofs.+settle.Tie.{close}
@@ -79,7 +79,10 @@ settle-settle-requires t c κs =
     let e = found t (c .before .before .before) in
     let q : c .start-at .result ≡ startAt d i = c .start-at .ensures in
     let p : c .before .push .result ≡ push (s .args .started) (getD (d .jobs) i unused .ticket) = c .before .push .ensures in
-    rw (q, p) (omega (arith, s .pre .0, start-fewer d i h e), record { ready = start-ready d i h e; room = omega (arith, s .pre .1 .room, start-fewer d i h e) })
+    let f : counted select.Waiting (c .start-at .result .jobs) < t = rw q (omega (arith, s .pre .0, start-fewer d i h e)) in
+    let g : Settleable (startAt d i) (push (s .args .started) (getD (d .jobs) i unused .ticket)) =
+    record { ready = start-ready d i h e; room = omega (arith, s .pre .1 .room, start-fewer d i h e) } in
+    (f, rw (← q, ← p) at g)
 
 settle-returns : (t : ℕ) → settle-lts.Need-returns (callees t) (settle-at t) settle.Post
 settle-returns t c =

@@ -2,7 +2,7 @@ use native.Mathlib.Omega.{arith}
 use mathlib.Core.Path.{ap}
 use borrow.Author.Needs.{needs}
 use Rattle.scheduler.specs.Model.{view}
-use Rattle.easy_rules.specs.Easy.{avail, extra}
+use Rattle.easy_rules.specs.Easy.{avail, shadow, extra}
 use Rattle.easy_rules.specs.Settling.{shadow-holds}
 use Rattle.easy.proofs.window_beside.Statement.{statement}
 use Rattle.easy.proofs.window_beside.Tie as tie
@@ -22,7 +22,11 @@ sub-t6 c =
 
 returns : tie.Need-returns
 unfolding view extra
-returns c = rw (c .avail-at .ensures, c .before .shadow .ensures, c .before .before .pre .spare-is)
+returns c =
+    let s = c .before .before in
+    let m = view (s .args .d) in
+    rw (c .avail-at .ensures, c .before .shadow .ensures)
+    (λ i. record { clock = m .clock; free = s .pre .spare-is i; shadow = shadow m (s .args .nodes); extra = extra m (s .args .nodes) })
 
 pub window-beside-spec : {M : Type 1} → statement M
 window-beside-spec = tie.close (tie.spec shadow-requires avail-at-requires sub-t6 returns)
