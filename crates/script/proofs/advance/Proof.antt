@@ -1,3 +1,5 @@
+-- `script::advance` meets its contract.
+-- Assumes nothing.
 use Rattle.script.specs.Turns.{stepped-as, stage-as}
 use borrow.Author.Needs.{needs}
 use Rattle.script.proofs.advance.Statement.{statement}

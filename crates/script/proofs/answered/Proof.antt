@@ -1,3 +1,5 @@
+-- `script::answered` meets its contract.
+-- Assumes nothing.
 use Rattle.script.specs.Steps.{step-short, step-fits}
 use borrow.Author.Needs.{needs}
 use Rattle.script.proofs.answered.Statement.{statement}

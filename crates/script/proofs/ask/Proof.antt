@@ -1,3 +1,5 @@
+-- `script::ask` meets its contract.
+-- Assumes nothing.
 use mathlib.Core.Path.{sym, ap, _∙_}
 use Rattle.script.specs.Pieces.{piece}
 use Rattle.script.specs.Turns.{stepped-as, called, call-few, asked-as}

@@ -1,3 +1,5 @@
+-- `script::begin` meets its contract.
+-- Assumes nothing.
 use mathlib.Core.Path.{ap}
 use Rattle.scheduler.specs.declared.Opened.{Opened}
 use Rattle.script.specs.declared.Stage.the-variants.{First}

@@ -1,3 +1,5 @@
+-- `script::first` meets its contract.
+-- Assumes nothing.
 use mathlib.Core.Path.{sym, ap, _∙_}
 use Rattle.script.specs.Pieces.{piece}
 use Rattle.script.specs.Turns.{stepped-as, first-long, first-none, first-closed, first-unclosed}

@@ -1,3 +1,5 @@
+-- `script::later` meets its contract.
+-- Assumes nothing.
 use mathlib.Core.Path.{_∙_}
 use Rattle.script.specs.Turns.{stepped-as, called, call-few, later-step}
 use borrow.Author.Needs.{needs}

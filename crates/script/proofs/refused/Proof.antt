@@ -1,3 +1,5 @@
+-- `script::refused` meets its contract.
+-- Assumes nothing.
 use Rattle.script.specs.Steps.{step-short, step-fits}
 use borrow.Author.Needs.{needs}
 use Rattle.script.proofs.refused.Statement.{statement}

@@ -1,3 +1,5 @@
+-- `script::silent` meets its contract.
+-- Assumes nothing.
 use Rattle.script.specs.Steps.{step-silent}
 use Rattle.script.proofs.silent.Statement.{statement}
 use Rattle.script.proofs.silent.Tie as tie

@@ -1,3 +1,5 @@
+-- `script::wait` meets its contract.
+-- Assumes nothing.
 use mathlib.Core.Path.{sym, ap, _∙_}
 use Rattle.script.specs.Pieces.{piece}
 use Rattle.script.specs.Turns.{stepped-as, wait-takes, wait-refuses}

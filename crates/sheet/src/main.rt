@@ -1,0 +1,7 @@
+// Plays the day sheet on standard input, and prints its printout.
+use libc::STDIN_FILENO;
+use libc::STDOUT_FILENO;
+
+fn main() {
+    runner::run(STDIN_FILENO, STDOUT_FILENO);
+}
