@@ -6,6 +6,8 @@ use Rattle.lists.specs.Lists.{All}
 use Rattle.scheduler.specs.declared.Kind.{Kind}
 use Rattle.scheduler.specs.declared.Kind.the-variants.{Conservative, Easy}
 use Rattle.scheduler.specs.declared.Opening.{Opening}
+use Rattle.scheduler.specs.declared.Opened.{Opened}
+use Rattle.scheduler.specs.declared.Outcome.{Outcome}
 use Rattle.scheduler.specs.declared.Scheduler.{Scheduler}
 use Rattle.scheduler.specs.Model.{Model, Live, store, view, view-store}
 use Rattle.scheduler.specs.Answers.{outcome}
@@ -87,3 +89,10 @@ premise-sound d h = sound-by (view d .settings .kind) (view d) (h .holds)
 -- a valid model is read back as it was stored
 pub valid-view : (m : Model) → Valid m → view (store m) ≡ m
 valid-view m v = view-store m (live-by (m .settings .kind) m v)
+
+-- as a caller has it, from the contracts
+pub opened-held : (o : Opening) (r : Opened) → r ≡ opened o → Premise (r .scheduler)
+opened-held o r e = subst (λ (x : Opened). Premise (x .scheduler)) (sym e) (opened-premise o)
+
+pub call-held : (d : Scheduler) (c : Call) (r : Outcome) → Premise d → r ≡ outcome (call (view d) c) → Premise (r .scheduler)
+call-held d c r h e = subst (λ (x : Outcome). Premise (x .scheduler)) (sym e) (call-premise d c h)
