@@ -32,6 +32,7 @@ use Rattle.scheduler.specs.Refusals.{judged, submitTests, completeRefusal, tick
 use Rattle.jobs.specs.Order.{Asc, asc-keep, asc-one}
 use Rattle.jobs.specs.Sound.{SoundJob}
 use Rattle.history.specs.Calls.{Call, submit, complete, tick, profile, refusedWait}
+use Rattle.history.specs.Tickets.{nextAfter}
 use Rattle.conservative_rules.specs.Conservative.{span, spans, planned, newJob, withNew, points, maxPoints, submitRefusal, submitted, begun, advanced, moved, completed, turned, ticked, profileRefusal, call}
 use Rattle.conservative_rules.specs.Computed.{startOf, promiseOf}
 use Rattle.jobs.specs.Judged.{judged-by, judged-refusal, judged-refused}
@@ -309,19 +310,12 @@ outcome-rises m v (leaves c clock s after l g p q) = (
 pub answers-rise : (m : Model) (c : Call) → Valid m → Rising 1 (call m c .reply .ended) × Rising 1 (call m c .reply .started)
 answers-rise m c v = outcome-rises m v (outcome m c v)
 
--- "A refused intake uses none": the next ticket rises by one with each submission not refused, and with nothing else
-abbrev pub nextAfter : Call → Reply → ℕ → ℕ
-nextAfter (submit n e) r t = cond (accepts (r .refusal)) (suc t) t
-nextAfter (complete u) r t = t
-nextAfter tick r t = t
-nextAfter (profile room) r t = t
-nextAfter (refusedWait w) r t = t
-
-pub next-is : (m : Model) (c : Call) → call m c .model .next ≡ nextAfter c (call m c .reply) (m .next)
+-- "A refused intake uses none"
+pub next-is : (m : Model) (c : Call) → call m c .model .next ≡ nextAfter c (call m c .reply .refusal) (m .next)
 unfolding call submitted completed ticked advanced
 next-is m (submit n e) =
     let s = planned m n e in
-    judged-by (λ (x : Result). x .model .next ≡ nextAfter (submit n e) (x .reply) (m .next)) m (submitRefusal m n e s) (submitted m n e s) (λ a. refl) (λ a. rw a)
+    judged-by (λ (x : Result). x .model .next ≡ nextAfter (submit n e) (x .reply .refusal) (m .next)) m (submitRefusal m n e s) (submitted m n e s) (λ a. refl) (λ a. rw a)
 next-is m (complete t) = judged-by (λ (x : Result). x .model .next ≡ m .next) m (completeRefusal m t) (completed m t) (λ a. refl) (λ a. refl)
 next-is m tick = judged-by (λ (x : Result). x .model .next ≡ m .next) m (tickRefusal m) (ticked m) (λ a. refl) (λ a. refl)
 next-is m (profile room) = refl

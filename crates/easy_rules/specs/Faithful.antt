@@ -29,6 +29,7 @@ use Rattle.jobs.specs.Judged.{judged-accepted, judged-refusal, judged-refused}
 use Rattle.jobs.specs.Order.{Asc}
 use Rattle.jobs.specs.Sound.{Sound, Fit}
 use Rattle.history.specs.Calls.{Call, submit, complete, tick, profile, refusedWait}
+use Rattle.history.specs.Tickets.{nextAfter}
 use Rattle.history.specs.Lawful.{comers}
 use Rattle.easy_rules.specs.Easy.{queue, free, avail, shadow, extra, qualifies, pick, choice, begin, Settling, onChoice, settled, finished, newJob, submitRefusal, advanced, call}
 use Rattle.easy_rules.specs.Settling.{shadow-from, shadow-min, shadow-holds, none-starts, How, how, Chosen, chosen, sum-mark, queue-mark, one-fewer, asc-begin, each-begin, idle, marks, Settles, rest, start, settles, settles-jobs, settles-next}
@@ -392,14 +393,6 @@ call-starts m c v =
     (called m c v)
 
 -- ## Tickets
-
--- "Tickets are numbered upward by one from the first .. and never used again. A refused intake uses none."
-abbrev pub nextAfter : Call → Refusal → ℕ → ℕ
-nextAfter (submit n e) r t = cond (accepts r) (suc t) t
-nextAfter (complete u) r t = t
-nextAfter tick r t = t
-nextAfter (profile room) r t = t
-nextAfter (refusedWait w) r t = t
 
 moved-next : {m : Model} {c : Call} {mid : Model} {t : ℕ} {ts : List ℕ} → Moved m c mid t ts → mid .next ≡ nextAfter c refusal.None (m .next)
 moved-next (submits n e f room) = refl

@@ -4,3 +4,4 @@ pub mod Proof
 pub mod Premise
 pub mod Named
 pub mod Chain
+pub mod Tickets

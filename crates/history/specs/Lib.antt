@@ -1,4 +1,5 @@
 pub mod Calls
+pub mod Tickets
 pub mod Book
 pub mod Guarantee
 pub mod Lawful

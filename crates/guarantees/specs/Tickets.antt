@@ -1,0 +1,44 @@
+-- Over every list of calls of either kind, tickets are given upward by one from the first, so never twice, and a refused submission uses
+-- none.
+-- Assumes nothing.
+use mathlib.Core.Path.{_≡_, refl, sym, subst, _∙_}
+use mathlib.Core.Bool.{true, false}
+use mathlib.Core.List.{List, [], _∷_}
+use Prim.Native.Nat.{ℕ, suc}
+use Rattle.lists.specs.Tests.{case}
+use Rattle.scheduler.specs.declared.Kind.{Kind}
+use Rattle.scheduler.specs.declared.Kind.the-variants.{Conservative, Easy}
+use Rattle.scheduler.specs.Model.{Model}
+use Rattle.scheduler.specs.Answers.{Reply, accepts}
+use Rattle.history.specs.Calls.{Call, submit, complete, tick, profile, refusedWait, events}
+use Rattle.history.specs.Tickets.{nextAfter, andTicket, ticketsGiven, Upward}
+use Rattle.conservative_rules.specs.Faithful as conservative
+use Rattle.easy_rules.specs.Faithful as easy
+use Rattle.guarantees.specs.Rules.{rulesOf, call}
+use Rattle.guarantees.specs.Premise.{ValidBy, Valid, call-valid}
+
+next-by : (k : Kind) (m : Model) (c : Call) → ValidBy k m → rulesOf k m c .model .next ≡ nextAfter c (rulesOf k m c .reply .refusal) (m .next)
+next-by Conservative m c v = conservative.next-is m c
+next-by Easy m c v = easy.call-next m c v
+
+ticket-by : (k : Kind) (m : Model) (n e : ℕ) → accepts (rulesOf k m (submit n e) .reply .refusal) ≡ true → rulesOf k m (submit n e) .reply .ticket ≡ m .next
+ticket-by Conservative m n e a = conservative.submit-taken m n e a .ticket-is
+ticket-by Easy m n e a = easy.submit-ticket m n e a
+
+-- one call more: its own ticket, and those of the calls after it
+one-more : (c : Call) (r : Reply) (t : ℕ) (ts : List ℕ) → (accepts (r .refusal) ≡ true → (n e : ℕ) → c ≡ submit n e → r .ticket ≡ t) → Upward (nextAfter c (r .refusal) t) ts → Upward t (andTicket c r ts)
+one-more (submit n e) r t ts h u = case (accepts (r .refusal)) (λ a. rw a (h a n e refl, rw a at u)) (λ a. rw a (rw a at u))
+one-more (complete k) r t ts h u = u
+one-more tick r t ts h u = u
+one-more (profile room) r t ts h u = u
+one-more (refusedWait w) r t ts h u = u
+
+pub tickets-upward : (m : Model) (cs : List Call) → Valid m → Upward (m .next) (ticketsGiven (events call m cs))
+tickets-upward m [] v = tt
+tickets-upward m (c ∷ cs) v =
+    let r = call m c in
+    let rest = subst (λ (t : ℕ). Upward t (ticketsGiven (events call (r .model) cs))) (next-by (m .settings .kind) m c v) (tickets-upward (r .model) cs (call-valid m c v)) in
+    one-more c (r .reply) (m .next) _ (λ a n e q. own a n e q) rest
+  where
+    own : accepts (call m c .reply .refusal) ≡ true → (n e : ℕ) → c ≡ submit n e → call m c .reply .ticket ≡ m .next
+    own a n e q = subst (λ (x : Call). accepts (call m x .reply .refusal) ≡ true → call m x .reply .ticket ≡ m .next) (sym q) (ticket-by (m .settings .kind) m n e) a
