@@ -1,6 +1,7 @@
 -- For the reader: document 01's sentences about the Promise Desk, each as a theorem about what calls give, so that a definition cannot be
 -- bent along with the code.
 -- Assumes nothing.
+use mathlib.Core.Logic.{_⊎_, inl, inr}
 use Prim.Native.Nat.{ℕ, suc, _+_, _-_, _≤_, _<_}
 use native.Mathlib.Omega.{arith}
 use mathlib.Core.Path.{_≡_, refl, sym, ap, _∙_}
@@ -10,7 +11,7 @@ use lib.Dec.{leb, ltb, eqb}
 use lib.ListN.{length, length-append, length-map}
 use borrow.Author.Tests.{leb-false, le-leb, le-ltb, eqb-true, ne-eqb}
 use Rattle.lists.specs.Tests.{case, true-false, both, and-right-false, on}
-use Rattle.lists.specs.Lists.{keep, any, sum, In, here, there, in-left, in-keep, keep-in, keep-keep, keep-cong}
+use Rattle.lists.specs.Lists.{keep, any, sum, elem, In, here, there, in-left, in-keep, keep-in, keep-keep, keep-cong}
 use Rattle.walltime.specs.WallTime.{wallTime}
 use Rattle.plan.specs.Spans.{takes, used, free, Earliest, Profile}
 use Rattle.plan.specs.Earliest.{earliest-is}
@@ -287,7 +288,7 @@ rising-from : (lo lo′ : ℕ) (ts : List ℕ) → lo′ ≤ lo → Rising lo ts
 rising-from lo lo′ [] l a = tt
 rising-from lo lo′ (t ∷ ts) l a = (omega arith, a .1)
 
-tickets-rise : (lo : ℕ) (js : List Job) → Asc lo js → Rising lo (ticketsOf js)
+pub tickets-rise : (lo : ℕ) (js : List Job) → Asc lo js → Rising lo (ticketsOf js)
 tickets-rise lo [] a = tt
 tickets-rise lo (j ∷ js) a = (a .0, tickets-rise (suc (j .ticket)) js (a .1))
 
@@ -309,6 +310,40 @@ outcome-rises m v (leaves c clock s after l g p q) = (
 
 pub answers-rise : (m : Model) (c : Call) → Valid m → Rising 1 (call m c .reply .ended) × Rising 1 (call m c .reply .started)
 answers-rise m c v = outcome-rises m v (outcome m c v)
+
+-- a job that starts waits until then: it waited before the call, or is the one that the call took in
+pub record Waited (m : Model) (t : ℕ) : Type 0 where
+  pub job : Job
+  pub isin : In job (m .jobs)
+  pub waits : isWaiting job ≡ true
+  pub named : job .ticket ≡ t
+
+begun-waited : (t : ℕ) (js ks : List Job) → elem t (begun js ks) ≡ true → (j : Job) × In j js × (isWaiting j ≡ true) × (j .ticket ≡ t)
+begun-waited t [] ks e = true-false false e refl
+begun-waited t (j ∷ js) [] e = true-false false e refl
+begun-waited t (j ∷ js) (k ∷ ks) e =
+    case (isWaiting j && isRunning k)
+    (λ w. case (eqb t (j .ticket))
+    (λ q. (j, here refl, both (isWaiting j) (isRunning k) w .0, sym (eqb-true t (j .ticket) q)))
+    (λ q. later (begun-waited t js ks (rw (w, q) at e))))
+    (λ w. later (begun-waited t js ks (rw w at e)))
+  where
+    later : (x : Job) × In x js × (isWaiting x ≡ true) × (x .ticket ≡ t) → (x : Job) × In x (j ∷ js) × (isWaiting x ≡ true) × (x .ticket ≡ t)
+    later r = (r .0, there (r .1), r .2, r .3)
+
+outcome-waited : (m : Model) {c : Call} {r : Result} (t : ℕ) → Outcome m c r → elem t (r .reply .started) ≡ true → Waited m t ⊎ (t ≡ r .reply .ticket)
+unfolding submitted advanced
+outcome-waited m t (idle c r p q) e = true-false false e refl
+outcome-waited m t (joins n e f l) x =
+    case (eqb (planned m n e) (m .clock))
+    (λ q. case (eqb t (m .next)) (λ y. inr (eqb-true t (m .next) y)) (λ y. true-false false (rw (q, y) at x) refl))
+    (λ q. true-false false (rw q at x) refl)
+outcome-waited m t (leaves c clock s after l g p q) e =
+    let w = begun-waited t (staying s (m .jobs)) after e in
+    inl (record { job = w .0; isin = keep-in (λ (j : Job). not (picks s j)) (m .jobs) (w .1) .0; waits = w .2; named = w .3 })
+
+pub started-waited : (m : Model) (c : Call) (t : ℕ) → Valid m → elem t (call m c .reply .started) ≡ true → Waited m t ⊎ (t ≡ call m c .reply .ticket)
+started-waited m c t v e = outcome-waited m t (outcome m c v) e
 
 -- "A refused intake uses none"
 pub next-is : (m : Model) (c : Call) → call m c .model .next ≡ nextAfter c (call m c .reply .refusal) (m .next)

@@ -6,13 +6,24 @@ use mathlib.Core.Bool.{true, false}
 use mathlib.Core.List.{List, [], _∷_}
 use Prim.Native.Nat.{ℕ, suc}
 use Rattle.lists.specs.Tests.{case}
+use Rattle.lists.specs.Lists.{keep}
 use Rattle.scheduler.specs.declared.Kind.{Kind}
 use Rattle.scheduler.specs.declared.Kind.the-variants.{Conservative, Easy}
+use Rattle.scheduler.specs.declared.Select.{Select}
+use Rattle.scheduler.specs.declared.Select.the-variants as select
+use Rattle.scheduler.specs.Jobs.{picks}
+use Rattle.scheduler.specs.Table.{ticketsOf}
 use Rattle.scheduler.specs.Model.{Model}
-use Rattle.scheduler.specs.Answers.{Reply, accepts}
+use Rattle.scheduler.specs.Answers.{Reply, Result, accepts}
+use Rattle.scheduler.specs.Refusals.{completeRefusal, tickRefusal}
+use Rattle.jobs.specs.Order.{asc-keep}
+use Rattle.jobs.specs.Sound.{Sound}
+use Rattle.jobs.specs.Judged.{judged-by}
 use Rattle.history.specs.Calls.{Call, submit, complete, tick, profile, refusedWait, events}
 use Rattle.history.specs.Tickets.{nextAfter, andTicket, ticketsGiven, Upward}
 use Rattle.conservative_rules.specs.Faithful as conservative
+use Rattle.conservative_rules.specs.Faithful.{Rising, tickets-rise}
+use Rattle.easy_rules.specs.Easy as rules
 use Rattle.easy_rules.specs.Faithful as easy
 use Rattle.guarantees.specs.Rules.{rulesOf, call}
 use Rattle.guarantees.specs.Premise.{ValidBy, Valid, call-valid}
@@ -42,3 +53,25 @@ tickets-upward m (c ∷ cs) v =
   where
     own : accepts (call m c .reply .refusal) ≡ true → (n e : ℕ) → c ≡ submit n e → call m c .reply .ticket ≡ m .next
     own a n e q = subst (λ (x : Call). accepts (call m x .reply .refusal) ≡ true → call m x .reply .ticket ≡ m .next) (sym q) (ticket-by (m .settings .kind) m n e) a
+
+abbrev Ascends : Result → Type 0
+Ascends r = Rising 1 (r .reply .ended)
+
+leaves : (m : Model) (s : Select) → Sound m → Rising 1 (ticketsOf (keep (picks s) (m .jobs)))
+leaves m s h = tickets-rise 1 (keep (picks s) (m .jobs)) (asc-keep (picks s) 1 (m .jobs) (h .asc))
+
+-- "the tickets ended, ascending"
+ended-by : (k : Kind) (m : Model) (c : Call) → ValidBy k m → Rising 1 (rulesOf k m c .reply .ended)
+unfolding
+    rules.call
+    rules.advanced
+    rules.finished
+ended-by Conservative m c v = conservative.answers-rise m c v .0
+ended-by Easy m (submit n e) v = judged-by Ascends m (rules.submitRefusal m n e) _ (λ a. tt) (λ a. tt)
+ended-by Easy m (complete t) v = judged-by Ascends m (completeRefusal m t) (rules.advanced m (m .clock) (select.RunningTicket t)) (λ a. leaves m (select.RunningTicket t) (v .ready .sound)) (λ a. tt)
+ended-by Easy m tick v = judged-by Ascends m (tickRefusal m) (rules.advanced m (suc (m .clock)) (select.EndingAt (suc (m .clock)))) (λ a. leaves m (select.EndingAt (suc (m .clock))) (v .ready .sound)) (λ a. tt)
+ended-by Easy m (profile room) v = tt
+ended-by Easy m (refusedWait w) v = tt
+
+pub ended-rise : (m : Model) (c : Call) → Valid m → Rising 1 (call m c .reply .ended)
+ended-rise m c v = ended-by (m .settings .kind) m c v
