@@ -21,7 +21,7 @@ const BANDS: [Band; 3] = [
 ];
 
 // The wall times of the estimates 1 to 480.
-const TABLE: [u32; 480] = [
+const TABLE: [u16; 480] = [
     5, // 1
     5,
     5,
@@ -528,7 +528,7 @@ pub fn wall_time(estimate: u32) -> u32
     }
     if estimate <= 480 {
         let i = (estimate - 1) as usize;
-        return TABLE[i];
+        return TABLE[i] as u32;
     }
     by_bands(estimate)
 }
