@@ -12,16 +12,18 @@ use Rattle.lists.specs.Tests.{case, true-false}
 use Rattle.lists.specs.Lists.{All, In, here, all-append, all-in, in-left, in-right, sum-append}
 use Rattle.plan.specs.declared.Span.{Span}
 use Rattle.plan.specs.Spans.{takes, used, free, earliest, profile, Earliest}
-use Rattle.plan.specs.Used.{used-among}
+use Rattle.plan.specs.Used.{used-among, takes-before, takes-in}
 use Rattle.plan.specs.Earliest.{earliest-is}
 use Rattle.plan.specs.Profile.{profile-same}
 use Rattle.walltime.specs.WallTime.{wallTime}
+use Rattle.walltime.specs.Laws.{wallTime-le}
 use Rattle.scheduler.specs.declared.Job.{Job}
 use Rattle.scheduler.specs.Jobs.{isWaiting, isLive}
 use Rattle.scheduler.specs.Settings.{Settings, horizon, holdTime, until}
 use Rattle.profile.specs.declared.Profile.{Profile}
-use Rattle.profile.specs.Stored.{stored, Small, Readable, profile-readable, scanned, scanned-profile}
+use Rattle.profile.specs.Stored.{stored, Small}
 use Rattle.profile.specs.Laid.{Laid, laid-reserve, laid-release}
+use Rattle.profile.specs.Forward.{Stands, forward}
 use Rattle.conservative_rules.specs.Conservative.{span, spans, placed, moved}
 use Rattle.conservative_rules.specs.Valid.{Follows, follows-start, moved-follows, used-append}
 use Rattle.conservative.specs.Slots.{Slots, all-spans}
@@ -122,14 +124,29 @@ module _ {p : Profile} {j : Job} {now : ℕ} (q : Replans p j now) where
       all-back (b ∷ us) bs a = all-back us bs (a .1)
 
   -- where it is put in again
-  pub readable : Readable left-out
-  readable = profile-readable (S .nodes) (spans S others) now small-others
-
   abbrev pub startAt : ℕ
   startAt = earliest (S .nodes) (spans S others) now (j .nodes) (wallTime (j .estimate))
 
-  pub start-is : scanned left-out (j .nodes) (wallTime (j .estimate)) ≡ startAt
-  start-is = scanned-profile (S .nodes) (spans S others) now (j .nodes) (wallTime (j .estimate)) (q .nodes-to) (q .hold-from)
+  pub stands : Stands p (j .nodes) (wallTime (j .estimate)) (j .start)
+  stands = record {
+    nodes = S .nodes;
+    before = spans S (q .xs ++ j ∷ q .ys);
+    others = spans S others;
+    now = now;
+    self-is = q .plan;
+    small = small-all;
+    enough = q .nodes-to;
+    some = q .hold-from;
+    ahead = omega (arith, q .ahead);
+    early = λ t l b. omega (arith, among t j, takes-before t (span S j) b);
+    late = λ t l b. omega (arith, room t (omega (arith, q .ahead)), takes-in t (span S j) l b);
+    start-to = start-of;
+    hold-to = wallTime-le (j .estimate);
+  }
+
+  pub start-is : (s : ℕ) → ((l : Stands p (j .nodes) (wallTime (j .estimate)) (j .start)) → s ≡ forward l) → s ≡ startAt
+  unfolding stands
+  start-is s f = f stands
 
   pub moved-is : movedTo ≡ placed now startAt j
   moved-is = rw (q .waits)

@@ -101,19 +101,19 @@ fn place(job: Job, now: u32, s: u32) -> Job
     }
 }
 
-// A waiting job is taken out of the profile and put in again at its smallest minute.
+// A waiting job is taken out of the profile and put in again at its smallest minute, if that is another.
 fn replan(p: Profile, job: Job, now: u32) -> Replanned
     requires { ⌜ Replans p job now ⌝ }
     ensures { λ r. ⌜ ((q : Replans p job now) → r ≡ replanned q) ⌝ }
 {
-    let out = p.overlay(span_of(job), true);
-    let start = out.earliest(job.nodes, walltime::wall_time(job.estimate));
+    let start = p.forward(job.nodes, walltime::wall_time(job.estimate), job.start);
     if start == job.start {
         return Replanned {
             job: job,
             profile: p,
         };
     }
+    let out = p.overlay(span_of(job), true);
     let moved = place(job, now, start);
     let back = out.overlay(span_of(moved), false);
     Replanned {

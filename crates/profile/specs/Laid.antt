@@ -21,10 +21,6 @@ abbrev pub changed : Bool → ℕ → ℕ → ℕ
 changed true taken left = release taken left
 changed false taken left = reserve taken left
 
-pub changed-none : (release : Bool) (left : ℕ) → left ≡ changed release 0 left
-changed-none true left = omega arith
-changed-none false left = omega arith
-
 -- no more is taken than is free, and no more is free than a machine has
 abbrev pub Room : Bool → ℕ → ℕ → Type 0
 Room true taken left = left + taken ≤ maxNodes
@@ -94,6 +90,13 @@ differs n last v = eqb n 0 || not (eqb v last)
 -- m, if it lies ahead of t and before next
 abbrev pub sooner : ℕ → ℕ → ℕ → ℕ
 sooner t m next = cond (ltb t m && ltb m next) m next
+
+-- the first of what lies ahead
+abbrev pub nextOf : ℕ → Span → ℕ → ℕ
+nextOf t x ahead = sooner t (x .until) (sooner t (x .from) ahead)
+
+abbrev pub lesser : ℕ → ℕ → ℕ
+lesser a b = cond (ltb a b) a b
 
 -- the old point at which the pass stands at minute next
 abbrev pub advanced : ℕ → ℕ → ℕ → ℕ

@@ -2,3 +2,4 @@ pub mod Stored
 pub mod Seek
 pub mod Laid
 pub mod Pass
+pub mod Forward

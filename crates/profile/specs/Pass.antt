@@ -17,11 +17,12 @@ use Rattle.plan.specs.declared.Span.{Span}
 use Rattle.plan.specs.declared.Point.{Point}
 use Rattle.plan.specs.Spans.{takes, free, profile}
 use Rattle.plan.specs.Steps.{Steps, profile-steps}
+use Rattle.plan.specs.Used.{takes-still}
 use Rattle.plan.specs.Overlay.{emit, put, Overlay, Next, overlay-begin, overlay-old, overlay-stay, overlay-move, overlay-end, overlay-room, left, left-falls}
 use Rattle.scheduler.specs.Limits.{horizon}
 use Rattle.profile.specs.declared.Profile.{Profile}
 use Rattle.profile.specs.Stored.{places, noPoint, stored, pointsOf, points-stored, points-at, profile-fits, profile-low, first-is, at}
-use Rattle.profile.specs.Laid.{changed, Room, Laid, never, differs, sooner, advanced}
+use Rattle.profile.specs.Laid.{changed, Room, Laid, never, differs, sooner, nextOf, lesser, advanced}
 
 -- What has been put down
 
@@ -70,10 +71,6 @@ record Soon (t from until ahead next : ℕ) : Type 0 where
   end : t < until → next ≤ until
   one : (next ≡ ahead) ⊎ ((next ≡ from) ⊎ (next ≡ until))
 
--- the first of what lies ahead
-abbrev pub nextOf : ℕ → Span → ℕ → ℕ
-nextOf t x ahead = sooner t (x .until) (sooner t (x .from) ahead)
-
 soon : (t from until ahead : ℕ) → t < ahead → Soon t from until ahead (sooner t until (sooner t from ahead))
 soon t from until ahead l =
     case (ltb t from && ltb from ahead)
@@ -91,6 +88,56 @@ soon t from until ahead l =
         let r = ltb-true until next (p .1) in
         rw e (record { after = q; old = omega arith; begin = λ g. omega (arith, f g); end = λ g. omega arith; one = inr (inr refl) }))
         (λ e. rw e (record { after = a; old = b; begin = f; end = λ g. later t until next e g; one = ⊎-elim (λ q. inl q) (λ q. inr (inl q)) o }))
+
+-- where the span begins or ends next, and what it takes until then
+pub record Edge (x : Span) (t edge taken : ℕ) : Type 0 where
+  pub edge-is : edge ≡ nextOf t x never
+  pub taken-is : taken ≡ takes t x
+
+module _ (t : ℕ) (x : Span) (go : t < never) where
+  abbrev e : ℕ
+  e = nextOf t x never
+
+  far : Soon t (x .from) (x .until) never e
+  far = soon t (x .from) (x .until) never go
+
+  lesser-next : (ahead : ℕ) → t < ahead → ahead ≤ never → lesser e ahead ≡ nextOf t x ahead
+  lesser-next ahead a b =
+      case (ltb e ahead)
+      (λ d. rw d (omega (arith, low (far .one), high (near .one) .0 d)))
+      (λ d. rw d (omega (arith, near .old, high (near .one) .1 d)))
+    where
+      near : Soon t (x .from) (x .until) ahead (nextOf t x ahead)
+      near = soon t (x .from) (x .until) ahead a
+
+      low : (e ≡ never) ⊎ ((e ≡ x .from) ⊎ (e ≡ x .until)) → nextOf t x ahead ≤ e
+      low (inl q) = omega (arith, near .old)
+      low (inr (inl q)) = omega (arith, near .begin (omega (arith, far .after)))
+      low (inr (inr q)) = omega (arith, near .end (omega (arith, far .after)))
+
+      high : (nextOf t x ahead ≡ ahead) ⊎ ((nextOf t x ahead ≡ x .from) ⊎ (nextOf t x ahead ≡ x .until)) → (ltb e ahead ≡ true → e ≤ nextOf t x ahead) × (ltb e ahead ≡ false → ahead ≤ nextOf t x ahead)
+      high (inl q) = (λ d. omega (arith, ltb-true e ahead d), λ d. omega arith)
+      high (inr (inl q)) = let h : e ≤ x .from = far .begin (omega (arith, near .after)) in (λ d. omega arith, λ d. omega (arith, ltb-false e ahead d))
+      high (inr (inr q)) = let h : e ≤ x .until = far .end (omega (arith, near .after)) in (λ d. omega arith, λ d. omega (arith, ltb-false e ahead d))
+
+  edge-still : (next : ℕ) → t < next → next < e → Edge x next e (takes t x)
+  edge-still next a b = record {
+    edge-is = omega (arith, low (far .one), high (later .one));
+    taken-is = sym (takes-still t next x (omega arith) (λ h. omega (arith, far .begin h)) (λ h. omega (arith, far .end h)));
+  }
+    where
+      later : Soon next (x .from) (x .until) never (nextOf next x never)
+      later = soon next (x .from) (x .until) never (omega (arith, far .old))
+
+      low : (e ≡ never) ⊎ ((e ≡ x .from) ⊎ (e ≡ x .until)) → nextOf next x never ≤ e
+      low (inl q) = omega (arith, later .old)
+      low (inr (inl q)) = omega (arith, later .begin (omega arith))
+      low (inr (inr q)) = omega (arith, later .end (omega arith))
+
+      high : (nextOf next x never ≡ never) ⊎ ((nextOf next x never ≡ x .from) ⊎ (nextOf next x never ≡ x .until)) → e ≤ nextOf next x never
+      high (inl q) = omega (arith, far .old)
+      high (inr (inl q)) = omega (arith, far .begin (omega (arith, later .after)))
+      high (inr (inr q)) = omega (arith, far .end (omega (arith, later .after)))
 
 -- The pass
 
@@ -247,6 +294,13 @@ module _ {self : Profile} {x : Span} {release : Bool} {points : List Point} {n l
     pass-room e =
         let v : ℕ = valueAt self x release i t in
         omega (arith, k .written .n-is, length-append (k .out) (record { minute = t; free = v } ∷ []), rw (emit-yes (k .written) t v e) at (added-few l go (k .stands l)))
+
+    pub pass-next : {ahead : ℕ} → Ahead self i ahead → lesser (nextOf t x never) ahead ≡ nextOf t x ahead
+    pass-next {ahead} a = lesser-next t x go ahead (ahead-later l go (k .stands l) a) (ahead-low l go (k .stands l) a)
+
+    -- the span is where it was, unless the pass comes to where it begins or ends
+    pub pass-edge : {ahead edge taken : ℕ} → Ahead self i ahead → Edge x t edge taken → nextOf t x ahead < edge → Edge x (nextOf t x ahead) edge taken
+    pass-edge {ahead} a w h = rw (w .edge-is, w .taken-is) (edge-still t x go (nextOf t x ahead) (turn l go (k .stands l) a .after) (omega (arith, w .edge-is)))
 
     pub pass-falls : {ahead : ℕ} → Ahead self i ahead
         → left x (pointsOf self) (nextOf t x ahead) (advanced i (nextOf t x ahead) ahead) < left x (pointsOf self) t i

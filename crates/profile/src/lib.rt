@@ -6,7 +6,8 @@ ghost use Prim.Native.Nat.{_<_, _≤_};
 ghost use Rattle.plan.specs.Spans.{profile, takes};
 ghost use Rattle.scheduler.specs.Limits.{longest};
 ghost use Rattle.profile.specs.Stored.{stored, Readable, scanned};
-ghost use Rattle.profile.specs.Laid.{changed, Room, Laid, differs, sooner, advanced};
+ghost use Rattle.profile.specs.Laid.{changed, Room, Laid, never, differs, sooner, nextOf, lesser, advanced};
+ghost use Rattle.profile.specs.Forward.{Stands, forward};
 
 // The points stand first; the places past the count are all zero.
 pub struct Profile {
@@ -17,21 +18,28 @@ pub struct Profile {
 // No minute is that late.
 const NEVER: u32 = 4_294_967_295;
 
-// The free nodes in minute t, from those before the change.
-fn adjusted(free: u32, t: u32, x: plan::Span, release: bool) -> u32
-    requires { ⌜ Room release (takes t x) free ⌝ }
-    ensures { λ r. ⌜ r ≡ changed release (takes t x) free ⌝ }
+// The free nodes, from those before the change.
+fn adjusted(free: u32, taken: u32, release: bool) -> u32
+    requires { ⌜ Room release taken free ⌝ }
+    ensures { λ r. ⌜ r ≡ changed release taken free ⌝ }
+{
+    if release {
+        return free + taken;
+    }
+    free - taken
+}
+
+// The nodes that the span takes in minute t.
+fn taken_at(t: u32, x: plan::Span) -> u32
+    ensures { λ r. ⌜ r ≡ takes t x ⌝ }
 {
     if t < x.from {
-        return free;
+        return 0;
     }
     if x.until <= t {
-        return free;
+        return 0;
     }
-    if release {
-        return free + x.nodes;
-    }
-    free - x.nodes
+    x.nodes
 }
 
 // Whether a point is to be put down: it is the first, or has other free nodes than the last.
@@ -54,6 +62,24 @@ fn sooner(t: u32, m: u32, next: u32) -> u32
         }
     }
     next
+}
+
+// The next minute in which the span begins or ends.
+fn edge_after(t: u32, x: plan::Span) -> u32
+    ensures { λ r. ⌜ r ≡ nextOf t x never ⌝ }
+{
+    let begin = sooner(t, x.from, NEVER);
+    let next = sooner(t, x.until, begin);
+    next
+}
+
+fn lesser(a: u32, b: u32) -> u32
+    ensures { λ r. ⌜ r ≡ lesser a b ⌝ }
+{
+    if a < b {
+        return a;
+    }
+    b
 }
 
 // The old point at which the pass stands in the next minute.
@@ -107,6 +133,35 @@ impl Profile {
         anchor
     }
 
+    // The earliest minute for a job that stands in the plan at this start, as if it did not: one pass over the points before its start.
+    pub fn forward(self, nodes: u32, hold: u32, start: u32) -> u32
+        requires { ⌜ Stands self nodes hold start ⌝ }
+        ensures { λ r. ⌜ ((l : Stands self nodes hold start) → r ≡ forward l) ⌝ }
+    {
+        let count = self.count;
+        let first = self.points[0];
+        let mut anchor = first.minute;
+        let mut i: usize = 0;
+        let mut t = first.minute;
+        while t < start {
+            let p = self.points[i];
+            let k = i + 1;
+            let mut next = start;
+            if k < count {
+                let q = self.points[k];
+                next = sooner(t, q.minute, start);
+            }
+            if p.free < nodes {
+                anchor = next;
+            } else if anchor + hold <= next {
+                return anchor;
+            }
+            i = k;
+            t = next;
+        }
+        anchor
+    }
+
     // With the span's nodes taken, or free again: one pass that stands at each minute in which the old free nodes change or the span
     // begins or ends.
     pub fn overlay(self, x: plan::Span, release: bool) -> Profile
@@ -121,9 +176,11 @@ impl Profile {
         let count = self.count;
         let first = self.points[0];
         let mut t = first.minute;
+        let mut edge = edge_after(t, x);
+        let mut taken = taken_at(t, x);
         while t < NEVER {
             let p = self.points[i];
-            let free = adjusted(p.free, t, x, release);
+            let free = adjusted(p.free, taken, release);
             if differs(n, last, free) {
                 points[n] = plan::Point {
                     minute: t,
@@ -138,9 +195,12 @@ impl Profile {
                 let q = self.points[k];
                 ahead = q.minute;
             }
-            let begin = sooner(t, x.from, ahead);
-            let next = sooner(t, x.until, begin);
+            let next = lesser(edge, ahead);
             i = advanced(i, next, ahead);
+            if edge <= next {
+                edge = edge_after(next, x);
+                taken = taken_at(next, x);
+            }
             t = next;
         }
         Profile {
