@@ -1,0 +1,3 @@
+pub mod Thin
+pub mod Thin0
+pub mod Thin1
