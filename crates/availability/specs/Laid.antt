@@ -8,13 +8,13 @@ use mathlib.Core.List.{List}
 use mathlib.Core.Logic.{_⊎_, inl, inr}
 use lib.ListN.{getD}
 use Rattle.lists.specs.Tests.{le-or}
+use Rattle.scheduler.specs.Limits.{horizon}
 use Rattle.plan.specs.declared.Span.{Span}
 use Rattle.plan.specs.Spans.{takes}
 use Rattle.plan.specs.Used.{takes-in, takes-before, takes-after}
-use Rattle.profile.specs.Laid.{changed, Room}
 use Rattle.availability.specs.declared.Row.{Row}
-use Rattle.availability.specs.Lists.{places, Adjustable, Adjusted}
-use Rattle.availability.specs.Table.{Table, table-rise, Split}
+use Rattle.availability.specs.Lists.{rows, changed, Room, Adjustable, Adjusted}
+use Rattle.availability.specs.Table.{Table, table-rise, table-same, Split}
 
 -- the lists are a table of f, which with x laid over it, or taken out, is g
 pub record Lays (ms fs : List ℕ) (n : ℕ) (x : Span) (release : Bool) : Type 0 where
@@ -24,7 +24,8 @@ pub record Lays (ms fs : List ℕ) (n : ℕ) (x : Span) (release : Bool) : Type 
   pub table : Table f now n ms fs
   pub change : (t : ℕ) → now ≤ t → g t ≡ changed release (takes t x) (f t)
   pub room : (t : ℕ) → now ≤ t → Room release (takes t x) (f t)
-  pub fits : n + 2 ≤ places
+  pub until : x .until ≤ horizon
+  pub fits : n + 2 ≤ rows
 
 pub record Laid {ms fs : List ℕ} {n : ℕ} {x : Span} {release : Bool} (l : Lays ms fs n x release) (r : ℕ) (ms′ fs′ : List ℕ) : Type 0 where
   pub table : Table (l .g) (l .now) r ms′ fs′
@@ -40,21 +41,8 @@ module _ {ms fs : List ℕ} {n : ℕ} {x : Span} {release : Bool} (l : Lays ms f
 
   -- it is over by now, or is no stretch at all
   pub laid-none : x .until ≤ max (getD ms 0 0) (x .from) → Laid l n ms fs
-  laid-none h = record {
-    table = record {
-      minutes-long = l .table .minutes-long;
-      free-long = l .table .free-long;
-      some = l .table .some;
-      first = l .table .first;
-      rise = l .table .rise;
-      value = λ i t a b c. none t (from-now i t a b) (out t (from-now i t a b) (le-or (x .from) t)) ∙ l .table .value i t a b c;
-    };
-    most = omega arith;
-  }
+  laid-none h = record { table = table-same (λ t a. none t a (out t a (le-or (x .from) t))) (l .table); most = omega arith }
     where
-      from-now : (i t : ℕ) → i < n → getD ms i 0 ≤ t → l .now ≤ t
-      from-now i t a b = omega (arith, l .table .first, table-rise (l .table) 0 i (omega arith) a)
-
       out : (t : ℕ) → l .now ≤ t → (x .from ≤ t) ⊎ (t < x .from) → takes t x ≡ 0
       out t a (inl u) = takes-after t x (omega (arith, l .table .first))
       out t a (inr u) = takes-before t x u
@@ -64,10 +52,10 @@ module _ {ms fs : List ℕ} {n : ℕ} {x : Span} {release : Bool} (l : Lays ms f
       {b : Row} {ms₂ fs₂ : List ℕ} (u : Split ms₁ fs₁ (a .count) (x .until) b ms₂ fs₂)
     where
       table₁ : Table (l .f) (l .now) (a .count) ms₁ fs₁
-      table₁ = s .same (l .f) (l .now) (l .table)
+      table₁ = s .same (l .f) (l .now) (l .table) (omega (arith, l .until))
 
       table₂ : Table (l .f) (l .now) (b .count) ms₂ fs₂
-      table₂ = u .same (l .f) (l .now) table₁
+      table₂ = u .same (l .f) (l .now) table₁ (l .until)
 
       -- the span begins in a place of the last table
       begins : getD ms₂ (a .at) 0 ≡ from
@@ -128,6 +116,7 @@ module _ {ms fs : List ℕ} {n : ℕ} {x : Span} {release : Bool} (l : Lays ms f
           free-long = w .long ∙ table₂ .free-long;
           some = table₂ .some;
           first = table₂ .first;
+          low = table₂ .low;
           rise = table₂ .rise;
           value = λ i t h d e. go i t h d e (le-or (a .at) i) (le-or (b .at) i);
         };

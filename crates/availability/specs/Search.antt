@@ -12,7 +12,7 @@ use Rattle.plan.specs.declared.Span.{Span}
 use Rattle.plan.specs.Spans.{free, earliest, Fits, Earliest}
 use Rattle.plan.specs.Earliest.{earliest-is, earliest-unique}
 use Rattle.scheduler.specs.Limits.{horizon, longest}
-use Rattle.availability.specs.Lists.{places}
+use Rattle.availability.specs.Lists.{rows}
 use Rattle.availability.specs.Table.{Table, table-rise}
 
 -- the lists are a table of the spans before; without the job, which has n nodes for h minutes, they are the others
@@ -24,12 +24,11 @@ pub record Seeks (ms fs : List ℕ) (at n h : ℕ) : Type 0 where
   pub count : ℕ
   pub table : Table (free nodes before) now count ms fs
   pub inside : at < count
-  pub fit : count ≤ places
+  pub fit : count ≤ rows
   pub enough : n ≤ nodes
   pub some : 1 ≤ h
   pub early : (t : ℕ) → now ≤ t → t < getD ms at 0 → free nodes others t ≡ free nodes before t
   pub late : (t : ℕ) → getD ms at 0 ≤ t → t < getD ms at 0 + h → n ≤ free nodes others t
-  pub low : getD ms at 0 ≤ horizon
   pub hold-to : h ≤ longest
 
 abbrev pub found : {ms fs : List ℕ} {at n h : ℕ} → Seeks ms fs at n h → ℕ
@@ -66,7 +65,7 @@ module _ {ms fs : List ℕ} {at n h : ℕ} (s : Seeks ms fs at n h) where
       (earliest-is (s .nodes) (s .others) (s .now) n h (s .enough))
 
   pub up-to : (i : ℕ) → i ≤ at → getD ms i 0 ≤ horizon
-  up-to i l = omega (arith, table-rise (s .table) i at l (s .inside), s .low)
+  up-to i l = s .table .low i (omega (arith, s .inside))
 
   module _ {i : ℕ} (l : i < at) where
     rises : getD ms i 0 < getD ms (i + 1) 0

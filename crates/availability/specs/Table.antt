@@ -7,31 +7,34 @@ use mathlib.Core.List.{List}
 use mathlib.Core.Logic.{_⊎_, inl, inr}
 use lib.ListN.{getD, length}
 use Rattle.lists.specs.Tests.{le-or}
+use Rattle.scheduler.specs.Limits.{horizon}
 use Rattle.availability.specs.declared.Row.{Row}
-use Rattle.availability.specs.Lists.{places, Inserted}
+use Rattle.availability.specs.Lists.{rows, Inserted}
 
 -- from now on f is as the first n places say
 pub record Table (f : ℕ → ℕ) (now n : ℕ) (ms fs : List ℕ) : Type 0 where
-  pub minutes-long : length ms ≡ places
-  pub free-long : length fs ≡ places
+  pub minutes-long : length ms ≡ rows
+  pub free-long : length fs ≡ rows
   pub some : 1 ≤ n
   pub first : getD ms 0 0 ≡ now
+  pub low : (i : ℕ) → i < n → getD ms i 0 ≤ horizon
   pub rise : (i : ℕ) → i + 1 < n → getD ms i 0 < getD ms (i + 1) 0
   pub value : (i t : ℕ) → i < n → getD ms i 0 ≤ t → (i + 1 < n → t < getD ms (i + 1) 0) → f t ≡ getD fs i 0
 
 -- the table of a machine on which no node is taken
 pub record Opened (nodes now : ℕ) (ms fs : List ℕ) : Type 0 where
-  pub minutes-long : length ms ≡ places
-  pub free-long : length fs ≡ places
+  pub minutes-long : length ms ≡ rows
+  pub free-long : length fs ≡ rows
   pub minute : getD ms 0 0 ≡ now
   pub left : getD fs 0 0 ≡ nodes
 
-pub opened-table : (f : ℕ → ℕ) (nodes now : ℕ) (ms fs : List ℕ) → Opened nodes now ms fs → ((t : ℕ) → now ≤ t → f t ≡ nodes) → Table f now 1 ms fs
-opened-table f nodes now ms fs o e = record {
+pub opened-table : (f : ℕ → ℕ) (nodes now : ℕ) (ms fs : List ℕ) → Opened nodes now ms fs → now ≤ horizon → ((t : ℕ) → now ≤ t → f t ≡ nodes) → Table f now 1 ms fs
+opened-table f nodes now ms fs o h e = record {
   minutes-long = o .minutes-long;
   free-long = o .free-long;
   some = omega arith;
   first = o .minute;
+  low = λ i l. let z : i ≡ 0 = omega arith in omega (arith, o .minute, ap (λ (k : ℕ). getD ms k 0) z);
   rise = λ i l. absurd (omega arith);
   value = λ i t l a b. let z : i ≡ 0 = omega arith in e t (omega (arith, o .minute, ap (λ (k : ℕ). getD ms k 0) z)) ∙ sym (o .left) ∙ ap (λ (k : ℕ). getD fs k 0) (sym z);
 }
@@ -45,11 +48,23 @@ table-rise {ms = ms} q i (suc j) l h = go (λ k. table-rise q i j k (omega arith
     go f (inl k) = let e : j + 1 ≡ suc j = omega arith in omega (arith, f k, q .rise j (omega arith), ap (λ (m : ℕ). getD ms m 0) e)
     go f (inr k) = let e : i ≡ suc j = omega arith in omega (arith, ap (λ (m : ℕ). getD ms m 0) e)
 
+-- a table of what is the same from now on
+pub table-same : {f g : ℕ → ℕ} {now n : ℕ} {ms fs : List ℕ} → ((t : ℕ) → now ≤ t → g t ≡ f t) → Table f now n ms fs → Table g now n ms fs
+table-same e q = record {
+  minutes-long = q .minutes-long;
+  free-long = q .free-long;
+  some = q .some;
+  first = q .first;
+  low = q .low;
+  rise = q .rise;
+  value = λ i t l a b. e t (omega (arith, q .first, table-rise q 0 i (omega arith) l)) ∙ q .value i t l a b;
+}
+
 -- a search for the place of minute t ends, and stays inside
 pub record Ascends (ms : List ℕ) (n t : ℕ) : Type 0 where
-  pub long : length ms ≡ places
+  pub long : length ms ≡ rows
   pub some : 1 ≤ n
-  pub fit : n ≤ places
+  pub fit : n ≤ rows
   pub first : getD ms 0 0 ≤ t
 
 -- r is the place after the last minute that is not later than t
@@ -65,7 +80,7 @@ pub record Split (ms fs : List ℕ) (n t : ℕ) (r : Row) (ms′ fs′ : List �
   pub minute : getD ms′ (r .at) 0 ≡ t
   pub most : r .count ≤ n + 1
   pub grows : n ≤ r .count
-  pub same : (f : ℕ → ℕ) (now : ℕ) → Table f now n ms fs → Table f now (r .count) ms′ fs′
+  pub same : (f : ℕ → ℕ) (now : ℕ) → Table f now n ms fs → t ≤ horizon → Table f now (r .count) ms′ fs′
   pub kept : (f : ℕ → ℕ) (now : ℕ) → Table f now n ms fs → (j : ℕ) → j < n → getD ms j 0 ≤ t → getD ms′ j 0 ≡ getD ms j 0
 
 module _ {ms fs : List ℕ} {n t k : ℕ} (p : Place ms n t k) where
@@ -76,7 +91,7 @@ module _ {ms fs : List ℕ} {n t k : ℕ} (p : Place ms n t k) where
     minute = e;
     most = omega arith;
     grows = omega arith;
-    same = λ f now q. q;
+    same = λ f now q h. q;
     kept = λ f now q j l a. refl;
   }
 
@@ -131,8 +146,16 @@ module _ {ms fs : List ℕ} {n t k : ℕ} (p : Place ms n t k) where
                   ∙ sym (b .after (i - 1) (omega arith) (omega arith))
                   ∙ ap (λ (m : ℕ). getD fs′ m 0) e
 
-      table : Table f now (n + 1) ms′ fs′
-      table = record { minutes-long = a .long ∙ q .minutes-long; free-long = b .long ∙ q .free-long; some = omega arith; first = a .before 0 (omega (arith, p .some)) ∙ q .first; rise = rise; value = value }
+      low : t ≤ horizon → (i : ℕ) → i < n + 1 → getD ms′ i 0 ≤ horizon
+      low h i l = go (le-or k i) (le-or i k)
+        where
+          go : (k ≤ i) ⊎ (i < k) → (i ≤ k) ⊎ (k < i) → getD ms′ i 0 ≤ horizon
+          go (inr u) v = omega (arith, a .before i u, q .low i (omega (arith, p .low)))
+          go (inl u) (inl v) = let e : i ≡ k = omega arith in omega (arith, ap (λ (m : ℕ). getD ms′ m 0) e, a .here)
+          go (inl u) (inr v) = let e : i - 1 + 1 ≡ i = omega arith in omega (arith, a .after (i - 1) (omega arith) (omega arith), ap (λ (m : ℕ). getD ms′ m 0) e, q .low (i - 1) (omega arith))
+
+      table : t ≤ horizon → Table f now (n + 1) ms′ fs′
+      table h = record { minutes-long = a .long ∙ q .minutes-long; free-long = b .long ∙ q .free-long; some = omega arith; first = a .before 0 (omega (arith, p .some)) ∙ q .first; low = low h; rise = rise; value = value }
 
       kept : (j : ℕ) → j < n → getD ms j 0 ≤ t → getD ms′ j 0 ≡ getD ms j 0
       kept j l u = go (le-or k j)
@@ -148,6 +171,6 @@ module _ {ms fs : List ℕ} {n t k : ℕ} (p : Place ms n t k) where
       minute = a .here;
       most = omega arith;
       grows = omega arith;
-      same = λ f now q. table q;
+      same = λ f now q h. table q h;
       kept = λ f now q. kept q;
     }

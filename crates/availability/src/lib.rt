@@ -4,7 +4,7 @@
 ghost use mathlib.Core.Path.{_≡_};
 ghost use Prim.Native.Nat.{_<_, _≤_};
 ghost use lib.ListN.{length};
-ghost use Rattle.availability.specs.Lists.{places, Inserted, Adjusted, Adjustable};
+ghost use Rattle.availability.specs.Lists.{rows, Inserted, Adjusted, Adjustable};
 ghost use Rattle.availability.specs.Table.{Opened, Ascends, Place, Split};
 ghost use Rattle.availability.specs.Laid.{Lays, Laid};
 ghost use Rattle.availability.specs.Search.{Seeks, found};
@@ -17,7 +17,7 @@ pub struct Row {
 
 // No node is taken.
 pub fn idle(minutes: &mut [u32; 449], free: &mut [u32; 449], nodes: u32, minute: u32)
-    requires { ⌜ (length (now minutes) ≡ places) × (length (now free) ≡ places) ⌝ }
+    requires { ⌜ (length (now minutes) ≡ rows) × (length (now free) ≡ rows) ⌝ }
     ensures { λ _. ⌜ Opened nodes minute (now (minutes .exit)) (now (free .exit)) ⌝ }
 {
     minutes[0] = minute;
@@ -38,7 +38,7 @@ fn place_after(minutes: &[u32; 449], count: usize, t: u32) -> usize
 
 // The value goes into this place; what stood there and after it moves up.
 fn insert(list: &mut [u32; 449], count: usize, at: usize, value: u32)
-    requires { ⌜ (length (now list) ≡ places) × (at ≤ count) × (count < places) ⌝ }
+    requires { ⌜ (length (now list) ≡ rows) × (at ≤ count) × (count < rows) ⌝ }
     ensures { λ _. ⌜ Inserted (now (list .entry)) count at value (now (list .exit)) ⌝ }
 {
     let mut i = count;
@@ -51,7 +51,7 @@ fn insert(list: &mut [u32; 449], count: usize, at: usize, value: u32)
 
 // The table has a place for minute t, and says the same as before.
 pub fn split(minutes: &mut [u32; 449], free: &mut [u32; 449], count: usize, t: u32) -> Row
-    requires { ⌜ Ascends (now minutes) count t × (length (now free) ≡ places) × (count < places) ⌝ }
+    requires { ⌜ Ascends (now minutes) count t × (length (now free) ≡ rows) × (count < rows) ⌝ }
     ensures { λ r. ⌜ Split (now (minutes .entry)) (now (free .entry)) count t r (now (minutes .exit)) (now (free .exit)) ⌝ }
 {
     let k = place_after(minutes, count, t);

@@ -38,7 +38,7 @@ split-requires-2 c κs =
     ⊎-elim (λ w. omega (arith, w .1, w .0 .taken)) (λ w. omega (arith, w .1, w .0 .left)) (j .if1 .came) in
     let l = s .pre in
     let u = c .before .before .split .ensures in
-    let q = u .same (l .f) (l .now) (l .table) in (
+    let q = u .same (l .f) (l .now) (l .table) (omega (arith, l .until, c .before .before .before .before .before .if2 .left)) in (
       record {
         long = q .minutes-long;
         some = q .some;
