@@ -3,7 +3,7 @@
 use mathlib.Core.Path.{_≡_, refl, sym, ap, subst, _∙_}
 use mathlib.Core.Bool.{Bool, true, false, cond}
 use mathlib.Core.List.{List, [], _∷_, _++_, append-nil}
-use Prim.Native.Nat.{ℕ, zero, suc, _+_, _-_, _≤_, _<_}
+use Prim.Native.Nat.{ℕ, zero, suc, _+_, _-_, _*_, _≤_, _<_}
 use native.Mathlib.Numerals.{add-one}
 use native.Mathlib.Nat.{add-zero}
 use native.Mathlib.Omega.{arith}
@@ -12,7 +12,7 @@ use lib.Seq.{set-split, set-getD, split-at, drop-set-lt, drop-drop, getD-drop, d
 use Rattle.lists.specs.Tests.{true-false}
 use Rattle.lists.specs.Lists.{All, In, all-of, all-in, all-at}
 use Rattle.lists.specs.Pads.{pad, all-pad, length-pad}
-use Rattle.plan.specs.Spans.{used, profile}
+use Rattle.plan.specs.Spans.{used, free}
 use Rattle.walltime.specs.WallTime.{wallTime}
 use Rattle.walltime.specs.Laws.{wallTime-pos}
 use Rattle.scheduler.specs.declared.Job.{Job}
@@ -23,17 +23,13 @@ use Rattle.scheduler.specs.Settings.{Settings}
 use Rattle.scheduler.specs.Table.{withJobs}
 use Rattle.scheduler.specs.Model.{Model, store, view, withModelJobs}
 use Rattle.jobs.specs.Premise.{Holds}
-use Rattle.profile.specs.declared.Profile.{Profile}
-use Rattle.profile.specs.Stored.{stored}
+use Rattle.availability.specs.Table.{Table}
 use Rattle.conservative_rules.specs.Conservative.{spans, moved, pass, points}
 use Rattle.conservative_rules.specs.Valid.{used-append}
 use Rattle.conservative_rules.specs.Loops.{Same, moved-same, turn, loop, pass-as-loop}
 use Rattle.conservative.specs.declared.Replanned.{Replanned}
-use Rattle.conservative.specs.Slots.{Planned, Slots, planned-slots, takes-unused}
-use Rattle.conservative.specs.Replan.{Replans, movedTo, put-in, fits-after}
-
-abbrev pub replanned : {p : Profile} {j : Job} {now : ℕ} → Replans p j now → Replanned
-replanned q = record { job = movedTo q; profile = put-in q }
+use Rattle.conservative.specs.Slots.{Planned, Slots, Tabulated, planned-slots, takes-unused}
+use Rattle.conservative.specs.Replan.{Replans, Turned, movedTo, fits-after}
 
 -- a model whose waiting jobs are planned for later than now
 pub record Replannable (m : Model) : Type 0 where
@@ -68,18 +64,19 @@ held-before d h =
     subst (λ (e : Scheduler). Before (view d .settings) (d .clock) (e .jobs)) (sym (h .stored))
     (record { fits = planned-slots (view d) (h .holds .planned); each = slot-jobs (view d) (h .holds) })
 
--- the turns before i are over: js are the slots now, and p is their profile
-pub record Passing (S : Settings) (now : ℕ) (js₀ js : List Job) (i : ℕ) (p : Profile) : Type 0 where
+-- the turns before i are over: js are the slots now, and the lists are their table
+pub record Passing (S : Settings) (now : ℕ) (js₀ js : List Job) (i n : ℕ) (ms fs : List ℕ) : Type 0 where
   pub low : i ≤ slots
   pub fits : Slots S now js
   pub same : drop i js ≡ drop i js₀
   pub rest : loop S now unused (slots - i) i js ≡ loop S now unused slots 0 js₀
-  pub plan : p ≡ stored (profile (S .nodes) (spans S js) now)
+  pub table : Table (free (S .nodes) (spans S js)) now n ms fs
+  pub most : n ≤ 129 + 5 * i
 
-pub pass-begins : {S : Settings} {now : ℕ} {js : List Job} {p : Profile} → Slots S now js → p ≡ stored (profile (S .nodes) (spans S js) now) → Passing S now js js 0 p
-pass-begins s e = record { low = omega arith; fits = s; same = refl; rest = refl; plan = e }
+pub pass-begins : {d : Scheduler} {n : ℕ} {ms fs : List ℕ} → Slots (view d .settings) (d .clock) (d .jobs) → Tabulated d n ms fs → Passing (view d .settings) (d .clock) (d .jobs) (d .jobs) 0 n ms fs
+pass-begins s t = record { low = omega arith; fits = s; same = refl; rest = refl; table = t .table; most = omega (arith, t .most) }
 
-module _ {S : Settings} {now : ℕ} {js₀ js : List Job} {i : ℕ} {p : Profile} (b : Before S now js₀) (v : Passing S now js₀ js i p) (l : i < slots) where
+module _ {S : Settings} {now : ℕ} {js₀ js : List Job} {i n : ℕ} {ms fs : List ℕ} (b : Before S now js₀) (v : Passing S now js₀ js i n ms fs) (l : i < slots) where
   abbrev j : Job
   j = getD js₀ i unused
 
@@ -98,7 +95,7 @@ module _ {S : Settings} {now : ℕ} {js₀ js : List Job} {i : ℕ} {p : Profile
   split = split-at js i unused in₀ ∙ rw (here-is, ← add-one i)
 
   -- the turn of a waiting job
-  pub replans : isWaiting j ≡ true → Replans p j now
+  pub replans : isWaiting j ≡ true → Replans ms fs n j now
   replans w =
       let s = all-at (SlotJob S now) js₀ i unused (b .each) (omega (arith, b .fits .all)) in
       record {
@@ -106,7 +103,8 @@ module _ {S : Settings} {now : ℕ} {js₀ js : List Job} {i : ℕ} {p : Profile
         xs = take i js;
         ys = drop (i + 1) js;
         fits = subst (Slots S now) split (v .fits);
-        plan = v .plan ∙ ap (λ (ks : List Job). stored (profile (S .nodes) (spans S ks) now)) split;
+        table = subst (λ (ks : List Job). Table (free (S .nodes) (spans S ks)) now n ms fs) split (v .table);
+        room-left = omega (arith, v .most);
         waits = w;
         ahead = s .ahead w;
         nodes-to = s .nodes-to;
@@ -130,21 +128,22 @@ module _ {S : Settings} {now : ℕ} {js₀ js : List Job} {i : ℕ} {p : Profile
       ap (λ (k : Job). loop S now unused (slots - (i + 1)) (i + 1) (set js i (moved S now (take i js ++ drop (i + 1) js) k))) (sym here-is)
       ∙ (rw more at (v .rest))
 
-  pub turn-taken : (w : isWaiting j ≡ true) (r : Replanned) → ((q : Replans p j now) → r ≡ replanned q) → Passing S now js₀ (set js i (r .job)) (i + 1) (r .profile)
+  pub turn-taken : (w : isWaiting j ≡ true) (r : Replanned) {ms′ fs′ : List ℕ} → ((q : Replans ms fs n j now) → Turned q r ms′ fs′) → Passing S now js₀ (set js i (r .job)) (i + 1) (r .count) ms′ fs′
   unfolding replans
-  turn-taken w r f =
+  turn-taken w r {ms′} {fs′} f =
       let q = replans w in
-      let job-is : r .job ≡ movedTo q = ap (λ (x : Replanned). x .job) (f q) in
+      let job-is : r .job ≡ movedTo q = f q .job-is in
       let set-is : set js i (r .job) ≡ take i js ++ movedTo q ∷ drop (i + 1) js = ap (set js i) job-is ∙ set-split js i (movedTo q) in₀ ∙ rw (← add-one i) in
       record {
         low = omega arith;
         fits = subst (Slots S now) (sym set-is) (fits-after q);
         same = same-next (r .job);
         rest = ap (λ (k : Job). loop S now unused (slots - (i + 1)) (i + 1) (set js i k)) job-is ∙ loop-turn;
-        plan = ap (λ (x : Replanned). x .profile) (f q) ∙ ap (λ (ks : List Job). stored (profile (S .nodes) (spans S ks) now)) (sym set-is);
+        table = subst (λ (ks : List Job). Table (free (S .nodes) (spans S ks)) now (r .count) ms′ fs′) (sym set-is) (f q .table);
+        most = omega (arith, f q .most, v .most);
       }
 
-  pub turn-passed : isWaiting j ≡ false → Passing S now js₀ js (i + 1) p
+  pub turn-passed : isWaiting j ≡ false → Passing S now js₀ js (i + 1) n ms fs
   turn-passed w =
       let still : moved S now (take i js ++ drop (i + 1) js) j ≡ getD js i unused = rw w (sym here-is) in
       let set-is : js ≡ set js i (moved S now (take i js ++ drop (i + 1) js) j) = sym (ap (set js i) still ∙ set-getD js i unused) in
@@ -153,11 +152,12 @@ module _ {S : Settings} {now : ℕ} {js₀ js : List Job} {i : ℕ} {p : Profile
         fits = v .fits;
         same = ap (drop (i + 1)) set-is ∙ same-next (moved S now (take i js ++ drop (i + 1) js) j);
         rest = ap (loop S now unused (slots - (i + 1)) (i + 1)) set-is ∙ loop-turn;
-        plan = v .plan;
+        table = v .table;
+        most = omega (arith, v .most);
       }
 
 -- all turns are over
-pub pass-ends : {S : Settings} {now : ℕ} {js₀ js : List Job} {i : ℕ} {p : Profile} → Before S now js₀ → Passing S now js₀ js i p → slots ≤ i → js ≡ pass S now [] js₀
+pub pass-ends : {S : Settings} {now : ℕ} {js₀ js : List Job} {i n : ℕ} {ms fs : List ℕ} → Before S now js₀ → Passing S now js₀ js i n ms fs → slots ≤ i → js ≡ pass S now [] js₀
 unfolding loop
 pass-ends {S} {now} {js₀} {js} {i} b v h =
     let none : slots - i ≡ 0 = omega arith in

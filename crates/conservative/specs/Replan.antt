@@ -1,4 +1,4 @@
--- One turn of the pass after an early end: a waiting job is taken out of the profile and put in again at its smallest minute.
+-- One turn of the pass after an early end: a waiting job is taken out of the plan and put in again at its smallest minute.
 -- Assumes nothing.
 use mathlib.Core.Path.{_≡_, refl, sym, ap, subst, _∙_}
 use mathlib.Core.Bool.{Bool, true, false, cond, _&&_}
@@ -12,7 +12,7 @@ use Rattle.lists.specs.Tests.{case, true-false}
 use Rattle.lists.specs.Lists.{All, In, here, all-append, all-in, in-left, in-right, sum-append}
 use Rattle.plan.specs.declared.Span.{Span}
 use Rattle.plan.specs.Spans.{takes, used, free, earliest, profile, Earliest}
-use Rattle.plan.specs.Used.{used-among, takes-before, takes-in}
+use Rattle.plan.specs.Used.{used-among, takes-before, takes-in, free-less, free-more}
 use Rattle.plan.specs.Earliest.{earliest-is}
 use Rattle.plan.specs.Profile.{profile-same}
 use Rattle.walltime.specs.WallTime.{wallTime}
@@ -20,22 +20,25 @@ use Rattle.walltime.specs.Laws.{wallTime-le}
 use Rattle.scheduler.specs.declared.Job.{Job}
 use Rattle.scheduler.specs.Jobs.{isWaiting, isLive}
 use Rattle.scheduler.specs.Settings.{Settings, horizon, holdTime, until}
-use Rattle.profile.specs.declared.Profile.{Profile}
-use Rattle.profile.specs.Stored.{stored, Small}
-use Rattle.profile.specs.Laid.{Laid, laid-reserve, laid-release}
-use Rattle.profile.specs.Forward.{Stands, forward}
+use Rattle.availability.specs.declared.Row.{Row}
+use Rattle.availability.specs.Lists.{rows}
+use Rattle.availability.specs.Table.{Table, Ascends, Split}
+use Rattle.availability.specs.Laid.{Lays, Laid}
+use Rattle.availability.specs.Search.{Seeks, found}
 use Rattle.conservative_rules.specs.Conservative.{span, spans, placed, moved}
 use Rattle.conservative_rules.specs.Valid.{Follows, follows-start, moved-follows, used-append}
-use Rattle.conservative.specs.Slots.{Slots, all-spans}
+use Rattle.conservative.specs.declared.Replanned.{Replanned}
+use Rattle.conservative.specs.Slots.{spanAt, Slots}
 use Rattle.conservative.specs.Turn.{turned-other}
 
--- p is the profile of the slots xs, j and ys, and j waits
-pub record Replans (p : Profile) (j : Job) (now : ℕ) : Type 0 where
+-- the lists are a table of the slots xs, j and ys, and j waits
+pub record Replans (ms fs : List ℕ) (n : ℕ) (j : Job) (now : ℕ) : Type 0 where
   pub settings : Settings
   pub xs : List Job
   pub ys : List Job
   pub fits : Slots settings now (xs ++ j ∷ ys)
-  pub plan : p ≡ stored (profile (settings .nodes) (spans settings (xs ++ j ∷ ys)) now)
+  pub table : Table (free (settings .nodes) (spans settings (xs ++ j ∷ ys))) now n ms fs
+  pub room-left : n + 5 ≤ rows
   pub waits : isWaiting j ≡ true
   pub ahead : now < j .start
   pub nodes-to : j .nodes ≤ settings .nodes
@@ -46,7 +49,10 @@ all-instead : {A : Type 0} (P : A → Type 0) (xs : List A) (x y : A) (ys : List
 all-instead P [] x y ys a h = (h, a .1)
 all-instead P (z ∷ xs) x y ys a h = (a .0, all-instead P xs x y ys (a .1) h)
 
-module _ {p : Profile} {j : Job} {now : ℕ} (q : Replans p j now) where
+placed-span : (S : Settings) (now s : ℕ) (j : Job) → span S (placed now s j) ≡ spanAt (j .nodes) s (wallTime (j .estimate))
+placed-span S now s j = refl
+
+module _ {ms fs : List ℕ} {n : ℕ} {j : Job} {now : ℕ} (q : Replans ms fs n j now) where
   abbrev S : Settings
   S = q .settings
 
@@ -57,12 +63,12 @@ module _ {p : Profile} {j : Job} {now : ℕ} (q : Replans p j now) where
   abbrev pub movedTo : Job
   movedTo = moved S now others j
 
-  -- the profile without it, and with it again
-  abbrev pub left-out : Profile
-  left-out = stored (profile (S .nodes) (spans S others) now)
+  -- the free nodes without it, and with it again
+  abbrev pub without : ℕ → ℕ
+  without = free (S .nodes) (spans S others)
 
-  abbrev pub put-in : Profile
-  put-in = stored (profile (S .nodes) (spans S (q .xs ++ movedTo ∷ q .ys)) now)
+  abbrev pub with : Job → ℕ → ℕ
+  with k = free (S .nodes) (spans S (q .xs ++ k ∷ q .ys))
 
   split : (k : Job) → spans S (q .xs ++ k ∷ q .ys) ≡ spans S (q .xs) ++ span S k ∷ spans S (q .ys)
   split k = map-append (span S) (q .xs) (k ∷ q .ys)
@@ -82,84 +88,54 @@ module _ {p : Profile} {j : Job} {now : ℕ} (q : Replans p j now) where
   pub room-after : (t : ℕ) → now ≤ t → takes t (span S movedTo) + used t (spans S others) ≤ S .nodes
   room-after = moved-follows S now others j (q .nodes-to) (λ w. q .ahead) room .1
 
-  ends-all : All (λ (x : Span). x .until ≤ horizon S) (spans S (q .xs ++ j ∷ q .ys))
-  ends-all = all-spans S (q .xs ++ j ∷ q .ys) (q .fits .ends)
-
-  small-all : Small (spans S (q .xs ++ j ∷ q .ys)) now
-  small-all = record { few = omega (arith, q .fits .all, length-map (q .xs ++ j ∷ q .ys) (span S)); clock = q .fits .clock-to; ends = ends-all }
-
   end-of : until S j ≤ horizon S
-  end-of = all-in (λ (x : Span). x .until ≤ horizon S) ends-all (subst (In (span S j)) (sym (split j)) (in-right (spans S (q .xs)) (here refl)))
+  end-of = all-in (λ (k : Job). until S k ≤ horizon S) (q .fits .ends) (in-right (q .xs) (here refl))
 
   pub start-of : j .start ≤ 1000000
   start-of = omega (arith, end-of)
-
-  -- taken out
-  pub take-out : Laid p (span S j) true
-  take-out =
-      laid-release (S .nodes) (spans S (q .xs)) (span S j) (spans S (q .ys)) now
-      (q .plan ∙ ap (λ (zs : List Span). stored (profile (S .nodes) zs now)) (split j))
-      (q .fits .nodes-to)
-      (rw (split j) at small-all)
-      (omega (arith, end-of))
-      (λ r l. rw (split j) at (q .fits .room r l))
-
-  pub taken-out : (o : Profile) → ((l : Laid p (span S j) true) → o ≡ stored (profile (l .nodes) (l .after) (l .now))) → o ≡ left-out
-  unfolding take-out
-  taken-out o f = f take-out ∙ ap (λ (zs : List Span). stored (profile (S .nodes) zs now)) (sym split-others)
-
-  small-others : Small (spans S others) now
-  small-others = record {
-    few = omega (arith, q .fits .all, length-map others (span S), length-append (q .xs) (q .ys), length-append (q .xs) (j ∷ q .ys));
-    clock = q .fits .clock-to;
-    ends = rw split-others (all-append _ (spans S (q .xs)) (spans S (q .ys)) (all-front (spans S (q .xs)) (span S j ∷ spans S (q .ys)) (rw (split j) at ends-all)) (all-back (spans S (q .xs)) (spans S (q .ys)) (rw (split j) at ends-all)));
-  }
-    where
-      all-front : (us : List Span) (bs : List Span) → All (λ (x : Span). x .until ≤ horizon S) (us ++ bs) → All (λ (x : Span). x .until ≤ horizon S) us
-      all-front [] bs a = tt
-      all-front (b ∷ us) bs a = (a .0, all-front us bs (a .1))
-
-      all-back : (us : List Span) (bs : List Span) → All (λ (x : Span). x .until ≤ horizon S) (us ++ span S j ∷ bs) → All (λ (x : Span). x .until ≤ horizon S) bs
-      all-back [] bs a = a .1
-      all-back (b ∷ us) bs a = all-back us bs (a .1)
 
   -- where it is put in again
   abbrev pub startAt : ℕ
   startAt = earliest (S .nodes) (spans S others) now (j .nodes) (wallTime (j .estimate))
 
-  pub stands : Stands p (j .nodes) (wallTime (j .estimate)) (j .start)
-  stands = record {
-    nodes = S .nodes;
-    before = spans S (q .xs ++ j ∷ q .ys);
-    others = spans S others;
-    now = now;
-    self-is = q .plan;
-    small = small-all;
-    enough = q .nodes-to;
-    some = q .hold-from;
-    ahead = omega (arith, q .ahead);
-    early = λ t l b. omega (arith, among t j, takes-before t (span S j) b);
-    late = λ t l b. omega (arith, room t (omega (arith, q .ahead)), takes-in t (span S j) l b);
-    start-to = start-of;
-    hold-to = wallTime-le (j .estimate);
-  }
+  -- its start gets a place
+  pub ascends : Ascends ms n (j .start)
+  ascends = record { long = q .table .minutes-long; some = q .table .some; fit = omega (arith, q .room-left); first = omega (arith, q .table .first, q .ahead) }
 
-  pub start-is : (s : ℕ) → ((l : Stands p (j .nodes) (wallTime (j .estimate)) (j .start)) → s ≡ forward l) → s ≡ startAt
-  unfolding stands
-  start-is s f = f stands
+  module _ {r : Row} {ms₁ fs₁ : List ℕ} (s : Split ms fs n (j .start) r ms₁ fs₁) where
+    pub own-table : Table (with j) now (r .count) ms₁ fs₁
+    own-table = s .same (with j) now (q .table) start-of
+
+    pub seeks : Seeks ms₁ fs₁ (r .at) (j .nodes) (wallTime (j .estimate))
+    seeks = record {
+      nodes = S .nodes;
+      before = spans S (q .xs ++ j ∷ q .ys);
+      others = spans S others;
+      now = now;
+      count = r .count;
+      table = own-table;
+      inside = s .inside;
+      fit = omega (arith, s .most, q .room-left);
+      enough = q .nodes-to;
+      some = q .hold-from;
+      early = λ t l b. omega (arith, among t j, takes-before t (span S j) (omega (arith, s .minute)));
+      late = λ t l b. omega (arith, room t (omega (arith, q .ahead, s .minute)), takes-in t (span S j) (omega (arith, s .minute)) (omega (arith, s .minute)));
+      hold-to = wallTime-le (j .estimate);
+    }
+
+    pub start-is : {k : ℕ} → ((l : Seeks ms₁ fs₁ (r .at) (j .nodes) (wallTime (j .estimate))) → k ≡ found l) → k ≡ startAt
+    unfolding seeks
+    start-is f = f seeks
 
   pub moved-is : movedTo ≡ placed now startAt j
   moved-is = rw (q .waits)
 
   -- it stays where it is
-  pub stays-put : startAt ≡ j .start → (j ≡ movedTo) × (p ≡ put-in)
-  stays-put e = (same, q .plan ∙ ap (λ (k : Job). stored (profile (S .nodes) (spans S (q .xs ++ k ∷ q .ys)) now)) same)
-    where
-      same : j ≡ movedTo
-      same =
-          sym (rw (q .waits) at (turned-other now j (rw (q .waits) (ne-eqb (j .start) now (λ z. omega (arith, q .ahead))))))
-          ∙ ap (λ (s : ℕ). placed now s j) (sym e)
-          ∙ sym moved-is
+  pub stays-put : startAt ≡ j .start → j ≡ movedTo
+  stays-put e =
+      sym (rw (q .waits) at (turned-other now j (rw (q .waits) (ne-eqb (j .start) now (λ z. omega (arith, q .ahead))))))
+      ∙ ap (λ (s : ℕ). placed now s j) (sym e)
+      ∙ sym moved-is
 
   -- or moves
   start-low : movedTo .start ≤ j .start
@@ -174,21 +150,40 @@ module _ {p : Profile} {j : Job} {now : ℕ} (q : Replans p j now) where
   end-after : until S movedTo ≤ horizon S
   end-after = omega (arith, start-low, end-of, ap wallTime same-hold)
 
-  pub lay-in : Laid left-out (span S movedTo) false
-  lay-in =
-      laid-reserve (S .nodes) (span S movedTo) (spans S others) now refl
-      (record { few = few-more; clock = q .fits .clock-to; ends = (end-after, small-others .ends) })
-      (omega (arith, start-low, start-of))
-      room-after
-    where
-      few-more : length (span S movedTo ∷ spans S others) ≤ 64
-      few-more = omega (arith, q .fits .all, length-map others (span S), length-append (q .xs) (q .ys), length-append (q .xs) (j ∷ q .ys))
+  -- taken out
+  pub take-out : {n₁ : ℕ} {ms₁ fs₁ : List ℕ} → Table (with j) now n₁ ms₁ fs₁ → n₁ ≤ n + 1 → Lays ms₁ fs₁ n₁ (span S j) true
+  take-out t l = record {
+    f = with j;
+    g = without;
+    now = now;
+    table = t;
+    change = λ t l. free-more t (S .nodes) (span S j) (spans S (q .xs ++ j ∷ q .ys)) (spans S others) (among t j) (q .fits .room t l);
+    room = λ t l. omega (arith, among t j, q .fits .room t l, q .fits .nodes-to);
+    until = end-of;
+    fits = omega (arith, q .room-left);
+  }
 
-  pub laid-in : (o : Profile) → ((l : Laid left-out (span S movedTo) false) → o ≡ stored (profile (l .nodes) (l .after) (l .now))) → o ≡ put-in
-  unfolding lay-in
-  laid-in o f =
-      f lay-in
-      ∙ ap stored (profile-same (S .nodes) (span S movedTo ∷ spans S others) (spans S (q .xs ++ movedTo ∷ q .ys)) now (λ t l. sym (among t movedTo)))
+  -- and laid in again
+  pub lay-in : {n₂ : ℕ} {ms₂ fs₂ : List ℕ} → Table without now n₂ ms₂ fs₂ → n₂ ≤ n + 3 → Lays ms₂ fs₂ n₂ (span S movedTo) false
+  lay-in t l = record {
+    f = without;
+    g = with movedTo;
+    now = now;
+    table = t;
+    change = λ t l. free-less t (S .nodes) (span S movedTo) (spans S others) (spans S (q .xs ++ movedTo ∷ q .ys)) (among t movedTo);
+    room = λ t l. omega (arith, room-after t l);
+    until = end-after;
+    fits = omega (arith, q .room-left);
+  }
+
+  pub moved-span : span S movedTo ≡ spanAt (j .nodes) startAt (wallTime (j .estimate))
+  moved-span = ap (span S) moved-is ∙ placed-span S now startAt j
+
+  -- after the turn: the job at its place, and the table with it there
+  pub record Turned (r : Replanned) (ms′ fs′ : List ℕ) : Type 0 where
+    pub job-is : r .job ≡ movedTo
+    pub table : Table (with movedTo) now (r .count) ms′ fs′
+    pub most : r .count ≤ n + 5
 
   -- the slots after the turn fit the machine too
   pub fits-after : Slots S now (q .xs ++ movedTo ∷ q .ys)
@@ -203,3 +198,23 @@ module _ {p : Profile} {j : Job} {now : ℕ} (q : Replans p j now) where
     where
       state-live : isLive (placed now startAt j) ≡ true
       state-live = case (eqb startAt now) (λ e. rw e) (λ e. rw e)
+
+  module _ {r : Row} {ms₁ fs₁ : List ℕ} (s : Split ms fs n (j .start) r ms₁ fs₁) where
+    pub turned-stays : startAt ≡ j .start → Turned (record { job = j; count = r .count }) ms₁ fs₁
+    turned-stays e = record {
+      job-is = stays-put e;
+      table = subst (λ (k : Job). Table (with k) now (r .count) ms₁ fs₁) (stays-put e) (own-table s);
+      most = omega (arith, s .most);
+    }
+
+    pub out : Lays ms₁ fs₁ (r .count) (span S j) true
+    out = take-out (own-table s) (s .most)
+
+    module _ {n₂ : ℕ} {ms₂ fs₂ : List ℕ} (f : (l : Lays ms₁ fs₁ (r .count) (span S j) true) → Laid l n₂ ms₂ fs₂) where
+      pub back : Lays ms₂ fs₂ n₂ (span S movedTo) false
+      unfolding out take-out
+      back = lay-in (f out .table) (omega (arith, f out .most, s .most))
+
+      pub turned-moves : {n₃ : ℕ} {ms₃ fs₃ : List ℕ} → ((l : Lays ms₂ fs₂ n₂ (span S movedTo) false) → Laid l n₃ ms₃ fs₃) → Turned (record { job = movedTo; count = n₃ }) ms₃ fs₃
+      unfolding back lay-in
+      turned-moves g = record { job-is = refl; table = g back .table; most = omega (arith, g back .most, f out .most, s .most) }

@@ -4,7 +4,7 @@ use mathlib.Core.Path.{_≡_, refl, sym, ap, subst, _∙_}
 use mathlib.Core.Bool.{Bool, true, false}
 use mathlib.Core.List.{List, [], _∷_, _++_, map, map-append}
 use mathlib.Core.Logic.{_⊎_, inl, inr}
-use Prim.Native.Nat.{ℕ, zero, suc, _+_, _-_, _≤_, _<_}
+use Prim.Native.Nat.{ℕ, zero, suc, _+_, _-_, _*_, _≤_, _<_}
 use native.Mathlib.Numerals.{add-one}
 use native.Mathlib.Omega.{arith}
 use lib.ListN.{length, getD, take, drop, replicate, length-map, length-take, take-append-drop}
@@ -13,8 +13,8 @@ use Rattle.lists.specs.Tests.{true-false}
 use Rattle.lists.specs.Lists.{sum, All, In, here, all-of, all-at, sum-append, sum-map}
 use Rattle.lists.specs.Pads.{pad, sum-pad, length-pad, all-pad}
 use Rattle.plan.specs.declared.Span.{Span}
-use Rattle.plan.specs.Spans.{takes, used, profile}
-use Rattle.plan.specs.Used.{takes-le}
+use Rattle.plan.specs.Spans.{takes, used, free, profile}
+use Rattle.plan.specs.Used.{takes-le, free-less}
 use Rattle.plan.specs.Profile.{profile-same}
 use Rattle.walltime.specs.WallTime.{wallTime}
 use Rattle.scheduler.specs.declared.Job.{Job}
@@ -26,13 +26,15 @@ use Rattle.scheduler.specs.Model.{Model, store, view}
 use Rattle.jobs.specs.Sound.{Sound, SoundJob}
 use Rattle.jobs.specs.Premise.{Holds}
 use Rattle.profile.specs.declared.Profile.{Profile}
-use Rattle.profile.specs.Stored.{stored, Small}
-use Rattle.profile.specs.Laid.{Laid, laid-reserve}
+use Rattle.profile.specs.Stored.{stored}
+use Rattle.profile.specs.Points.{Tabled}
+use Rattle.availability.specs.Table.{Table, Opened, opened-table, table-same}
+use Rattle.availability.specs.Laid.{Lays, Laid}
 use Rattle.conservative_rules.specs.Conservative.{span, spans, points}
 use Rattle.conservative_rules.specs.Valid.{Valid}
 
-abbrev pub spanOf : Job → Span
-spanOf j = record { from = j .start; until = j .start + wallTime (j .estimate); nodes = j .nodes }
+abbrev pub spanAt : ℕ → ℕ → ℕ → Span
+spanAt nodes from hold = record { from = from; until = from + hold; nodes = nodes }
 
 -- a model whose jobs fit the machine in every minute from now on
 pub record Planned (m : Model) : Type 0 where
@@ -82,20 +84,15 @@ start-low {S} {js = js} s i h = omega (arith, all-at (λ (k : Job). until S k �
 
 -- ## The profile of the slots
 
-pub all-spans : (S : Settings) (js : List Job) → All (λ (j : Job). until S j ≤ horizon S) js → All (λ (x : Span). x .until ≤ horizon S) (spans S js)
-all-spans S [] a = tt
-all-spans S (j ∷ js) a = (a .0, all-spans S js (a .1))
-
-all-take : {A : Type 0} (P : A → Type 0) (i : ℕ) (xs : List A) → All P xs → All P (take i xs)
-all-take P zero xs a = tt
-all-take P (suc i) [] a = tt
-all-take P (suc i) (x ∷ xs) a = (a .0, all-take P i xs (a .1))
-
 -- the first i slots are laid over the idle machine
-abbrev pub Laying : Settings → ℕ → List Job → ℕ → Profile → Type 0
-Laying S now js i p = p ≡ stored (profile (S .nodes) (spans S (take i js)) now)
+pub record Laying (S : Settings) (now : ℕ) (js : List Job) (i n : ℕ) (ms fs : List ℕ) : Type 0 where
+  pub table : Table (free (S .nodes) (spans S (take i js))) now n ms fs
+  pub most : n ≤ 1 + 2 * i
 
-module _ {S : Settings} {now : ℕ} {js : List Job} (s : Slots S now js) {i : ℕ} (low : i < slots) {p : Profile} (v : Laying S now js i p) where
+pub laying-begin : {S : Settings} {now : ℕ} {js : List Job} → Slots S now js → (ms fs : List ℕ) → Opened (S .nodes) now ms fs → Laying S now js 0 1 ms fs
+laying-begin {S} {now} s ms fs o = record { table = opened-table (free (S .nodes) []) (S .nodes) now ms fs o (s .clock-to) (λ t l. omega arith); most = omega arith }
+
+module _ {S : Settings} {now : ℕ} {js : List Job} (s : Slots S now js) {i : ℕ} (low : i < slots) {n : ℕ} {ms fs : List ℕ} (v : Laying S now js i n ms fs) where
   abbrev j : Job
   j = getD js i unused
 
@@ -116,35 +113,56 @@ module _ {S : Settings} {now : ℕ} {js : List Job} (s : Slots S now js) {i : �
       ∙ rw (map-append (span S) (take (i + 1) js) (drop (i + 1) js)) (sum-append (takes t) (spans S (take (i + 1) js)) (spans S (drop (i + 1) js))) in
       omega arith
 
-  pub lay : Laid p (span S j) false
-  lay = laid-reserve (S .nodes) (span S j) (spans S (take i js)) now v (record { few = omega (arith, s .all, length-map (take i js) (span S), length-take i js); clock = s .clock-to; ends = (end-low, all-spans S (take i js) (all-take _ i js (s .ends))) }) (omega (arith, end-low)) (λ r l. omega (arith, used-more r, used-front r, s .room r l))
+  pub lay : Lays ms fs n (span S j) false
+  lay = record {
+    f = free (S .nodes) (spans S (take i js));
+    g = free (S .nodes) (spans S (take (i + 1) js));
+    now = now;
+    table = v .table;
+    change = λ t l. free-less t (S .nodes) (span S j) (spans S (take i js)) (spans S (take (i + 1) js)) (used-more t);
+    room = λ t l. omega (arith, used-more t, used-front t, s .room t l);
+    until = end-low;
+    fits = omega (arith, v .most);
+  }
 
-  pub laid-more : (q : Profile) → ((l : Laid p (span S j) false) → q ≡ stored (profile (l .nodes) (l .after) (l .now))) → Laying S now js (i + 1) q
-  unfolding lay stored
-  laid-more q f = f lay ∙ ap stored (profile-same (S .nodes) (span S j ∷ spans S (take i js)) (spans S (take (i + 1) js)) now (λ t l. sym (used-more t)))
+  pub laid-more : {r : ℕ} {ms′ fs′ : List ℕ} → ((l : Lays ms fs n (span S j) false) → Laid l r ms′ fs′) → Laying S now js (i + 1) r ms′ fs′
+  unfolding lay
+  laid-more f = let l = f lay in record { table = l .table; most = omega (arith, l .most, v .most) }
 
-  pub laid-unused : isLive j ≡ false → Laying S now js (i + 1) p
+  pub laid-unused : isLive j ≡ false → Laying S now js (i + 1) n ms fs
   laid-unused e =
       let none : j .nodes ≡ 0 = all-at (λ (k : Job). isLive k ≡ false → k .nodes ≡ 0) js i unused (s .idle) in₀ e in
-      v ∙ ap stored (profile-same (S .nodes) (spans S (take i js)) (spans S (take (i + 1) js)) now (λ t l. omega (arith, used-more t, takes-le t (span S j))))
+      record { table = table-same (λ t l. omega (arith, used-more t, takes-le t (span S j))) (v .table); most = omega (arith, v .most) }
 
--- all slots: the profile of the model
-pub laid-all : (m : Model) (p : Profile) → Planned m → Laying (m .settings) (m .clock) (store m .jobs) slots p → p ≡ stored (points m)
-unfolding store
-laid-all m p q v =
-    v
-    ∙ ap stored
-    (profile-same (m .settings .nodes) (spans (m .settings) (take slots (pad slots unused (m .jobs)))) (spans (m .settings) (m .jobs)) (m .clock)
-    (λ t l. ap (λ (js : List Job). used t (spans (m .settings) js)) (take-all slots (pad slots unused (m .jobs)) (omega (arith, length-pad slots unused (m .jobs) (q .sound .few)))) ∙ used-slots (m .settings) t (m .jobs)))
+-- all slots: the free nodes of the scheduler
+pub record Tabulated (d : Scheduler) (n : ℕ) (ms fs : List ℕ) : Type 0 where
+  pub table : Table (free (view d .settings .nodes) (spans (view d .settings) (d .jobs))) (d .clock) n ms fs
+  pub most : n ≤ 129
 
-pub held-all : (d : Scheduler) (p : Profile) → Holds Planned d → Laying (view d .settings) (d .clock) (d .jobs) slots p → p ≡ stored (points (view d))
-unfolding view
-held-all d p h v = laid-all (view d) p (h .holds) (subst (λ (e : Scheduler). Laying (view d .settings) (d .clock) (e .jobs) slots p) (h .stored) v)
+pub laid-all : (d : Scheduler) {n : ℕ} {ms fs : List ℕ} → Holds Planned d → Laying (view d .settings) (d .clock) (d .jobs) slots n ms fs → Tabulated d n ms fs
+laid-all d {n} {ms} {fs} h v = record {
+  table = subst (λ (js : List Job). Table (free (view d .settings .nodes) (spans (view d .settings) js)) (d .clock) n ms fs) (take-all slots (d .jobs) (omega (arith, held-slots d h .all))) (v .table);
+  most = omega (arith, v .most);
+}
 
--- and the other way: the profile of the model is that of the slots
-pub points-slots : (d : Scheduler) → Holds Planned d → stored (points (view d)) ≡ stored (profile (view d .settings .nodes) (spans (view d .settings) (d .jobs)) (d .clock))
+-- what the slots take, the model's jobs take
+pub used-held : (d : Scheduler) → Holds Planned d → (t : ℕ) → used t (spans (view d .settings) (d .jobs)) ≡ used t (spans (view d .settings) (view d .jobs))
 unfolding view store
-points-slots d h =
-    ap stored
-    (profile-same (view d .settings .nodes) (spans (view d .settings) (view d .jobs)) (spans (view d .settings) (d .jobs)) (d .clock)
-    (λ t l. sym (ap (λ (e : Scheduler). used t (spans (view d .settings) (e .jobs))) (h .stored) ∙ used-slots (view d .settings) t (view d .jobs))))
+used-held d h t = ap (λ (e : Scheduler). used t (spans (view d .settings) (e .jobs))) (h .stored) ∙ used-slots (view d .settings) t (view d .jobs)
+
+-- the profile of the slots is that of the model
+pub tabled : (d : Scheduler) {n : ℕ} {ms fs : List ℕ} → Holds Planned d → Tabulated d n ms fs → Tabled ms fs n
+tabled d h t = record {
+  nodes = view d .settings .nodes;
+  spans = spans (view d .settings) (d .jobs);
+  now = d .clock;
+  table = t .table;
+  few = omega (arith, held-slots d h .all, length-map (d .jobs) (span (view d .settings)));
+  fit = omega (arith, t .most);
+}
+
+pub tabled-points : (d : Scheduler) {n : ℕ} {ms fs : List ℕ} {p : Profile} → Holds Planned d → Tabulated d n ms fs → ((q : Tabled ms fs n) → p ≡ stored (profile (q .nodes) (q .spans) (q .now))) → p ≡ stored (points (view d))
+unfolding tabled view
+tabled-points d h t f =
+    f (tabled d h t)
+    ∙ ap stored (profile-same (view d .settings .nodes) (spans (view d .settings) (d .jobs)) (spans (view d .settings) (view d .jobs)) (d .clock) (λ t l. used-held d h t))

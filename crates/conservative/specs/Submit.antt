@@ -8,16 +8,16 @@ use Prim.Native.Nat.{ℕ, suc, _+_, _-_, _≤_, _<_}
 use native.Mathlib.Numerals.{add-one}
 use native.Mathlib.Omega.{arith}
 use lib.Dec.{eqb, ltb}
-use lib.ListN.{length, length-map}
+use lib.ListN.{length, getD, length-map}
 use borrow.Author.Tests.{lt-ltb, le-ltb}
-use Rattle.lists.specs.Lists.{All, all-of}
+use Rattle.lists.specs.Lists.{All, In, here, there}
 use Rattle.scheduler.specs.declared.Job.{Job}
 use Rattle.scheduler.specs.declared.State.the-variants.{Waiting}
 use Rattle.scheduler.specs.declared.Refusal.{Refusal}
 use Rattle.scheduler.specs.declared.Refusal.the-variants as refusal
 use Rattle.scheduler.specs.declared.Scheduler.{Scheduler}
 use Rattle.scheduler.specs.declared.Outcome.{Outcome}
-use Rattle.scheduler.specs.Settings.{horizon, slots, holdTime}
+use Rattle.scheduler.specs.Settings.{horizon, slots, holdTime, until}
 use Rattle.scheduler.specs.Table.{tickets, oneIf, appended, counted}
 use Rattle.scheduler.specs.TableLaws.{appended-stored, live-stored, checked-stored, checked-more}
 use Rattle.scheduler.specs.Model.{Model, Live, store, view, joined}
@@ -27,17 +27,20 @@ use Rattle.history.specs.Calls.{submit}
 use Rattle.conservative_rules.specs.Conservative.{span, spans, points, call, newJob, placed, planned, submitRefusal, submitted}
 use Rattle.lists.specs.Least.{least-to}
 use Rattle.walltime.specs.WallTime.{wallTime}
-use Rattle.walltime.specs.Laws.{wallTime-pos}
+use Rattle.walltime.specs.Laws.{wallTime-pos, wallTime-le}
 use Rattle.plan.specs.Spans.{free, lastEnd, fits, earliest}
-use Rattle.plan.specs.Used.{last-le}
+use Rattle.plan.specs.Used.{last-le, used-last}
+use Rattle.plan.specs.Profile.{profile-length}
+use Rattle.plan.specs.declared.Span.{Span}
+use Rattle.scheduler.specs.Limits.{longest}
 use Rattle.scheduler.specs.declared.Select.the-variants.{Live as Live-select}
 use Rattle.scheduler.specs.Answers.{refusedOutcome}
 use Rattle.jobs.specs.Sound.{Fit, submit-fit, all-live}
-use Rattle.jobs.specs.Premise.{Holds, refused-held}
-use Rattle.profile.specs.Stored.{stored, Small, Readable, profile-fits, profile-readable, scanned, scanned-profile}
+use Rattle.jobs.specs.Premise.{Holds, holds-as, refused-held}
+use Rattle.availability.specs.Search.{Seeks, found}
 use Rattle.conservative_rules.specs.Valid.{Valid}
 use Rattle.conservative_rules.specs.Faithful.{eight-never}
-use Rattle.conservative.specs.Slots.{all-spans}
+use Rattle.conservative.specs.Slots.{Planned, Tabulated, used-held, valid-planned}
 
 -- the next ticket is one more
 abbrev raised : Scheduler → Scheduler
@@ -104,8 +107,49 @@ module _ (m : Model) (n e : ℕ) where
 -- the profile fits its array
 pub points-fit : (d : Scheduler) → Holds Valid d → length (points (view d)) ≤ 129
 points-fit d h =
-    profile-fits (view d .settings .nodes) (spans (view d .settings) (view d .jobs)) (view d .clock)
-    (omega (arith, h .holds .sound .few, length-map (view d .jobs) (span (view d .settings))))
+    omega (arith, profile-length (view d .settings .nodes) (spans (view d .settings) (view d .jobs)) (view d .clock), h .holds .sound .few, length-map (view d .jobs) (span (view d .settings)))
+
+-- the earliest start of n nodes for h minutes
+abbrev pub startFor : Model → ℕ → ℕ → ℕ
+startFor m n h = earliest (m .settings .nodes) (spans (m .settings) (m .jobs)) (m .clock) n h
+
+pub record Askable (d : Scheduler) (n h : ℕ) : Type 0 where
+  pub planned : Holds Planned d
+  pub nodes-to : n ≤ view d .settings .nodes
+  pub hold-from : 1 ≤ h
+  pub hold-to : h ≤ longest
+
+module _ {d : Scheduler} {n h : ℕ} (a : Askable d n h) {k : ℕ} {ms fs : List ℕ} (t : Tabulated d k ms fs) where
+  -- from the last place on all nodes are free
+  pub seeks-last : Seeks ms fs (k - 1) n h
+  unfolding view
+  seeks-last = record {
+    nodes = view d .settings .nodes;
+    before = spans (view d .settings) (d .jobs);
+    others = spans (view d .settings) (view d .jobs);
+    now = d .clock;
+    count = k;
+    table = t .table;
+    inside = inside;
+    fit = omega (arith, t .most);
+    enough = a .nodes-to;
+    some = a .hold-from;
+    early = λ r l b. omega (arith, used-held d (a .planned) r);
+    late = λ r l b.
+        let xs = spans (view d .settings) (d .jobs) in
+        omega (arith, used-held d (a .planned) r, value r l, value (r + lastEnd xs) (omega arith), used-last (r + lastEnd xs) xs (omega arith), a .nodes-to);
+    hold-to = a .hold-to;
+  }
+    where
+      inside : k - 1 < k
+      inside = omega (arith, t .table .some)
+
+      value : (r : ℕ) → getD ms (k - 1) 0 ≤ r → free (view d .settings .nodes) (spans (view d .settings) (d .jobs)) r ≡ getD fs (k - 1) 0
+      value r l = t .table .value (k - 1) r inside l (λ z. absurd (omega arith))
+
+  pub last-found : {s : ℕ} → ((q : Seeks ms fs (k - 1) n h) → s ≡ found q) → s ≡ startFor (view d) n h
+  unfolding seeks-last view
+  last-found f = f seeks-last
 
 module _ (d : Scheduler) (n e : ℕ) (h : Holds Valid d) where
   abbrev m : Model
@@ -117,21 +161,15 @@ module _ (d : Scheduler) (n e : ℕ) (h : Holds Valid d) where
   tests-held : checked d n e ≡ tests m n e
   tests-held = ap (λ (x : Scheduler). checked x n e) (h .stored) ∙ checked-stored m n e live
 
-  small : Small (spans (m .settings) (m .jobs)) (m .clock)
-  small = record {
-    few = omega (arith, h .holds .sound .few, length-map (m .jobs) (span (m .settings)));
-    clock = h .holds .sound .clock-to;
-    ends = all-spans (m .settings) (m .jobs) (all-of _ (m .jobs) (λ j i. h .holds .sound .each j i .ends));
-  }
-
-  pub points-readable : Readable (stored (points m))
-  points-readable = profile-readable (m .settings .nodes) (spans (m .settings) (m .jobs)) (m .clock) small
-
   pub planned-low : planned m n e ≤ 1000000
   unfolding planned earliest
   planned-low =
       let xs = spans (m .settings) (m .jobs) in
-      omega (arith, least-to (fits (free (m .settings .nodes) xs) n (holdTime (m .settings) e)) (lastEnd xs - m .clock) (m .clock), last-le 1000000 xs (small .ends), small .clock)
+      omega (arith, least-to (fits (free (m .settings .nodes) xs) n (holdTime (m .settings) e)) (lastEnd xs - m .clock) (m .clock), last-le 1000000 xs (ends (m .jobs) (λ j i. h .holds .sound .each j i .ends)), h .holds .sound .clock-to)
+    where
+      ends : (js : List Job) → ((j : Job) → In j js → until (m .settings) j ≤ horizon (m .settings)) → All (λ (x : Span). x .until ≤ 1000000) (spans (m .settings) js)
+      ends [] f = tt
+      ends (j ∷ js) f = (f j (here refl), ends js (λ k i. f k (there i)))
 
   module _ (a : accepts (checked d n e) ≡ true) where
     passes : accepts (tests m n e) ≡ true
@@ -144,10 +182,12 @@ module _ (d : Scheduler) (n e : ℕ) (h : Holds Valid d) where
     unfolding view
     room-held = (rw (h .stored) (omega (arith, live-stored m live, fit-held .room)), fit-held .ticket-left)
 
-    pub start-held : scanned (stored (points m)) n (wallTime e) ≡ planned m n e
+    pub askable : Askable d n (wallTime e)
+    askable = record { planned = holds-as Valid Planned d valid-planned h; nodes-to = fit-held .nodes-to; hold-from = wallTime-pos e (fit-held .estimate-from); hold-to = wallTime-le e }
+
+    pub start-held : startFor m n (wallTime e) ≡ planned m n e
     unfolding planned
-    start-held =
-        scanned-profile (m .settings .nodes) (spans (m .settings) (m .jobs)) (m .clock) n (wallTime e) (fit-held .nodes-to) (wallTime-pos e (fit-held .estimate-from))
+    start-held = refl
 
     pub taken-held : planned m n e + wallTime e ≤ 1000000 → accepted d n e (planned m n e) ≡ outcome (call m (submit n e))
     taken-held l =

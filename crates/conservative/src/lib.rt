@@ -9,12 +9,15 @@ ghost use Rattle.conservative_rules.specs.Valid.{Valid};
 ghost use Prim.Native.Nat.{_≤_, _<_};
 ghost use Rattle.scheduler.specs.Table.{counted, withJobs, tickets};
 ghost use mathlib.Core.List.{[], map};
+ghost use lib.ListN.{length};
 ghost use Rattle.profile.specs.Stored.{stored};
-ghost use Rattle.conservative.specs.Slots.{spanOf, Planned};
-ghost use Rattle.conservative.specs.Replan.{Replans};
-ghost use Rattle.conservative.specs.Pass.{replanned, Replannable};
+ghost use Rattle.conservative.specs.Slots.{spanAt, Planned, Tabulated};
+ghost use Rattle.conservative.specs.Replan.{Replans, Turned};
+ghost use Rattle.conservative.specs.Pass.{Replannable};
+ghost use Rattle.availability.specs.Lists.{rows};
+ghost use Rattle.scheduler.specs.Limits.{longest};
 ghost use Rattle.conservative.specs.Advance.{began, advancedBy};
-ghost use Rattle.conservative.specs.Submit.{accepted};
+ghost use Rattle.conservative.specs.Submit.{accepted, Askable, startFor};
 ghost use Rattle.conservative_rules.specs.Faithful.{startsAt};
 use profile::Profile;
 use scheduler::Answer;
@@ -27,40 +30,63 @@ use scheduler::State;
 use scheduler::Submission;
 use scheduler::Tickets;
 
-// The nodes that a job takes, from its start until they are free again.
-fn span_of(job: Job) -> plan::Span
-    requires { ⌜ job .start ≤ 1000000 ⌝ }
-    ensures { λ r. ⌜ r ≡ spanOf job ⌝ }
+// So many nodes, from a minute on for so long.
+fn span(nodes: u32, from: u32, hold: u32) -> plan::Span
+    requires { ⌜ (from ≤ 1000000) × (hold ≤ longest) ⌝ }
+    ensures { λ r. ⌜ r ≡ spanAt nodes from hold ⌝ }
 {
     plan::Span {
-        from: job.start,
-        until: job.start + walltime::wall_time(job.estimate),
-        nodes: job.nodes,
+        from: from,
+        until: from + hold,
+        nodes: nodes,
     }
 }
 
-// The free nodes from now on: each live job's span is laid over the idle machine's profile.
-pub fn profile_of(d: Scheduler) -> Profile
-    requires { ⌜ Holds Planned d ⌝ }
-    ensures { λ r. ⌜ r ≡ stored (points (view d)) ⌝ }
+// The free nodes from now on, as a table: each live job's span is laid over the idle machine's.
+fn tabulate(d: Scheduler, minutes: &mut [u32; 449], free: &mut [u32; 449]) -> usize
+    requires { ⌜ Holds Planned d × (length (now minutes) ≡ rows) × (length (now free) ≡ rows) ⌝ }
+    ensures { λ r. ⌜ Tabulated d r (now (minutes .exit)) (now (free .exit)) ⌝ }
 {
-    let mut p = Profile::idle(d.nodes, d.clock);
+    availability::idle(minutes, free, d.nodes, d.clock);
+    let mut count: usize = 1;
     let mut i: usize = 0;
     while i < Scheduler::LIVE {
         let j = d.jobs[i];
         if j.is_live() {
-            let x = span_of(j);
-            p = p.overlay(x, false);
+            let x = span(j.nodes, j.start, walltime::wall_time(j.estimate));
+            count = availability::lay(minutes, free, count, x, false);
         }
         i += 1;
     }
-    p
+    count
 }
 
-// A job at its place, and the profile with it there.
+// The profile: the points of the table.
+pub fn profile_of(d: Scheduler) -> Profile
+    requires { ⌜ Holds Planned d ⌝ }
+    ensures { λ r. ⌜ r ≡ stored (points (view d)) ⌝ }
+{
+    let mut minutes = [0u32; 449];
+    let mut free = [0u32; 449];
+    let count = tabulate(d, &mut minutes, &mut free);
+    Profile::of(&minutes, &free, count)
+}
+
+// The earliest minute, now or later, from which on so many nodes are free for so long.
+fn earliest(d: Scheduler, nodes: u32, hold: u32) -> u32
+    requires { ⌜ Askable d nodes hold ⌝ }
+    ensures { λ r. ⌜ r ≡ startFor (view d) nodes hold ⌝ }
+{
+    let mut minutes = [0u32; 449];
+    let mut free = [0u32; 449];
+    let count = tabulate(d, &mut minutes, &mut free);
+    availability::search(&minutes, &free, count - 1, nodes, hold)
+}
+
+// A job at its place, and how many places the table with it there has.
 pub struct Replanned {
     pub job: Job,
-    pub profile: Profile,
+    pub count: usize,
 }
 
 // Whether it waits and its planned start is this minute.
@@ -99,24 +125,37 @@ fn place(job: Job, now: u32, s: u32) -> Job
     }
 }
 
-// A waiting job is taken out of the profile and put in again at its smallest minute, if that is another.
-fn replan(p: Profile, job: Job, now: u32) -> Replanned
-    requires { ⌜ Replans p job now ⌝ }
-    ensures { λ r. ⌜ ((q : Replans p job now) → r ≡ replanned q) ⌝ }
+// A waiting job is taken out of the plan and put in again at its smallest minute, if that is another.
+fn replan(
+    job: Job,
+    clock: u32,
+    minutes: &mut [u32; 449],
+    free: &mut [u32; 449],
+    count: usize,
+) -> Replanned
+    requires { ⌜ Replans (now minutes) (now free) count job clock ⌝ }
+    ensures { λ r. ⌜ ((q : Replans (now (minutes .entry)) (now (free .entry)) count job clock) → Turned q r (now (minutes .exit)) (now (free .exit))) ⌝ }
 {
-    let start = p.forward(job.nodes, walltime::wall_time(job.estimate), job.start);
+    let hold = walltime::wall_time(job.estimate);
+    let own = availability::split(minutes, free, count, job.start);
+    let start = availability::search(minutes, free, own.at, job.nodes, hold);
     if start == job.start {
         return Replanned {
             job: job,
-            profile: p,
+            count: own.count,
         };
     }
-    let out = p.overlay(span_of(job), true);
-    let moved = place(job, now, start);
-    let back = out.overlay(span_of(moved), false);
+    let out = availability::lay(
+        minutes,
+        free,
+        own.count,
+        span(job.nodes, job.start, hold),
+        true,
+    );
+    let back = availability::lay(minutes, free, out, span(job.nodes, start, hold), false);
     Replanned {
-        job: moved,
-        profile: back,
+        job: place(job, clock, start),
+        count: back,
     }
 }
 
@@ -125,17 +164,19 @@ fn replan_all(d: Scheduler) -> Scheduler
     requires { ⌜ Holds Replannable d ⌝ }
     ensures { λ r. ⌜ r ≡ withJobs d (pass (view d .settings) (d .clock) [] (d .jobs)) ⌝ }
 {
-    let now = d.clock;
-    let mut p = profile_of(d);
+    let clock = d.clock;
+    let mut minutes = [0u32; 449];
+    let mut free = [0u32; 449];
+    let mut count = tabulate(d, &mut minutes, &mut free);
     let mut e = d;
     let mut i: usize = 0;
     while i < Scheduler::LIVE {
         let j = d.jobs[i];
         if j.is_waiting() {
-            let t = replan(p, j, now);
+            let t = replan(j, clock, &mut minutes, &mut free, count);
             let k = t.job;
             e.jobs[i] = k;
-            p = t.profile;
+            count = t.count;
         }
         i += 1;
     }
@@ -252,7 +293,7 @@ pub fn submit(d: Scheduler, s: Submission) -> Outcome
     let refusal = d.check(s);
     if refusal.is_none() {
         let hold = walltime::wall_time(s.estimate);
-        let start = profile_of(d).earliest(s.nodes, hold);
+        let start = earliest(d, s.nodes, hold);
         if Scheduler::HORIZON < start + hold {
             return d.refused(Refusal::PastHorizon);
         }

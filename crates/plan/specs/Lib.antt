@@ -3,6 +3,4 @@ pub mod Computed
 pub mod Used
 pub mod Earliest
 pub mod Profile
-pub mod Steps
-pub mod Scan
-pub mod Overlay
+pub mod Emit

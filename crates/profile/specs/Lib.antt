@@ -1,5 +1,2 @@
 pub mod Stored
-pub mod Seek
-pub mod Laid
-pub mod Pass
-pub mod Forward
+pub mod Points

@@ -39,7 +39,8 @@ fn play(script: &[u8], to: i32) {
     let page: &mut [u8] = &mut space;
     let mut p = script::begin();
     while goes_on(p) {
-        p = turn(p, script, to, page);
+        let q = script::pass_over(p);
+        p = turn(q, script, to, page);
     }
 }
 

@@ -3,3 +3,4 @@ pub mod Whole
 pub mod Ends
 pub mod Steps
 pub mod Turns
+pub mod PassOver

@@ -11,6 +11,7 @@ ghost use Rattle.writing.specs.Answered.{answerText};
 ghost use Rattle.reading.specs.Meaning.{opens, asks};
 ghost use Rattle.script.specs.Pieces.{over, going, piece, openingPiece, firstPiece, requestPiece, laterPiece, pieceOf, Stepped, beginning};
 ghost use Rattle.script.specs.Ends.{Ready};
+ghost use Rattle.script.specs.PassOver.{PassesOver};
 use reading::Asked;
 use reading::FirstLine;
 use scheduler::Answer;
@@ -242,6 +243,27 @@ pub fn advance(p: Play, script: &[u8], page: &mut [u8]) -> Step
         Stage::First => first(p, script, page),
         Stage::Playing => later(p, script, page),
         Stage::Over => silent(p, p, page),
+    }
+}
+
+// Quiet minutes of a wait are passed over at once: their ticks print nothing.
+pub fn pass_over(p: Play) -> Play
+    requires { ⌜ Premise (p .scheduler) ⌝ }
+    ensures { λ r. ⌜ PassesOver p r ⌝ }
+{
+    let steps = p.steps;
+    if steps == 0 {
+        return p;
+    }
+    let stage = p.stage;
+    let mut d = p.scheduler;
+    let minutes = quiet::quiet_minutes(d, steps);
+    d.clock += minutes;
+    Play {
+        stage: stage,
+        at: p.at,
+        steps: steps - minutes,
+        scheduler: d,
     }
 }
 

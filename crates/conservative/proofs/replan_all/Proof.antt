@@ -1,6 +1,7 @@
--- `conservative::replan_all` meets its contract: so many turns are over, and the profile is that of the slots.
+-- `conservative::replan_all` meets its contract: so many turns are over, and the table is that of the slots.
 -- Assumes nothing.
 use mathlib.Core.Path.{_≡_, refl, sym, ap, _∙_}
+use mathlib.Core.List.{List}
 use mathlib.Core.Logic.{⊎-elim}
 use Prim.Native.Nat.{ℕ, _+_, _-_, _≤_, _<_}
 use native.Mathlib.Omega.{arith}
@@ -9,39 +10,29 @@ use Rattle.scheduler.specs.declared.Scheduler.{Scheduler}
 use Rattle.scheduler.specs.Model.{Model, view}
 use Rattle.scheduler.specs.Table.{withJobs}
 use Rattle.jobs.specs.Premise.{Holds, holds-as}
-use Rattle.profile.specs.declared.Profile.{Profile}
-use Rattle.conservative.specs.Slots.{Planned, points-slots}
+use Rattle.conservative.specs.Slots.{Planned}
 use Rattle.conservative.specs.Pass.{Replannable, Passing, held-before, pass-begins, replans, turn-taken, turn-passed, pass-ends}
 use borrow.Author.Needs.{needs}
 use Rattle.conservative.proofs.replan_all.Statement.{statement}
 use Rattle.conservative.proofs.replan_all.Tie as tie
-use Rattle.conservative.proofs.replan_all.Reads as reads
-use Rattle.conservative.proofs.replan_all.Lts as lts
-use Rattle.conservative.proofs.profile_of.Reads as profile-of-reads
-use Rattle.conservative.proofs.replan.Reads as replan-reads
-use Rattle.scheduler.proofs.Job.is_waiting.Reads as is-waiting-reads
 
-record Inv (d e : Scheduler) (i : ℕ) (p : Profile) : Type 0 where
+record Inv (d e : Scheduler) (i n : ℕ) (ms fs : List ℕ) : Type 0 where
   scheduler-is : e ≡ withJobs d (e .jobs)
-  passing : Passing (view d .settings) (d .clock) (d .jobs) (e .jobs) i p
+  passing : Passing (view d .settings) (d .clock) (d .jobs) (e .jobs) i n ms fs
 
 abbrev Inv-loop : tie.InvT-loop
-Inv-loop d now p₀ e₀ i₀ p e i = Inv d e i p
+Inv-loop d clock minutes₀ free₀ count₀ e₀ i₀ minutes free count e i = Inv d e i count minutes free
 
 abbrev μ-loop : tie.MeasureT-loop
-μ-loop d now p₀ e₀ i₀ p e i = 64 - i
+μ-loop d clock minutes₀ free₀ count₀ e₀ i₀ minutes free count e i = 64 - i
 
-profile-of-requires : tie.Need-profile-of-requires Inv-loop μ-loop
-profile-of-requires c κs = holds-as Replannable Planned (c .args .t1) (λ m r. r .planned) (c .pre)
+tabulate-requires : tie.Need-tabulate-requires Inv-loop μ-loop
+tabulate-requires c κs = (holds-as Replannable Planned (c .before .before .args .t1) (λ m r. r .planned) (c .before .before .pre), refl, refl)
 
 loop-holds : tie.Need-loop-holds Inv-loop μ-loop
 loop-holds c =
-    let s = c .before in
-    let h = s .pre in
-    record {
-      scheduler-is = refl;
-      passing = pass-begins (held-before (s .args .t1) h .fits) (c .profile-of .ensures ∙ points-slots (s .args .t1) (holds-as Replannable Planned (s .args .t1) (λ m r. r .planned) h));
-    }
+    let s = c .before .before .before in
+    record { scheduler-is = refl; passing = pass-begins (held-before (s .args .t1) (s .pre) .fits) (c .tabulate .ensures) }
 
 mul-j : tie.Need-mul-j Inv-loop μ-loop
 mul-j c = search needs
@@ -54,9 +45,9 @@ is-waiting-requires c κs = search needs
 
 replan-requires : tie.Need-replan-requires Inv-loop μ-loop
 replan-requires c κs =
-    let s = c .before .before .before .before .before .before in
-    let l = c .before .before .before .before .loop in
-    replans (held-before (s .args .t1) (s .pre)) (l .inv .passing) (omega arith) (sym (c .before .is-waiting .ensures) ∙ c .if1 .taken)
+    let s = c .before .before .before .before .before .before .before .before .before .before in
+    let l = c .before .before .before .before .before .before .loop in
+    replans (held-before (s .args .t1) (s .pre)) (l .inv .passing) (omega arith) (sym (c .before .before .before .is-waiting .ensures) ∙ c .before .before .if1 .taken)
 
 mul-k : tie.Need-mul-k Inv-loop μ-loop
 mul-k c = search needs
@@ -72,22 +63,22 @@ loop-less c = search needs
 
 loop-again : tie.Need-loop-again Inv-loop μ-loop
 loop-again c =
-    let s = c .before .before .before .before .before .before in
+    let s = c .before .before .before .before .before .before .before .before in
     let l = c .before .before .before .before .loop in
     let h : l .i < 64 = omega arith in
     let q = held-before (s .args .t1) (s .pre) in
     let e = c .before .is-waiting .ensures in
     ⊎-elim
-    (λ w. rw (w .4, w .5) (record {
-      scheduler-is = ap (λ (f : Scheduler). withJobs f (set (l .e .jobs) (l .i) (w .1 .result .job))) (l .inv .scheduler-is);
-      passing = turn-taken q (l .inv .passing) h (sym e ∙ w .0 .taken) (w .1 .result) (w .1 .ensures);
+    (λ w. rw (w .5, w .6, w .7, w .8) (record {
+      scheduler-is = ap (λ (f : Scheduler). withJobs f (set (l .e .jobs) (l .i) (w .3 .result .job))) (l .inv .scheduler-is);
+      passing = turn-taken q (l .inv .passing) h (sym e ∙ w .0 .taken) (w .3 .result) (w .3 .ensures);
     }))
-    (λ w. rw (w .1, w .2) (record { scheduler-is = l .inv .scheduler-is; passing = turn-passed q (l .inv .passing) h (sym e ∙ w .0 .left) }))
+    (λ w. rw (w .1, w .2, w .3, w .4) (record { scheduler-is = l .inv .scheduler-is; passing = turn-passed q (l .inv .passing) h (sym e ∙ w .0 .left) }))
     (c .if1 .came)
 
 returns : tie.Need-returns Inv-loop μ-loop
 returns c =
-    let s = c .before .before .before in
+    let s = c .before .before .before .before .before in
     let l = c .before .loop in
     l .inv .scheduler-is ∙ ap (withJobs (s .args .t1)) (pass-ends (held-before (s .args .t1) (s .pre)) (l .inv .passing) (omega arith))
 
@@ -97,7 +88,7 @@ replan-all-spec =
     (tie.spec
     Inv-loop
     μ-loop
-    profile-of-requires
+    tabulate-requires
     loop-holds
     mul-j
     element-copy-out-j

@@ -1,18 +1,16 @@
-use native.Mathlib.Omega.{arith}
 -- `conservative::submit` meets its contract.
 -- Assumes nothing.
 use mathlib.Core.Path.{_≡_, sym, ap, _∙_}
 use mathlib.Core.Bool.{true, false}
-use Prim.Native.Nat.{ℕ}
+use Prim.Native.Nat.{ℕ, _+_, _≤_, _<_}
+use native.Mathlib.Omega.{arith}
 use Rattle.walltime.specs.WallTime.{wallTime}
 use Rattle.walltime.specs.Laws.{wallTime-le}
 use Rattle.scheduler.specs.Model.{view}
 use Rattle.scheduler.specs.Answers.{accepts, refusedOutcome}
 use Rattle.scheduler.specs.Refusals.{checked}
-use Rattle.profile.specs.declared.Profile.{Profile}
-use Rattle.profile.specs.Stored.{stored, scanned}
-use Rattle.conservative_rules.specs.Conservative.{points, planned}
-use Rattle.conservative.specs.Submit.{accepted, points-readable, planned-low, room-held, start-held, taken-held, past-held, checked-held}
+use Rattle.conservative_rules.specs.Conservative.{planned}
+use Rattle.conservative.specs.Submit.{accepted, startFor, planned-low, askable, start-held, room-held, taken-held, past-held, checked-held}
 use borrow.Author.Needs.{needs}
 use Rattle.conservative.proofs.submit.Statement.{statement}
 use Rattle.conservative.proofs.submit.Tie as tie
@@ -26,25 +24,25 @@ is-none-requires c κs = search needs
 wall-time-requires : tie.Need-wall-time-requires
 wall-time-requires c κs = search needs
 
-profile-of-requires : tie.Need-profile-of-requires
-profile-of-requires c κs = search needs
-
 earliest-requires : tie.Need-earliest-requires
 earliest-requires c κs =
-    let s = c .before .before .before .before .before in
-    (rw (c .profile-of .ensures) (points-readable (s .args .d) (s .args .s .nodes) (s .args .s .estimate) (s .pre)), omega (arith, c .before .wall-time .ensures, wallTime-le (s .args .s .estimate)))
+    let s = c .before .before .before .before in
+    let d = s .args .d in
+    let n = s .args .s .nodes in
+    let e = s .args .s .estimate in
+    let a : accepts (checked d n e) ≡ true = ap accepts (sym (c .before .before .before .check .ensures)) ∙ sym (c .before .before .is-none .ensures) ∙ c .before .if1 .taken in
+    rw (c .wall-time .ensures) (askable d n e (s .pre) a)
 
 add-if2 : tie.Need-add-if2
 add-if2 c =
     let E = c in
-    let s = E .before .before .before .before .before .before in
+    let s = E .before .before .before .before .before in
     let d = s .args .d in
     let n = s .args .s .nodes in
     let e = s .args .s .estimate in
-    let a : accepts (checked d n e) ≡ true = ap accepts (sym (E .before .before .before .before .before .check .ensures)) ∙ sym (E .before .before .before .before .is-none .ensures) ∙ E .before .before .before .if1 .taken in
-    let w : E .before .before .wall-time .result ≡ wallTime e = E .before .before .wall-time .ensures in
-    let q : E .earliest .result ≡ planned (view d) n e =
-    E .earliest .ensures ∙ ap (λ (p : Profile). scanned p n (E .before .before .wall-time .result)) (E .before .profile-of .ensures) ∙ ap (λ (h : ℕ). scanned (stored (points (view d))) n h) w ∙ start-held d n e (s .pre) a in
+    let a : accepts (checked d n e) ≡ true = ap accepts (sym (E .before .before .before .before .check .ensures)) ∙ sym (E .before .before .before .is-none .ensures) ∙ E .before .before .if1 .taken in
+    let w : E .before .wall-time .result ≡ wallTime e = E .before .wall-time .ensures in
+    let q : E .earliest .result ≡ planned (view d) n e = E .earliest .ensures ∙ ap (startFor (view d) n) w ∙ start-held d n e (s .pre) a in
     omega (arith, planned-low d n e (s .pre), wallTime-le e)
 
 refused-requires : tie.Need-refused-requires
@@ -53,38 +51,37 @@ refused-requires c κs = search needs
 returns : tie.Need-returns
 returns c =
     let E = c .before .before in
-    let s = E .before .before .before .before .before .before in
+    let s = E .before .before .before .before .before in
     let d = s .args .d in
     let n = s .args .s .nodes in
     let e = s .args .s .estimate in
-    let a : accepts (checked d n e) ≡ true = ap accepts (sym (E .before .before .before .before .before .check .ensures)) ∙ sym (E .before .before .before .before .is-none .ensures) ∙ E .before .before .before .if1 .taken in
-    let w : E .before .before .wall-time .result ≡ wallTime e = E .before .before .wall-time .ensures in
-    let q : E .earliest .result ≡ planned (view d) n e =
-    E .earliest .ensures ∙ ap (λ (p : Profile). scanned p n (E .before .before .wall-time .result)) (E .before .profile-of .ensures) ∙ ap (λ (h : ℕ). scanned (stored (points (view d))) n h) w ∙ start-held d n e (s .pre) a in
+    let a : accepts (checked d n e) ≡ true = ap accepts (sym (E .before .before .before .before .check .ensures)) ∙ sym (E .before .before .before .is-none .ensures) ∙ E .before .before .if1 .taken in
+    let w : E .before .wall-time .result ≡ wallTime e = E .before .wall-time .ensures in
+    let q : E .earliest .result ≡ planned (view d) n e = E .earliest .ensures ∙ ap (startFor (view d) n) w ∙ start-held d n e (s .pre) a in
     c .refused .ensures ∙ past-held d n e (s .pre) a (omega (arith, c .before .if2 .taken))
 
 accept-requires : tie.Need-accept-requires
 accept-requires c κs =
     let E = c .before in
-    let s = E .before .before .before .before .before .before in
+    let s = E .before .before .before .before .before in
     let d = s .args .d in
     let n = s .args .s .nodes in
     let e = s .args .s .estimate in
-    let a : accepts (checked d n e) ≡ true = ap accepts (sym (E .before .before .before .before .before .check .ensures)) ∙ sym (E .before .before .before .before .is-none .ensures) ∙ E .before .before .before .if1 .taken in
-    let w : E .before .before .wall-time .result ≡ wallTime e = E .before .before .wall-time .ensures in
+    let a : accepts (checked d n e) ≡ true = ap accepts (sym (E .before .before .before .before .check .ensures)) ∙ sym (E .before .before .before .is-none .ensures) ∙ E .before .before .if1 .taken in
+    let w : E .before .wall-time .result ≡ wallTime e = E .before .wall-time .ensures in
+    let q : E .earliest .result ≡ planned (view d) n e = E .earliest .ensures ∙ ap (startFor (view d) n) w ∙ start-held d n e (s .pre) a in
     room-held d n e (s .pre) a
 
 returns-2 : tie.Need-returns-2
 returns-2 c =
     let E = c .before .before in
-    let s = E .before .before .before .before .before .before in
+    let s = E .before .before .before .before .before in
     let d = s .args .d in
     let n = s .args .s .nodes in
     let e = s .args .s .estimate in
-    let a : accepts (checked d n e) ≡ true = ap accepts (sym (E .before .before .before .before .before .check .ensures)) ∙ sym (E .before .before .before .before .is-none .ensures) ∙ E .before .before .before .if1 .taken in
-    let w : E .before .before .wall-time .result ≡ wallTime e = E .before .before .wall-time .ensures in
-    let q : E .earliest .result ≡ planned (view d) n e =
-    E .earliest .ensures ∙ ap (λ (p : Profile). scanned p n (E .before .before .wall-time .result)) (E .before .profile-of .ensures) ∙ ap (λ (h : ℕ). scanned (stored (points (view d))) n h) w ∙ start-held d n e (s .pre) a in
+    let a : accepts (checked d n e) ≡ true = ap accepts (sym (E .before .before .before .before .check .ensures)) ∙ sym (E .before .before .before .is-none .ensures) ∙ E .before .before .if1 .taken in
+    let w : E .before .wall-time .result ≡ wallTime e = E .before .wall-time .ensures in
+    let q : E .earliest .result ≡ planned (view d) n e = E .earliest .ensures ∙ ap (startFor (view d) n) w ∙ start-held d n e (s .pre) a in
     c .accept .ensures ∙ ap (accepted d n e) q ∙ taken-held d n e (s .pre) a (omega (arith, c .before .if2 .left))
 
 refused-requires-2 : tie.Need-refused-requires-2
@@ -107,7 +104,6 @@ submit-spec =
     check-requires
     is-none-requires
     wall-time-requires
-    profile-of-requires
     earliest-requires
     add-if2
     refused-requires

@@ -1,0 +1,60 @@
+-- `availability::split` meets its contract: the minute is there already, or is put in after the one that it follows.
+-- Assumes nothing.
+use native.Mathlib.Omega.{arith}
+use Rattle.availability.specs.Table.{Split, split-found, split-new}
+use borrow.Author.Needs.{needs}
+use Rattle.availability.proofs.split.Statement.{statement}
+use Rattle.availability.proofs.split.Tie as tie
+
+place-after-requires : tie.Need-place-after-requires
+place-after-requires c κs = search needs
+
+sub-last : tie.Need-sub-last
+sub-last c = search needs
+
+mul-if1 : tie.Need-mul-if1
+mul-if1 c = search needs
+
+element-copy-out-if1 : tie.Need-element-copy-out-if1
+element-copy-out-if1 c = search needs
+
+returns : tie.Need-returns
+returns c =
+    let p = c .before .before .place-after .ensures in
+    split-found p (omega arith)
+
+mul-left : tie.Need-mul-left
+mul-left c = search needs
+
+element-copy-out-left : tie.Need-element-copy-out-left
+element-copy-out-left c = search needs
+
+insert-requires : tie.Need-insert-requires
+insert-requires c κs = search needs
+
+insert-requires-2 : tie.Need-insert-requires-2
+insert-requires-2 c κs = search needs
+
+add-t9 : tie.Need-add-t9
+add-t9 c = search needs
+
+returns-2 : tie.Need-returns-2
+returns-2 c =
+    let p = c .before .before .before .before .before .before .before .place-after .ensures in
+    split-new p (omega (arith, p .last)) (c .before .before .insert .ensures) (c .insert2 .ensures)
+
+pub split-spec : {M : Type 1} → statement M
+split-spec =
+    tie.close
+    (tie.spec
+    place-after-requires
+    sub-last
+    mul-if1
+    element-copy-out-if1
+    returns
+    mul-left
+    element-copy-out-left
+    insert-requires
+    insert-requires-2
+    add-t9
+    returns-2)

@@ -1,0 +1,132 @@
+// The free nodes of a machine from now on, as a table in two lent lists that is changed in place: from each minute of the first list on,
+// up to the next, so many nodes are free as the second has in the same place. (A profile has points only where something changes; a
+// table may have more, and serves a search as well.)
+ghost use mathlib.Core.Path.{_≡_};
+ghost use Prim.Native.Nat.{_<_, _≤_};
+ghost use lib.ListN.{length};
+ghost use Rattle.availability.specs.Lists.{rows, Inserted, Adjusted, Adjustable};
+ghost use Rattle.availability.specs.Table.{Opened, Ascends, Place, Split};
+ghost use Rattle.availability.specs.Laid.{Lays, Laid};
+ghost use Rattle.availability.specs.Search.{Seeks, found};
+
+// The place of a minute in the table, and how many places are used.
+pub struct Row {
+    pub at: usize,
+    pub count: usize,
+}
+
+// No node is taken.
+pub fn idle(minutes: &mut [u32; 449], free: &mut [u32; 449], nodes: u32, minute: u32)
+    requires { ⌜ (length (now minutes) ≡ rows) × (length (now free) ≡ rows) ⌝ }
+    ensures { λ _. ⌜ Opened nodes minute (now (minutes .exit)) (now (free .exit)) ⌝ }
+{
+    minutes[0] = minute;
+    free[0] = nodes;
+}
+
+// The place after the last minute that is not later than t.
+fn place_after(minutes: &[u32; 449], count: usize, t: u32) -> usize
+    requires { ⌜ Ascends (now minutes) count t ⌝ }
+    ensures { λ r. ⌜ Place (now (minutes .entry)) count t r ⌝ }
+{
+    let mut k = count;
+    while t < minutes[k - 1] {
+        k -= 1;
+    }
+    k
+}
+
+// The value goes into this place; what stood there and after it moves up.
+fn insert(list: &mut [u32; 449], count: usize, at: usize, value: u32)
+    requires { ⌜ (length (now list) ≡ rows) × (at ≤ count) × (count < rows) ⌝ }
+    ensures { λ _. ⌜ Inserted (now (list .entry)) count at value (now (list .exit)) ⌝ }
+{
+    let mut i = count;
+    while at < i {
+        list[i] = list[i - 1];
+        i -= 1;
+    }
+    list[at] = value;
+}
+
+// The table has a place for minute t, and says the same as before.
+pub fn split(minutes: &mut [u32; 449], free: &mut [u32; 449], count: usize, t: u32) -> Row
+    requires { ⌜ Ascends (now minutes) count t × (length (now free) ≡ rows) × (count < rows) ⌝ }
+    ensures { λ r. ⌜ Split (now (minutes .entry)) (now (free .entry)) count t r (now (minutes .exit)) (now (free .exit)) ⌝ }
+{
+    let k = place_after(minutes, count, t);
+    let last = k - 1;
+    if minutes[last] == t {
+        return Row {
+            at: last,
+            count: count,
+        };
+    }
+    let left = free[last];
+    insert(minutes, count, k, t);
+    insert(free, count, k, left);
+    Row {
+        at: k,
+        count: count + 1,
+    }
+}
+
+// So many nodes are taken, or free again, in these places.
+fn adjust(free: &mut [u32; 449], from: usize, to: usize, nodes: u32, release: bool)
+    requires { ⌜ Adjustable (now free) from to nodes release ⌝ }
+    ensures { λ _. ⌜ Adjusted (now (free .entry)) from to nodes release (now (free .exit)) ⌝ }
+{
+    let mut i = from;
+    while i < to {
+        if release {
+            free[i] = free[i] + nodes;
+        } else {
+            free[i] = free[i] - nodes;
+        }
+        i += 1;
+    }
+}
+
+// The span's nodes are taken, or free again.
+pub fn lay(
+    minutes: &mut [u32; 449],
+    free: &mut [u32; 449],
+    count: usize,
+    x: plan::Span,
+    release: bool,
+) -> usize
+    requires { ⌜ Lays (now minutes) (now free) count x release ⌝ }
+    ensures { λ r. ⌜ ((l : Lays (now (minutes .entry)) (now (free .entry)) count x release) → Laid l r (now (minutes .exit)) (now (free .exit))) ⌝ }
+{
+    let mut from = minutes[0];
+    if from < x.from {
+        from = x.from;
+    }
+    if x.until <= from {
+        return count;
+    }
+    let a = split(minutes, free, count, from);
+    let b = split(minutes, free, a.count, x.until);
+    adjust(free, a.at, b.at, x.nodes, release);
+    b.count
+}
+
+// The earliest minute for a job that from the minute in this place on has its nodes: one pass over the places before. The anchor is the
+// minute from which on they have been free so far.
+pub fn search(minutes: &[u32; 449], free: &[u32; 449], at: usize, nodes: u32, hold: u32) -> u32
+    requires { ⌜ Seeks (now minutes) (now free) at nodes hold ⌝ }
+    ensures { λ r. ⌜ ((s : Seeks (now (minutes .entry)) (now (free .entry)) at nodes hold) → r ≡ found s) ⌝ }
+{
+    let mut anchor = minutes[0];
+    let mut i: usize = 0;
+    while i < at {
+        let next = minutes[i + 1];
+        if free[i] < nodes {
+            anchor = next;
+        } else if anchor + hold <= next {
+            return anchor;
+        }
+        i += 1;
+    }
+    anchor
+}

@@ -1,0 +1,22 @@
+-- `conservative::earliest` meets its contract: from the last place of the table on all nodes are free.
+-- Assumes nothing.
+use native.Mathlib.Omega.{arith}
+use Rattle.conservative.specs.Submit.{seeks-last, last-found}
+use borrow.Author.Needs.{needs}
+use Rattle.conservative.proofs.earliest.Statement.{statement}
+use Rattle.conservative.proofs.earliest.Tie as tie
+
+tabulate-requires : tie.Need-tabulate-requires
+tabulate-requires c κs = search needs
+
+sub-search : tie.Need-sub-search
+sub-search c = search needs
+
+search-requires : tie.Need-search-requires
+search-requires c κs = seeks-last (c .before .before .before .before .before .pre) (c .before .before .tabulate .ensures)
+
+returns : tie.Need-returns
+returns c = last-found (c .before .before .before .before .before .before .pre) (c .before .before .before .tabulate .ensures) (c .search .ensures)
+
+pub earliest-spec : {M : Type 1} → statement M
+earliest-spec = tie.close (tie.spec tabulate-requires sub-search search-requires returns)

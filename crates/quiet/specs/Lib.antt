@@ -1,0 +1,4 @@
+pub mod Due
+pub mod Conservative
+pub mod Ticks
+pub mod Ahead

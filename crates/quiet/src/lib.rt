@@ -1,0 +1,52 @@
+// Minutes in which nothing is due: ticks of them only move the clock, so that they can be passed over.
+ghost use mathlib.Core.Path.{_≡_};
+ghost use Prim.Native.Nat.{_≤_};
+ghost use Rattle.scheduler.specs.Limits.{horizon};
+ghost use Rattle.guarantees.specs.Premise.{Premise};
+ghost use Rattle.quiet.specs.Due.{Until, QuietFor};
+ghost use Rattle.quiet.specs.Ahead.{Ahead};
+use scheduler::Job;
+use scheduler::Scheduler;
+use scheduler::State;
+
+// How many minutes there are before this one, at most so many; if it is past, it does not count.
+fn before(minute: u32, clock: u32, most: u32) -> u32
+    ensures { λ r. ⌜ (r ≤ most) × Until minute clock r ⌝ }
+{
+    if minute <= clock {
+        return most;
+    }
+    let ahead = minute - clock - 1;
+    if ahead < most {
+        return ahead;
+    }
+    most
+}
+
+// How many minutes there are before this job ends or starts, at most so many.
+fn quiet_of(job: Job, clock: u32, most: u32) -> u32
+    requires { ⌜ job .start ≤ horizon ⌝ }
+    ensures { λ r. ⌜ (r ≤ most) × QuietFor clock r job ⌝ }
+{
+    let s = job.state;
+    match s {
+        State::Unused => most,
+        State::Waiting => before(job.start, clock, most),
+        State::Running => before(job.start + walltime::wall_time(job.estimate), clock, most),
+    }
+}
+
+// So many of the next minutes are quiet, at most so many: no job ends or starts in them, and none lies past the last minute.
+pub fn quiet_minutes(d: Scheduler, most: u32) -> u32
+    requires { ⌜ Premise d ⌝ }
+    ensures { λ r. ⌜ Ahead d most r ⌝ }
+{
+    let mut k = before(Scheduler::HORIZON + 1, d.clock, most);
+    let mut i: usize = 0;
+    while i < Scheduler::LIVE {
+        let j = d.jobs[i];
+        k = quiet_of(j, d.clock, k);
+        i += 1;
+    }
+    k
+}

@@ -1,0 +1,101 @@
+-- Quiet minutes of a wait print nothing: with them passed over, a script has the same left to print.
+-- Assumes nothing.
+use Prim.Native.Nat.{ℕ, zero, suc, _+_, _-_, _*_, _≤_, _<_}
+use native.Mathlib.Omega.{arith}
+use mathlib.Core.Path.{_≡_, refl, sym, ap, subst, _∙_}
+use mathlib.Core.List.{List, [], _∷_, _++_}
+use lib.ListN.{length, drop, replicate}
+use Rattle.scheduler.specs.declared.Kind.{Kind}
+use Rattle.scheduler.specs.declared.Refusal.the-variants as refusal
+use Rattle.scheduler.specs.declared.Scheduler.{Scheduler}
+use Rattle.scheduler.specs.Limits.{horizon, longest}
+use Rattle.scheduler.specs.Model.{Model, view}
+use Rattle.scheduler.specs.Answers.{Result, refusing}
+use Rattle.history.specs.Calls.{Call, tick, after}
+use Rattle.guarantees.specs.Rules.{call}
+use Rattle.guarantees.specs.Premise.{Premise, Valid, premise-sound}
+use Rattle.quiet.specs.Due.{Quiet}
+use Rattle.quiet.specs.Ticks.{passed, quiet-tick, tick-valid, quiet-next, quiet-rest, passed-none, passed-more, passedOver, passed-premise}
+use Rattle.quiet.specs.Ahead.{Ahead}
+use Rattle.script_rules.specs.Lines.{linesOf}
+use Rattle.script_rules.specs.Writing.{textOf, taken, rowsOf}
+use Rattle.script_rules.specs.Printout.{printed, printedAll, played}
+use Rattle.script.specs.declared.Play.{Play}
+use Rattle.script.specs.declared.Stage.the-variants.{First, Playing, Over}
+use Rattle.script.specs.declared.Stage.{Stage}
+use Rattle.script.specs.Whole.{fromHere, leftBy, left}
+use Rattle.script.specs.Ends.{Ready, weight, weightBy}
+
+-- r stands some quiet minutes after p: how many may differ from one correct program to another, and what is left to print may not
+pub record PassesOver (p r : Play) : Type 0 where
+  pub stage-is : r .stage ≡ p .stage
+  pub at-is : r .at ≡ p .at
+  pub few : r .steps ≤ p .steps
+  pub premise : Premise (r .scheduler)
+  pub left-is : (s : List ℕ) → left s r ≡ left s p
+
+nothing-told : (k : Kind) (t : ℕ) → textOf k t (refusing refusal.None) ≡ []
+unfolding textOf taken rowsOf
+nothing-told k t = refl
+
+module _ (s : List ℕ) (at : ℕ) where
+  -- one quiet minute
+  one-less : (m : Model) (n : ℕ) → call m tick ≡ record { reply = refusing refusal.None; model = passed m 1 } → fromHere s at (suc n) m ≡ fromHere s at n (passed m 1)
+  unfolding printedAll
+  one-less m n e =
+      ap (λ (t : List ℕ). (t ++ printedAll (call m tick .model) (replicate n tick)) ++ played (after call (call m tick .model) (replicate n tick)) (linesOf (drop at s)))
+      (ap (λ (r : Result). textOf (m .settings .kind) (r .model .clock) (r .reply)) e ∙ nothing-told (m .settings .kind) (m .clock + 1))
+      ∙ ap (λ (r : Result). fromHere s at n (r .model)) e
+
+  pub quiet-left : (k n : ℕ) (m : Model) → Valid m → m .clock + k ≤ horizon → Quiet m k → fromHere s at (k + n) m ≡ fromHere s at n (passed m k)
+  quiet-left zero n m v l q =
+      let e : 0 + n ≡ n = omega arith in
+      ap (λ (i : ℕ). fromHere s at i m) e ∙ ap (fromHere s at n) (sym (passed-none m))
+  quiet-left (suc k) n m v l q =
+      let e : suc k + n ≡ suc (k + n) = omega arith in
+      let h = quiet-next m k q in
+      ap (λ (i : ℕ). fromHere s at i m) e
+      ∙ one-less m (k + n) (quiet-tick m v (omega arith) h)
+      ∙ quiet-left k n (passed m 1) (tick-valid m v (omega arith) h) (omega arith) (quiet-rest m k q)
+      ∙ ap (fromHere s at n) (passed-more m k)
+
+pub passes-none : (p : Play) → Premise (p .scheduler) → PassesOver p p
+passes-none p h = record { stage-is = refl; at-is = refl; few = omega arith; premise = h; left-is = λ s. refl }
+
+module _ (p : Play) (h : Premise (p .scheduler)) {k : ℕ} (a : Ahead (p .scheduler) (p .steps) k) where
+  pub in-time : p .scheduler .clock + k ≤ horizon
+  unfolding view
+  in-time = a .within (premise-sound (p .scheduler) h .clock-to)
+
+  abbrev pub passedBy : Play
+  passedBy = record { stage = p .stage; at = p .at; steps = p .steps - k; scheduler = passedOver (p .scheduler) k }
+
+  left-same : (g : Stage) (s : List ℕ) → leftBy g s passedBy ≡ leftBy g s p
+  unfolding view
+  left-same First s = refl
+  left-same Playing s =
+      let e : k + (p .steps - k) ≡ p .steps = omega (arith, a .few) in
+      sym (quiet-left s (p .at) k (p .steps - k) (view (p .scheduler)) (h .holds) in-time (a .quiet)) ∙ ap (λ (i : ℕ). fromHere s (p .at) i (view (p .scheduler))) e
+  left-same Over s = refl
+
+  pub passes-quiet : PassesOver p passedBy
+  passes-quiet = record {
+    stage-is = refl;
+    at-is = refl;
+    few = omega arith;
+    premise = passed-premise (p .scheduler) k h in-time (a .quiet);
+    left-is = left-same (p .stage);
+  }
+
+-- a script being played is ready after it too, and has no more to play
+module _ (s : List ℕ) (p r : Play) (o : PassesOver p r) where
+  pub passes-ready : Ready s p → Ready s r
+  passes-ready q = record { premise = o .premise; inside = omega (arith, q .inside, o .at-is); few = omega (arith, q .few, o .few) }
+
+  pub passes-no-more : weight s r ≤ weight s p
+  passes-no-more = subst (λ (g : Stage). weightBy g s r ≤ weight s p) (sym (o .stage-is)) (by (p .stage))
+    where
+      by : (g : Stage) → weightBy g s r ≤ weightBy g s p
+      by First = let e = ap (λ (i : ℕ). (length s - i) * suc longest) (o .at-is) in omega (arith, o .few)
+      by Playing = let e = ap (λ (i : ℕ). (length s - i) * suc longest) (o .at-is) in omega (arith, o .few)
+      by Over = omega arith
