@@ -7,9 +7,9 @@ use mathlib.Core.List.{List}
 use lib.ListN.{getD, length}
 use Rattle.scheduler.specs.Limits.{maxNodes}
 
--- one place for now, two for each of 64 jobs, and five for each that moves
+-- one place for now, two for each of 64 jobs, and four for each that moves
 abbrev pub rows : ℕ
-rows = 449
+rows = 385
 
 -- the free nodes, from those before: so many are given back, or taken
 abbrev pub changed : Bool → ℕ → ℕ → ℕ

@@ -83,18 +83,18 @@ pub record Split (ms fs : List ℕ) (n t : ℕ) (r : Row) (ms′ fs′ : List �
   pub same : (f : ℕ → ℕ) (now : ℕ) → Table f now n ms fs → t ≤ horizon → Table f now (r .count) ms′ fs′
   pub kept : (f : ℕ → ℕ) (now : ℕ) → Table f now n ms fs → (j : ℕ) → j < n → getD ms j 0 ≤ t → getD ms′ j 0 ≡ getD ms j 0
 
-module _ {ms fs : List ℕ} {n t k : ℕ} (p : Place ms n t k) where
-  -- the minute is there
-  pub split-found : getD ms (k - 1) 0 ≡ t → Split ms fs n t (record { at = k - 1; count = n }) ms fs
-  split-found e = record {
-    inside = omega (arith, p .some, p .low);
-    minute = e;
-    most = omega arith;
-    grows = omega arith;
-    same = λ f now q h. q;
-    kept = λ f now q j l a. refl;
-  }
+-- the minute is there
+pub split-found : {ms fs : List ℕ} {n t : ℕ} (k : ℕ) → k < n → getD ms k 0 ≡ t → Split ms fs n t (record { at = k; count = n }) ms fs
+split-found k l e = record {
+  inside = l;
+  minute = e;
+  most = omega arith;
+  grows = omega arith;
+  same = λ f now q h. q;
+  kept = λ f now q j l a. refl;
+}
 
+module _ {ms fs : List ℕ} {n t k : ℕ} (p : Place ms n t k) where
   module _ (late : getD ms (k - 1) 0 < t) {ms′ fs′ : List ℕ} (a : Inserted ms n k t ms′) (b : Inserted fs n k (getD fs (k - 1) 0) fs′) where
     module _ {f : ℕ → ℕ} {now : ℕ} (q : Table f now n ms fs) where
       -- where place i + 1 of the new lists lies

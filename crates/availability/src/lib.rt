@@ -6,7 +6,7 @@ ghost use Prim.Native.Nat.{_<_, _≤_};
 ghost use lib.ListN.{length};
 ghost use Rattle.availability.specs.Lists.{rows, Inserted, Adjusted, Adjustable};
 ghost use Rattle.availability.specs.Table.{Opened, Ascends, Place, Split};
-ghost use Rattle.availability.specs.Laid.{Lays, Laid};
+ghost use Rattle.availability.specs.Laid.{LaysAt, LaidAt, Lays, Laid};
 ghost use Rattle.availability.specs.Search.{Seeks, found};
 
 // The place of a minute in the table, and how many places are used.
@@ -16,7 +16,7 @@ pub struct Row {
 }
 
 // No node is taken.
-pub fn idle(minutes: &mut [u32; 449], free: &mut [u32; 449], nodes: u32, minute: u32)
+pub fn idle(minutes: &mut [u32; 385], free: &mut [u32; 385], nodes: u32, minute: u32)
     requires { ⌜ (length (now minutes) ≡ rows) × (length (now free) ≡ rows) ⌝ }
     ensures { λ _. ⌜ Opened nodes minute (now (minutes .exit)) (now (free .exit)) ⌝ }
 {
@@ -25,7 +25,7 @@ pub fn idle(minutes: &mut [u32; 449], free: &mut [u32; 449], nodes: u32, minute:
 }
 
 // The place after the last minute that is not later than t.
-fn place_after(minutes: &[u32; 449], count: usize, t: u32) -> usize
+fn place_after(minutes: &[u32; 385], count: usize, t: u32) -> usize
     requires { ⌜ Ascends (now minutes) count t ⌝ }
     ensures { λ r. ⌜ Place (now (minutes .entry)) count t r ⌝ }
 {
@@ -37,7 +37,7 @@ fn place_after(minutes: &[u32; 449], count: usize, t: u32) -> usize
 }
 
 // The value goes into this place; what stood there and after it moves up.
-fn insert(list: &mut [u32; 449], count: usize, at: usize, value: u32)
+fn insert(list: &mut [u32; 385], count: usize, at: usize, value: u32)
     requires { ⌜ (length (now list) ≡ rows) × (at ≤ count) × (count < rows) ⌝ }
     ensures { λ _. ⌜ Inserted (now (list .entry)) count at value (now (list .exit)) ⌝ }
 {
@@ -50,10 +50,16 @@ fn insert(list: &mut [u32; 449], count: usize, at: usize, value: u32)
 }
 
 // The table has a place for minute t, and says the same as before.
-pub fn split(minutes: &mut [u32; 449], free: &mut [u32; 449], count: usize, t: u32) -> Row
+pub fn split(minutes: &mut [u32; 385], free: &mut [u32; 385], count: usize, t: u32) -> Row
     requires { ⌜ Ascends (now minutes) count t × (length (now free) ≡ rows) × (count < rows) ⌝ }
     ensures { λ r. ⌜ Split (now (minutes .entry)) (now (free .entry)) count t r (now (minutes .exit)) (now (free .exit)) ⌝ }
 {
+    if minutes[0] == t {
+        return Row {
+            at: 0,
+            count: count,
+        };
+    }
     let k = place_after(minutes, count, t);
     let last = k - 1;
     if minutes[last] == t {
@@ -72,7 +78,7 @@ pub fn split(minutes: &mut [u32; 449], free: &mut [u32; 449], count: usize, t: u
 }
 
 // So many nodes are taken, or free again, in these places.
-fn adjust(free: &mut [u32; 449], from: usize, to: usize, nodes: u32, release: bool)
+fn adjust(free: &mut [u32; 385], from: usize, to: usize, nodes: u32, release: bool)
     requires { ⌜ Adjustable (now free) from to nodes release ⌝ }
     ensures { λ _. ⌜ Adjusted (now (free .entry)) from to nodes release (now (free .exit)) ⌝ }
 {
@@ -87,10 +93,26 @@ fn adjust(free: &mut [u32; 449], from: usize, to: usize, nodes: u32, release: bo
     }
 }
 
+// The span's nodes are taken, or free again, from the place in which it begins.
+pub fn lay_at(
+    minutes: &mut [u32; 385],
+    free: &mut [u32; 385],
+    begin: Row,
+    x: plan::Span,
+    release: bool,
+) -> usize
+    requires { ⌜ LaysAt (now minutes) (now free) begin x release ⌝ }
+    ensures { λ r. ⌜ ((l : LaysAt (now (minutes .entry)) (now (free .entry)) begin x release) → LaidAt l r (now (minutes .exit)) (now (free .exit))) ⌝ }
+{
+    let end = split(minutes, free, begin.count, x.until);
+    adjust(free, begin.at, end.at, x.nodes, release);
+    end.count
+}
+
 // The span's nodes are taken, or free again.
 pub fn lay(
-    minutes: &mut [u32; 449],
-    free: &mut [u32; 449],
+    minutes: &mut [u32; 385],
+    free: &mut [u32; 385],
     count: usize,
     x: plan::Span,
     release: bool,
@@ -105,15 +127,13 @@ pub fn lay(
     if x.until <= from {
         return count;
     }
-    let a = split(minutes, free, count, from);
-    let b = split(minutes, free, a.count, x.until);
-    adjust(free, a.at, b.at, x.nodes, release);
-    b.count
+    let begin = split(minutes, free, count, from);
+    lay_at(minutes, free, begin, x, release)
 }
 
 // The earliest minute for a job that from the minute in this place on has its nodes: one pass over the places before. The anchor is the
 // minute from which on they have been free so far.
-pub fn search(minutes: &[u32; 449], free: &[u32; 449], at: usize, nodes: u32, hold: u32) -> u32
+pub fn search(minutes: &[u32; 385], free: &[u32; 385], at: usize, nodes: u32, hold: u32) -> u32
     requires { ⌜ Seeks (now minutes) (now free) at nodes hold ⌝ }
     ensures { λ r. ⌜ ((s : Seeks (now (minutes .entry)) (now (free .entry)) at nodes hold) → r ≡ found s) ⌝ }
 {

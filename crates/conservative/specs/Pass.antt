@@ -71,7 +71,7 @@ pub record Passing (S : Settings) (now : ℕ) (js₀ js : List Job) (i n : ℕ) 
   pub same : drop i js ≡ drop i js₀
   pub rest : loop S now unused (slots - i) i js ≡ loop S now unused slots 0 js₀
   pub table : Table (free (S .nodes) (spans S js)) now n ms fs
-  pub most : n ≤ 129 + 5 * i
+  pub most : n ≤ 129 + 4 * i
 
 pub pass-begins : {d : Scheduler} {n : ℕ} {ms fs : List ℕ} → Slots (view d .settings) (d .clock) (d .jobs) → Tabulated d n ms fs → Passing (view d .settings) (d .clock) (d .jobs) (d .jobs) 0 n ms fs
 pass-begins s t = record { low = omega arith; fits = s; same = refl; rest = refl; table = t .table; most = omega (arith, t .most) }

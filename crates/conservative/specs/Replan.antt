@@ -23,7 +23,7 @@ use Rattle.scheduler.specs.Settings.{Settings, horizon, holdTime, until}
 use Rattle.availability.specs.declared.Row.{Row}
 use Rattle.availability.specs.Lists.{rows}
 use Rattle.availability.specs.Table.{Table, Ascends, Split}
-use Rattle.availability.specs.Laid.{Lays, Laid}
+use Rattle.availability.specs.Laid.{LaysAt, LaidAt, Lays, Laid}
 use Rattle.availability.specs.Search.{Seeks, found}
 use Rattle.conservative_rules.specs.Conservative.{span, spans, placed, moved}
 use Rattle.conservative_rules.specs.Valid.{Follows, follows-start, moved-follows, used-append}
@@ -38,7 +38,7 @@ pub record Replans (ms fs : List ℕ) (n : ℕ) (j : Job) (now : ℕ) : Type 0 w
   pub ys : List Job
   pub fits : Slots settings now (xs ++ j ∷ ys)
   pub table : Table (free (settings .nodes) (spans settings (xs ++ j ∷ ys))) now n ms fs
-  pub room-left : n + 5 ≤ rows
+  pub room-left : n + 4 ≤ rows
   pub waits : isWaiting j ≡ true
   pub ahead : now < j .start
   pub nodes-to : j .nodes ≤ settings .nodes
@@ -150,21 +150,24 @@ module _ {ms fs : List ℕ} {n : ℕ} {j : Job} {now : ℕ} (q : Replans ms fs n
   end-after : until S movedTo ≤ horizon S
   end-after = omega (arith, start-low, end-of, ap wallTime same-hold)
 
-  -- taken out
-  pub take-out : {n₁ : ℕ} {ms₁ fs₁ : List ℕ} → Table (with j) now n₁ ms₁ fs₁ → n₁ ≤ n + 1 → Lays ms₁ fs₁ n₁ (span S j) true
-  take-out t l = record {
+  -- taken out, from the place of its start
+  pub take-out : {r : Row} {ms₁ fs₁ : List ℕ} → Split ms fs n (j .start) r ms₁ fs₁ → LaysAt ms₁ fs₁ r (span S j) true
+  take-out s = record {
     f = with j;
     g = without;
     now = now;
-    table = t;
+    table = own-table s;
     change = λ t l. free-more t (S .nodes) (span S j) (spans S (q .xs ++ j ∷ q .ys)) (spans S others) (among t j) (q .fits .room t l);
     room = λ t l. omega (arith, among t j, q .fits .room t l, q .fits .nodes-to);
     until = end-of;
-    fits = omega (arith, q .room-left);
+    inside = s .inside;
+    begins = omega (arith, s .minute, q .ahead);
+    some = omega (arith, s .minute, q .hold-from);
+    fits = omega (arith, q .room-left, s .most);
   }
 
   -- and laid in again
-  pub lay-in : {n₂ : ℕ} {ms₂ fs₂ : List ℕ} → Table without now n₂ ms₂ fs₂ → n₂ ≤ n + 3 → Lays ms₂ fs₂ n₂ (span S movedTo) false
+  pub lay-in : {n₂ : ℕ} {ms₂ fs₂ : List ℕ} → Table without now n₂ ms₂ fs₂ → n₂ ≤ n + 2 → Lays ms₂ fs₂ n₂ (span S movedTo) false
   lay-in t l = record {
     f = without;
     g = with movedTo;
@@ -183,7 +186,7 @@ module _ {ms fs : List ℕ} {n : ℕ} {j : Job} {now : ℕ} (q : Replans ms fs n
   pub record Turned (r : Replanned) (ms′ fs′ : List ℕ) : Type 0 where
     pub job-is : r .job ≡ movedTo
     pub table : Table (with movedTo) now (r .count) ms′ fs′
-    pub most : r .count ≤ n + 5
+    pub most : r .count ≤ n + 4
 
   -- the slots after the turn fit the machine too
   pub fits-after : Slots S now (q .xs ++ movedTo ∷ q .ys)
@@ -207,14 +210,11 @@ module _ {ms fs : List ℕ} {n : ℕ} {j : Job} {now : ℕ} (q : Replans ms fs n
       most = omega (arith, s .most);
     }
 
-    pub out : Lays ms₁ fs₁ (r .count) (span S j) true
-    out = take-out (own-table s) (s .most)
-
-    module _ {n₂ : ℕ} {ms₂ fs₂ : List ℕ} (f : (l : Lays ms₁ fs₁ (r .count) (span S j) true) → Laid l n₂ ms₂ fs₂) where
+    module _ {n₂ : ℕ} {ms₂ fs₂ : List ℕ} (f : (l : LaysAt ms₁ fs₁ r (span S j) true) → LaidAt l n₂ ms₂ fs₂) where
       pub back : Lays ms₂ fs₂ n₂ (span S movedTo) false
-      unfolding out take-out
-      back = lay-in (f out .table) (omega (arith, f out .most, s .most))
+      unfolding take-out
+      back = lay-in (f (take-out s) .table) (omega (arith, f (take-out s) .most, s .most))
 
       pub turned-moves : {n₃ : ℕ} {ms₃ fs₃ : List ℕ} → ((l : Lays ms₂ fs₂ n₂ (span S movedTo) false) → Laid l n₃ ms₃ fs₃) → Turned (record { job = movedTo; count = n₃ }) ms₃ fs₃
       unfolding back lay-in
-      turned-moves g = record { job-is = refl; table = g back .table; most = omega (arith, g back .most, f out .most, s .most) }
+      turned-moves g = record { job-is = refl; table = g back .table; most = omega (arith, g back .most, f (take-out s) .most, s .most) }

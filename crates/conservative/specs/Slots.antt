@@ -7,9 +7,9 @@ use mathlib.Core.Logic.{_⊎_, inl, inr}
 use Prim.Native.Nat.{ℕ, zero, suc, _+_, _-_, _*_, _≤_, _<_}
 use native.Mathlib.Numerals.{add-one}
 use native.Mathlib.Omega.{arith}
-use lib.ListN.{length, getD, take, drop, replicate, length-map, length-take, take-append-drop}
-use lib.Seq.{take-suc, take-all}
-use Rattle.lists.specs.Tests.{true-false}
+use lib.ListN.{length, getD, take, drop, set, replicate, length-map, length-take, length-set, take-append-drop}
+use lib.Seq.{take-suc, take-all, getD-set-same, getD-set-other}
+use Rattle.lists.specs.Tests.{true-false, le-or}
 use Rattle.lists.specs.Lists.{sum, All, In, here, all-of, all-at, sum-append, sum-map}
 use Rattle.lists.specs.Pads.{pad, sum-pad, length-pad, all-pad}
 use Rattle.plan.specs.declared.Span.{Span}
@@ -20,7 +20,9 @@ use Rattle.walltime.specs.WallTime.{wallTime}
 use Rattle.scheduler.specs.declared.Job.{Job}
 use Rattle.scheduler.specs.declared.Scheduler.{Scheduler}
 use Rattle.scheduler.specs.Limits.{maxNodes, slots}
-use Rattle.scheduler.specs.Jobs.{unused, isLive}
+use Rattle.scheduler.specs.declared.State.{State}
+use Rattle.scheduler.specs.declared.State.the-variants.{Unused, Waiting, Running}
+use Rattle.scheduler.specs.Jobs.{unused, isLive, isWaiting, live?, waiting?}
 use Rattle.scheduler.specs.Settings.{Settings, horizon, until}
 use Rattle.scheduler.specs.Model.{Model, store, view}
 use Rattle.jobs.specs.Sound.{Sound, SoundJob}
@@ -133,6 +135,45 @@ module _ {S : Settings} {now : ℕ} {js : List Job} (s : Slots S now js) {i : �
   laid-unused e =
       let none : j .nodes ≡ 0 = all-at (λ (k : Job). isLive k ≡ false → k .nodes ≡ 0) js i unused (s .idle) in₀ e in
       record { table = table-same (λ t l. omega (arith, used-more t, takes-le t (span S j))) (v .table); most = omega (arith, v .most) }
+
+-- the wall times of the live jobs in the slots before i
+pub record HoldsTo (js : List Job) (i : ℕ) (hs : List ℕ) : Type 0 where
+  pub long : length hs ≡ slots
+  pub are : (n : ℕ) → n < i → isLive (getD js n unused) ≡ true → getD hs n 0 ≡ wallTime (getD js n unused .estimate)
+
+pub holds-none : (js : List Job) (hs : List ℕ) → length hs ≡ slots → HoldsTo js 0 hs
+holds-none js hs e = record { long = e; are = λ n l. absurd (omega arith) }
+
+module _ {js : List Job} {i : ℕ} {hs : List ℕ} (h : HoldsTo js i hs) where
+  -- one slot more, live or unused
+  pub holds-more : i < slots → HoldsTo js (i + 1) (set hs i (wallTime (getD js i unused .estimate)))
+  holds-more l = record { long = length-set hs i w ∙ h .long; are = λ n a e. go n a e (le-or i n) }
+    where
+      w : ℕ
+      w = wallTime (getD js i unused .estimate)
+
+      go : (n : ℕ) → n < i + 1 → isLive (getD js n unused) ≡ true → (i ≤ n) ⊎ (n < i) → getD (set hs i w) n 0 ≡ wallTime (getD js n unused .estimate)
+      go n a e (inl b) =
+          let q : n ≡ i = omega arith in
+          ap (λ (k : ℕ). getD (set hs i w) k 0) q ∙ getD-set-same hs i w 0 (omega (arith, h .long)) ∙ ap (λ (k : ℕ). wallTime (getD js k unused .estimate)) (sym q)
+      go n a e (inr b) = getD-set-other hs i n w 0 (λ q. omega arith) ∙ h .are n b e
+
+  pub holds-skip : isLive (getD js i unused) ≡ false → HoldsTo js (i + 1) hs
+  holds-skip e = record { long = h .long; are = λ n a q. go n a q (le-or i n) }
+    where
+      go : (n : ℕ) → n < i + 1 → isLive (getD js n unused) ≡ true → (i ≤ n) ⊎ (n < i) → getD hs n 0 ≡ wallTime (getD js n unused .estimate)
+      go n a q (inl b) =
+          let same : n ≡ i = omega arith in
+          true-false (isLive (getD js n unused)) q (ap (λ (k : ℕ). isLive (getD js k unused)) same ∙ e)
+      go n a q (inr b) = h .are n b q
+
+pub waiting-live : (j : Job) → isWaiting j ≡ true → isLive j ≡ true
+waiting-live j e = go (j .state) e
+  where
+    go : (s : State) → waiting? s ≡ true → live? s ≡ true
+    go Unused q = true-false false q refl
+    go Waiting q = refl
+    go Running q = refl
 
 -- all slots: the free nodes of the scheduler
 pub record Tabulated (d : Scheduler) (n : ℕ) (ms fs : List ℕ) : Type 0 where

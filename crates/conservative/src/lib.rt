@@ -11,11 +11,12 @@ ghost use Rattle.scheduler.specs.Table.{counted, withJobs, tickets};
 ghost use mathlib.Core.List.{[], map};
 ghost use lib.ListN.{length};
 ghost use Rattle.profile.specs.Stored.{stored};
-ghost use Rattle.conservative.specs.Slots.{spanAt, Planned, Tabulated};
+ghost use Rattle.walltime.specs.WallTime.{wallTime};
+ghost use Rattle.conservative.specs.Slots.{spanAt, Planned, Tabulated, HoldsTo};
 ghost use Rattle.conservative.specs.Replan.{Replans, Turned};
 ghost use Rattle.conservative.specs.Pass.{Replannable};
 ghost use Rattle.availability.specs.Lists.{rows};
-ghost use Rattle.scheduler.specs.Limits.{longest};
+ghost use Rattle.scheduler.specs.Limits.{longest, slots};
 ghost use Rattle.conservative.specs.Advance.{began, advancedBy};
 ghost use Rattle.conservative.specs.Submit.{accepted, Askable, startFor};
 ghost use Rattle.conservative_rules.specs.Faithful.{startsAt};
@@ -42,10 +43,15 @@ fn span(nodes: u32, from: u32, hold: u32) -> plan::Span
     }
 }
 
-// The free nodes from now on, as a table: each live job's span is laid over the idle machine's.
-fn tabulate(d: Scheduler, minutes: &mut [u32; 449], free: &mut [u32; 449]) -> usize
-    requires { ⌜ Holds Planned d × (length (now minutes) ≡ rows) × (length (now free) ≡ rows) ⌝ }
-    ensures { λ r. ⌜ Tabulated d r (now (minutes .exit)) (now (free .exit)) ⌝ }
+// The free nodes from now on, as a table: each live job's span is laid over the idle machine's. Their wall times are kept for later.
+fn tabulate(
+    d: Scheduler,
+    minutes: &mut [u32; 385],
+    free: &mut [u32; 385],
+    holds: &mut [u32; 64],
+) -> usize
+    requires { ⌜ Holds Planned d × (length (now minutes) ≡ rows) × (length (now free) ≡ rows) × (length (now holds) ≡ slots) ⌝ }
+    ensures { λ r. ⌜ Tabulated d r (now (minutes .exit)) (now (free .exit)) × HoldsTo (d .jobs) slots (now (holds .exit)) ⌝ }
 {
     availability::idle(minutes, free, d.nodes, d.clock);
     let mut count: usize = 1;
@@ -53,8 +59,9 @@ fn tabulate(d: Scheduler, minutes: &mut [u32; 449], free: &mut [u32; 449]) -> us
     while i < Scheduler::LIVE {
         let j = d.jobs[i];
         if j.is_live() {
-            let x = span(j.nodes, j.start, walltime::wall_time(j.estimate));
-            count = availability::lay(minutes, free, count, x, false);
+            let hold = walltime::wall_time(j.estimate);
+            holds[i] = hold;
+            count = availability::lay(minutes, free, count, span(j.nodes, j.start, hold), false);
         }
         i += 1;
     }
@@ -66,9 +73,10 @@ pub fn profile_of(d: Scheduler) -> Profile
     requires { ⌜ Holds Planned d ⌝ }
     ensures { λ r. ⌜ r ≡ stored (points (view d)) ⌝ }
 {
-    let mut minutes = [0u32; 449];
-    let mut free = [0u32; 449];
-    let count = tabulate(d, &mut minutes, &mut free);
+    let mut minutes = [0u32; 385];
+    let mut free = [0u32; 385];
+    let mut holds = [0u32; 64];
+    let count = tabulate(d, &mut minutes, &mut free, &mut holds);
     Profile::of(&minutes, &free, count)
 }
 
@@ -77,9 +85,10 @@ fn earliest(d: Scheduler, nodes: u32, hold: u32) -> u32
     requires { ⌜ Askable d nodes hold ⌝ }
     ensures { λ r. ⌜ r ≡ startFor (view d) nodes hold ⌝ }
 {
-    let mut minutes = [0u32; 449];
-    let mut free = [0u32; 449];
-    let count = tabulate(d, &mut minutes, &mut free);
+    let mut minutes = [0u32; 385];
+    let mut free = [0u32; 385];
+    let mut holds = [0u32; 64];
+    let count = tabulate(d, &mut minutes, &mut free, &mut holds);
     availability::search(&minutes, &free, count - 1, nodes, hold)
 }
 
@@ -128,15 +137,15 @@ fn place(job: Job, now: u32, s: u32) -> Job
 // A waiting job is taken out of the plan and put in again at its smallest minute, if that is another.
 fn replan(
     job: Job,
+    hold: u32,
     clock: u32,
-    minutes: &mut [u32; 449],
-    free: &mut [u32; 449],
+    minutes: &mut [u32; 385],
+    free: &mut [u32; 385],
     count: usize,
 ) -> Replanned
-    requires { ⌜ Replans (now minutes) (now free) count job clock ⌝ }
+    requires { ⌜ Replans (now minutes) (now free) count job clock × (hold ≡ wallTime (job .estimate)) ⌝ }
     ensures { λ r. ⌜ ((q : Replans (now (minutes .entry)) (now (free .entry)) count job clock) → Turned q r (now (minutes .exit)) (now (free .exit))) ⌝ }
 {
-    let hold = walltime::wall_time(job.estimate);
     let own = availability::split(minutes, free, count, job.start);
     let start = availability::search(minutes, free, own.at, job.nodes, hold);
     if start == job.start {
@@ -145,13 +154,7 @@ fn replan(
             count: own.count,
         };
     }
-    let out = availability::lay(
-        minutes,
-        free,
-        own.count,
-        span(job.nodes, job.start, hold),
-        true,
-    );
+    let out = availability::lay_at(minutes, free, own, span(job.nodes, job.start, hold), true);
     let back = availability::lay(minutes, free, out, span(job.nodes, start, hold), false);
     Replanned {
         job: place(job, clock, start),
@@ -165,15 +168,16 @@ fn replan_all(d: Scheduler) -> Scheduler
     ensures { λ r. ⌜ r ≡ withJobs d (pass (view d .settings) (d .clock) [] (d .jobs)) ⌝ }
 {
     let clock = d.clock;
-    let mut minutes = [0u32; 449];
-    let mut free = [0u32; 449];
-    let mut count = tabulate(d, &mut minutes, &mut free);
+    let mut minutes = [0u32; 385];
+    let mut free = [0u32; 385];
+    let mut holds = [0u32; 64];
+    let mut count = tabulate(d, &mut minutes, &mut free, &mut holds);
     let mut e = d;
     let mut i: usize = 0;
     while i < Scheduler::LIVE {
         let j = d.jobs[i];
         if j.is_waiting() {
-            let t = replan(j, clock, &mut minutes, &mut free, count);
+            let t = replan(j, holds[i], clock, &mut minutes, &mut free, count);
             let k = t.job;
             e.jobs[i] = k;
             count = t.count;

@@ -23,7 +23,7 @@ fn differs(n: usize, last: u32, free: u32) -> bool
 
 impl Profile {
     // The points of a table of the free nodes.
-    pub fn of(minutes: &[u32; 449], free: &[u32; 449], count: usize) -> Profile
+    pub fn of(minutes: &[u32; 385], free: &[u32; 385], count: usize) -> Profile
         requires { ⌜ Tabled (now minutes) (now free) count ⌝ }
         ensures { λ r. ⌜ ((q : Tabled (now (minutes .entry)) (now (free .entry)) count) → r ≡ stored (profile (q .nodes) (q .spans) (q .now))) ⌝ }
     {

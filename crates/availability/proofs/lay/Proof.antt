@@ -1,11 +1,11 @@
--- `availability::lay` meets its contract: both ends of the span get a place, and what lies between is changed.
+-- `availability::lay` meets its contract: the begin of the span gets a place, and it is laid from there.
 -- Assumes nothing.
 use mathlib.Core.Path.{_≡_}
 use mathlib.Core.Logic.{⊎-elim}
 use Prim.Native.Nat.{max}
 use native.Mathlib.Omega.{arith}
 use lib.ListN.{getD}
-use Rattle.availability.specs.Laid.{Lays, Laid, laid-none, lay-adjustable, laid}
+use Rattle.availability.specs.Laid.{laid-none, lays-at, laid-from}
 use borrow.Author.Needs.{needs}
 use Rattle.availability.proofs.lay.Statement.{statement}
 use Rattle.availability.proofs.lay.Tie as tie
@@ -30,48 +30,22 @@ split-requires c κs =
     let l = s .pre in
     (record { long = l .table .minutes-long; some = l .table .some; fit = omega (arith, l .fits); first = omega arith }, l .table .free-long, omega (arith, l .fits))
 
-split-requires-2 : tie.Need-split-requires-2
-split-requires-2 c κs =
+lay-at-requires : tie.Need-lay-at-requires
+lay-at-requires c κs =
     let s = c .before .before .before .before .before .before .before .before .before .before in
     let j = c .before .before .before .before .before .before .before in
     let from-is : j .if1 .from ≡ max (getD (s .args .minutes .now) 0 0) (s .args .x .from) =
     ⊎-elim (λ w. omega (arith, w .1, w .0 .taken)) (λ w. omega (arith, w .1, w .0 .left)) (j .if1 .came) in
-    let l = s .pre in
-    let u = c .before .before .split .ensures in
-    let q = u .same (l .f) (l .now) (l .table) (omega (arith, l .until, c .before .before .before .before .before .if2 .left)) in (
-      record {
-        long = q .minutes-long;
-        some = q .some;
-        fit = omega (arith, l .fits, u .most);
-        first = omega (arith, q .first, l .table .first, c .before .before .before .before .before .if2 .left);
-      },
-      q .free-long,
-      omega (arith, l .fits, u .most),
-    )
-
-adjust-requires : tie.Need-adjust-requires
-adjust-requires c κs =
-    let s = c .before .before .before .before .before .before .before .before .before .before .before .before in
-    let j = c .before .before .before .before .before .before .before .before .before in
-    let from-is : j .if1 .from ≡ max (getD (s .args .minutes .now) 0 0) (s .args .x .from) =
-    ⊎-elim (λ w. omega (arith, w .1, w .0 .taken)) (λ w. omega (arith, w .1, w .0 .left)) (j .if1 .came) in
-    lay-adjustable (s .pre) from-is (omega (arith, c .before .before .before .before .before .before .before .if2 .left)) (c .before .before .before .before .split .ensures) (c .before .split2 .ensures)
+    lays-at (s .pre) from-is (omega (arith, c .before .before .before .before .before .if2 .left)) (c .before .before .split .ensures)
 
 returns-2 : tie.Need-returns-2
 returns-2 c =
-    let s = c .before .before .before .before .before .before .before .before .before .before .before .before .before in
-    let j = c .before .before .before .before .before .before .before .before .before .before in
+    let s = c .before .before .before .before .before .before .before .before .before .before .before in
+    let j = c .before .before .before .before .before .before .before .before in
     let from-is : j .if1 .from ≡ max (getD (s .args .minutes .now) 0 0) (s .args .x .from) =
     ⊎-elim (λ w. omega (arith, w .1, w .0 .taken)) (λ w. omega (arith, w .1, w .0 .left)) (j .if1 .came) in
-    λ l. laid l from-is (omega (arith, c .before .before .before .before .before .before .before .before .if2 .left)) (c .before .before .before .before .before .split .ensures) (c .before .before .split2 .ensures) (c .adjust .ensures)
+    λ l. laid-from l from-is (omega (arith, c .before .before .before .before .before .before .if2 .left)) (c .before .before .before .split .ensures) (c .lay-at .ensures)
 
 pub lay-spec : {M : Type 1} → statement M
 lay-spec =
-    tie.close
-    (tie.spec
-    element-copy-out-from
-    returns
-    split-requires
-    split-requires-2
-    adjust-requires
-    returns-2)
+    tie.close (tie.spec element-copy-out-from returns split-requires lay-at-requires returns-2)

@@ -6,22 +6,28 @@ use borrow.Author.Needs.{needs}
 use Rattle.availability.proofs.split.Statement.{statement}
 use Rattle.availability.proofs.split.Tie as tie
 
+element-copy-out-if1 : tie.Need-element-copy-out-if1
+element-copy-out-if1 c = search needs
+
+returns : tie.Need-returns
+returns c = split-found 0 (c .before .before .pre .0 .some) (omega arith)
+
 place-after-requires : tie.Need-place-after-requires
 place-after-requires c κs = search needs
 
 sub-last : tie.Need-sub-last
 sub-last c = search needs
 
-mul-if1 : tie.Need-mul-if1
-mul-if1 c = search needs
+mul-if2 : tie.Need-mul-if2
+mul-if2 c = search needs
 
-element-copy-out-if1 : tie.Need-element-copy-out-if1
-element-copy-out-if1 c = search needs
+element-copy-out-if2 : tie.Need-element-copy-out-if2
+element-copy-out-if2 c = search needs
 
-returns : tie.Need-returns
-returns c =
+returns-2 : tie.Need-returns-2
+returns-2 c =
     let p = c .before .before .place-after .ensures in
-    split-found p (omega arith)
+    split-found _ (omega (arith, p .some, p .low)) (omega arith)
 
 mul-left : tie.Need-mul-left
 mul-left c = search needs
@@ -35,11 +41,11 @@ insert-requires c κs = search needs
 insert-requires-2 : tie.Need-insert-requires-2
 insert-requires-2 c κs = search needs
 
-add-t9 : tie.Need-add-t9
-add-t9 c = search needs
+add-t13 : tie.Need-add-t13
+add-t13 c = search needs
 
-returns-2 : tie.Need-returns-2
-returns-2 c =
+returns-3 : tie.Need-returns-3
+returns-3 c =
     let p = c .before .before .before .before .before .before .before .place-after .ensures in
     split-new p (omega (arith, p .last)) (c .before .before .insert .ensures) (c .insert2 .ensures)
 
@@ -47,14 +53,16 @@ pub split-spec : {M : Type 1} → statement M
 split-spec =
     tie.close
     (tie.spec
-    place-after-requires
-    sub-last
-    mul-if1
     element-copy-out-if1
     returns
+    place-after-requires
+    sub-last
+    mul-if2
+    element-copy-out-if2
+    returns-2
     mul-left
     element-copy-out-left
     insert-requires
     insert-requires-2
-    add-t9
-    returns-2)
+    add-t13
+    returns-3)

@@ -13,10 +13,10 @@ sub-search : tie.Need-sub-search
 sub-search c = search needs
 
 search-requires : tie.Need-search-requires
-search-requires c κs = seeks-last (c .before .before .before .before .before .pre) (c .before .before .tabulate .ensures)
+search-requires c κs = seeks-last (c .before .before .before .before .before .before .pre) (c .before .before .tabulate .ensures .0)
 
 returns : tie.Need-returns
-returns c = last-found (c .before .before .before .before .before .before .pre) (c .before .before .before .tabulate .ensures) (c .search .ensures)
+returns c = last-found (c .before .before .before .before .before .before .before .pre) (c .before .before .before .tabulate .ensures .0) (c .search .ensures)
 
 pub earliest-spec : {M : Type 1} → statement M
 earliest-spec = tie.close (tie.spec tabulate-requires sub-search search-requires returns)

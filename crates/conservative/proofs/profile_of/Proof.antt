@@ -9,10 +9,10 @@ tabulate-requires : tie.Need-tabulate-requires
 tabulate-requires c κs = search needs
 
 of-requires : tie.Need-of-requires
-of-requires c κs = tabled (c .before .before .before .before .before .args .d) (c .before .before .before .before .before .pre) (c .before .before .tabulate .ensures)
+of-requires c κs = tabled (c .before .before .before .before .before .before .args .d) (c .before .before .before .before .before .before .pre) (c .before .before .tabulate .ensures .0)
 
 returns : tie.Need-returns
-returns c = tabled-points (c .before .before .before .before .before .before .args .d) (c .before .before .before .before .before .before .pre) (c .before .before .before .tabulate .ensures) (c .of .ensures)
+returns c = tabled-points (c .before .before .before .before .before .before .before .args .d) (c .before .before .before .before .before .before .before .pre) (c .before .before .before .tabulate .ensures .0) (c .of .ensures)
 
 pub profile-of-spec : {M : Type 1} → statement M
 profile-of-spec = tie.close (tie.spec tabulate-requires of-requires returns)

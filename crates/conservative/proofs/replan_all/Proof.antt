@@ -5,12 +5,13 @@ use mathlib.Core.List.{List}
 use mathlib.Core.Logic.{⊎-elim}
 use Prim.Native.Nat.{ℕ, _+_, _-_, _≤_, _<_}
 use native.Mathlib.Omega.{arith}
-use lib.ListN.{set}
+use lib.ListN.{set, getD}
+use Rattle.scheduler.specs.Jobs.{unused}
 use Rattle.scheduler.specs.declared.Scheduler.{Scheduler}
 use Rattle.scheduler.specs.Model.{Model, view}
 use Rattle.scheduler.specs.Table.{withJobs}
 use Rattle.jobs.specs.Premise.{Holds, holds-as}
-use Rattle.conservative.specs.Slots.{Planned}
+use Rattle.conservative.specs.Slots.{Planned, waiting-live}
 use Rattle.conservative.specs.Pass.{Replannable, Passing, held-before, pass-begins, replans, turn-taken, turn-passed, pass-ends}
 use borrow.Author.Needs.{needs}
 use Rattle.conservative.proofs.replan_all.Statement.{statement}
@@ -21,18 +22,18 @@ record Inv (d e : Scheduler) (i n : ℕ) (ms fs : List ℕ) : Type 0 where
   passing : Passing (view d .settings) (d .clock) (d .jobs) (e .jobs) i n ms fs
 
 abbrev Inv-loop : tie.InvT-loop
-Inv-loop d clock minutes₀ free₀ count₀ e₀ i₀ minutes free count e i = Inv d e i count minutes free
+Inv-loop d clock minutes₀ free₀ holds count₀ e₀ i₀ minutes free count e i = Inv d e i count minutes free
 
 abbrev μ-loop : tie.MeasureT-loop
-μ-loop d clock minutes₀ free₀ count₀ e₀ i₀ minutes free count e i = 64 - i
+μ-loop d clock minutes₀ free₀ holds count₀ e₀ i₀ minutes free count e i = 64 - i
 
 tabulate-requires : tie.Need-tabulate-requires Inv-loop μ-loop
-tabulate-requires c κs = (holds-as Replannable Planned (c .before .before .args .t1) (λ m r. r .planned) (c .before .before .pre), refl, refl)
+tabulate-requires c κs = (holds-as Replannable Planned (c .before .before .before .args .t1) (λ m r. r .planned) (c .before .before .before .pre), refl, refl, refl)
 
 loop-holds : tie.Need-loop-holds Inv-loop μ-loop
 loop-holds c =
-    let s = c .before .before .before in
-    record { scheduler-is = refl; passing = pass-begins (held-before (s .args .t1) (s .pre) .fits) (c .tabulate .ensures) }
+    let s = c .before .before .before .before in
+    record { scheduler-is = refl; passing = pass-begins (held-before (s .args .t1) (s .pre) .fits) (c .tabulate .ensures .0) }
 
 mul-j : tie.Need-mul-j Inv-loop μ-loop
 mul-j c = search needs
@@ -43,11 +44,18 @@ element-copy-out-j c = search needs
 is-waiting-requires : tie.Need-is-waiting-requires Inv-loop μ-loop
 is-waiting-requires c κs = search needs
 
+mul-replan : tie.Need-mul-replan Inv-loop μ-loop
+mul-replan c = search needs
+
+array-read-replan : tie.Need-array-read-replan Inv-loop μ-loop
+array-read-replan c = search needs
+
 replan-requires : tie.Need-replan-requires Inv-loop μ-loop
 replan-requires c κs =
-    let s = c .before .before .before .before .before .before .before .before .before .before in
+    let s = c .before .before .before .before .before .before .before .before .before .before .before in
     let l = c .before .before .before .before .before .before .loop in
-    replans (held-before (s .args .t1) (s .pre)) (l .inv .passing) (omega arith) (sym (c .before .before .before .is-waiting .ensures) ∙ c .before .before .if1 .taken)
+    let w = sym (c .before .before .before .is-waiting .ensures) ∙ c .before .before .if1 .taken in
+    (replans (held-before (s .args .t1) (s .pre)) (l .inv .passing) (omega arith) w, c .before .before .before .before .before .before .before .tabulate .ensures .1 .are (l .i) (omega arith) (waiting-live (getD (s .args .t1 .jobs) (l .i) unused) w))
 
 mul-k : tie.Need-mul-k Inv-loop μ-loop
 mul-k c = search needs
@@ -63,7 +71,7 @@ loop-less c = search needs
 
 loop-again : tie.Need-loop-again Inv-loop μ-loop
 loop-again c =
-    let s = c .before .before .before .before .before .before .before .before in
+    let s = c .before .before .before .before .before .before .before .before .before in
     let l = c .before .before .before .before .loop in
     let h : l .i < 64 = omega arith in
     let q = held-before (s .args .t1) (s .pre) in
@@ -78,7 +86,7 @@ loop-again c =
 
 returns : tie.Need-returns Inv-loop μ-loop
 returns c =
-    let s = c .before .before .before .before .before in
+    let s = c .before .before .before .before .before .before in
     let l = c .before .loop in
     l .inv .scheduler-is ∙ ap (withJobs (s .args .t1)) (pass-ends (held-before (s .args .t1) (s .pre)) (l .inv .passing) (omega arith))
 
@@ -93,6 +101,8 @@ replan-all-spec =
     mul-j
     element-copy-out-j
     is-waiting-requires
+    mul-replan
+    array-read-replan
     replan-requires
     mul-k
     element-set-from-k
