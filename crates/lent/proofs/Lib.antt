@@ -1,0 +1,4 @@
+pub mod Thin
+pub mod Thin0
+pub mod Thin1
+pub mod Thin2
