@@ -1,3 +1,5 @@
 pub mod Mirror
 pub mod Handed
+pub mod Chain
+pub mod Refused
 pub mod Copied
