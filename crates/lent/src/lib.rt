@@ -1,1 +1,1 @@
-// No function: lemmas for functions over a struct or a slice of structs that is lent, proved once for all types (`proofs/Thin.antt`).
+// Lemmas for functions over what is lent: the walk through such a body, once for every type and contract. There is no code here.

@@ -1,0 +1,35 @@
+// The calls on a scheduler that is lent (document 01: "A rack lends its desk to each call and finds it changed there afterwards"): each
+// is its call by value, and what that hands back is left where the scheduler was lent.
+ghost use Rattle.history.specs.Calls as calls;
+ghost use Rattle.guarantees.specs.Premise.{Premise};
+ghost use Rattle.lent_calls.specs.Left.{Leaves};
+use scheduler::Answer;
+use scheduler::Scheduler;
+use scheduler::Submission;
+
+pub fn submit(d: &mut Scheduler, s: Submission) -> Answer
+    requires { ⌜ Premise (now d) ⌝ }
+    ensures { λ r. ⌜ Leaves (now (d .entry)) (calls.submit (s .nodes) (s .estimate)) r (now (d .exit)) ⌝ }
+{
+    let o = calls::submit(*d, s);
+    *d = o.scheduler;
+    o.answer
+}
+
+pub fn complete(d: &mut Scheduler, ticket: u32) -> Answer
+    requires { ⌜ Premise (now d) ⌝ }
+    ensures { λ r. ⌜ Leaves (now (d .entry)) (calls.complete ticket) r (now (d .exit)) ⌝ }
+{
+    let o = calls::complete(*d, ticket);
+    *d = o.scheduler;
+    o.answer
+}
+
+pub fn tick(d: &mut Scheduler) -> Answer
+    requires { ⌜ Premise (now d) ⌝ }
+    ensures { λ r. ⌜ Leaves (now (d .entry)) calls.tick r (now (d .exit)) ⌝ }
+{
+    let o = calls::tick(*d);
+    *d = o.scheduler;
+    o.answer
+}
