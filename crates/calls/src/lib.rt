@@ -1,13 +1,17 @@
 // The calls on a scheduler of either kind, by value: each goes by the kind's rules.
 ghost use mathlib.Core.Path.{_≡_};
+ghost use mathlib.Core.List.{[]};
+ghost use Prim.Native.Nat.{_<_};
 ghost use Rattle.scheduler.specs.Model.{view};
 ghost use Rattle.scheduler.specs.Answers.{outcome};
 ghost use Rattle.scheduler.specs.Refusals.{waitRefusal};
+ghost use Rattle.profile.specs.Stored.{places};
 ghost use Rattle.history.specs.Calls as calls;
 ghost use Rattle.guarantees.specs.Rules.{call};
 ghost use Rattle.guarantees.specs.Premise.{Premise};
-ghost use Rattle.calls.specs.Show.{Shows};
-use conservative::Shown;
+ghost use Rattle.calls.specs.Show.{showing, showIn, profileOutcome, pointAt};
+use plan::Point;
+use profile::Profile;
 use scheduler::Kind;
 use scheduler::Outcome;
 use scheduler::Refusal;
@@ -50,19 +54,75 @@ pub fn tick(d: Scheduler) -> Outcome
     }
 }
 
-// The free nodes from now on, into the lists lent. EASY has no profile: it writes nothing.
-pub fn profile(d: Scheduler, minutes: &mut [u32], free: &mut [u32]) -> Shown
+// What a profile call answers: how many points it wrote.
+pub struct Shown {
+    pub refusal: Refusal,
+    pub count: usize,
+}
+
+// What a profile call gives, before it is written: how many points there are to write, the answer, and the points. The places past the
+// count are all zero.
+pub struct ProfileOutcome {
+    pub count: usize,
+    pub answer: Shown,
+    pub points: [Point; 129],
+}
+
+// No point is to be written.
+fn no_points(refusal: Refusal) -> ProfileOutcome
+    ensures { λ r. ⌜ r ≡ showing refusal [] ⌝ }
+{
+    let nothing = Point { minute: 0, free: 0 };
+    let points = [nothing; 129];
+    let answer = Shown {
+        refusal: refusal,
+        count: 0,
+    };
+    ProfileOutcome {
+        count: 0,
+        answer: answer,
+        points: points,
+    }
+}
+
+// All the points of the profile, or a refusal where there is no room for them.
+fn show(p: Profile, room: usize) -> ProfileOutcome
+    ensures { λ r. ⌜ r ≡ showIn p room ⌝ }
+{
+    let count = p.count;
+    if room < count {
+        return no_points(Refusal::TooShort);
+    }
+    let points = p.points;
+    let answer = Shown {
+        refusal: Refusal::None,
+        count: count,
+    };
+    ProfileOutcome {
+        count: count,
+        answer: answer,
+        points: points,
+    }
+}
+
+// The free nodes from now on, for a list with room for so many points. EASY has no profile: it has no point to write.
+pub fn profile(d: Scheduler, room: usize) -> ProfileOutcome
     requires { ⌜ Premise d ⌝ }
-    ensures { λ r. ⌜ Shows (d .kind) (view d) (now (minutes .entry)) (now (free .entry)) r (now (minutes .exit)) (now (free .exit)) ⌝ }
+    ensures { λ r. ⌜ r ≡ profileOutcome (view d) room ⌝ }
 {
     let kind = d.kind;
     match kind {
-        Kind::Conservative => conservative::profile(d, minutes, free),
-        Kind::Easy => Shown {
-            refusal: Refusal::None,
-            count: 0,
-        },
+        Kind::Conservative => show(conservative::profile_of(d), room),
+        Kind::Easy => no_points(Refusal::None),
     }
+}
+
+// The point in a place.
+pub fn point_at(p: ProfileOutcome, i: usize) -> Point
+    requires { ⌜ i < places ⌝ }
+    ensures { λ r. ⌜ r ≡ pointAt p i ⌝ }
+{
+    p.points[i]
 }
 
 // Why a wait of so many minutes is refused, or that it is not: it is then so many ticks.

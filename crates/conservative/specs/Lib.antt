@@ -6,4 +6,3 @@ pub mod Replan
 pub mod Pass
 pub mod Complete
 pub mod Tick
-pub mod Show

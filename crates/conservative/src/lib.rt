@@ -9,9 +9,7 @@ ghost use Rattle.conservative_rules.specs.Valid.{Valid};
 ghost use Prim.Native.Nat.{_≤_, _<_};
 ghost use Rattle.scheduler.specs.Table.{counted, withJobs, tickets};
 ghost use mathlib.Core.List.{[], map};
-ghost use lib.ListN.{length};
-ghost use Rattle.profile.specs.Stored.{stored, pointsOf};
-ghost use Rattle.conservative.specs.Show.{over, minutesOf, freeOf, roomOf, shownTo, minutesIn, freeIn};
+ghost use Rattle.profile.specs.Stored.{stored};
 ghost use Rattle.conservative.specs.Slots.{spanOf, Planned};
 ghost use Rattle.conservative.specs.Replan.{Replans};
 ghost use Rattle.conservative.specs.Pass.{replanned, Replannable};
@@ -42,7 +40,7 @@ fn span_of(job: Job) -> plan::Span
 }
 
 // The free nodes from now on: each live job's span is laid over the idle machine's profile.
-fn profile_of(d: Scheduler) -> Profile
+pub fn profile_of(d: Scheduler) -> Profile
     requires { ⌜ Holds Planned d ⌝ }
     ensures { λ r. ⌜ r ≡ stored (points (view d)) ⌝ }
 {
@@ -293,51 +291,4 @@ pub fn tick(d: Scheduler) -> Outcome
     let left = later.remove(Select::EndingAt(now));
     let rest = left.scheduler;
     advance(left.tickets, rest, start_due(rest, now))
-}
-
-// What a profile call answers: how many points it wrote.
-pub struct Shown {
-    pub refusal: Refusal,
-    pub count: usize,
-}
-
-// The points of a profile into two lists, from the front.
-fn write_points(p: Profile, minutes: &mut [u32], free: &mut [u32])
-    requires { ⌜ (p .count ≤ 129) × (p .count ≤ length (now minutes)) × (p .count ≤ length (now free)) ⌝ }
-    ensures { λ r. ⌜ (now (minutes .exit) ≡ over (minutesOf (pointsOf p)) (now (minutes .entry))) × (now (free .exit) ≡ over (freeOf (pointsOf p)) (now (free .entry))) ⌝ }
-{
-    let count = p.count;
-    let mut i: usize = 0;
-    while i < count {
-        let q = p.points[i];
-        minutes[i] = q.minute;
-        free[i] = q.free;
-        i += 1;
-    }
-}
-
-// The free nodes from now on: minutes and free nodes of the points, into the lists lent.
-pub fn profile(d: Scheduler, minutes: &mut [u32], free: &mut [u32]) -> Shown
-    requires { ⌜ Holds Valid d ⌝ }
-    ensures { λ r. ⌜ (r ≡ shownTo (view d) (roomOf (now (minutes .entry)) (now (free .entry)))) × (now (minutes .exit) ≡ minutesIn (view d) (now (minutes .entry)) (now (free .entry))) × (now (free .exit) ≡ freeIn (view d) (now (minutes .entry)) (now (free .entry))) ⌝ }
-{
-    let p = profile_of(d);
-    let count = p.count;
-    if minutes.len() < count {
-        return Shown {
-            refusal: Refusal::TooShort,
-            count: 0,
-        };
-    }
-    if free.len() < count {
-        return Shown {
-            refusal: Refusal::TooShort,
-            count: 0,
-        };
-    }
-    write_points(p, minutes, free);
-    Shown {
-        refusal: Refusal::None,
-        count: count,
-    }
 }

@@ -14,7 +14,7 @@ pub data Call : Type 0 where
   submit : (nodes estimate : ℕ) → Call
   complete : (ticket : ℕ) → Call
   tick : Call
-  -- the lists lent to it have room for so many points
+  -- the list lent to it has room for so many points
   profile : (room : ℕ) → Call
   -- a wait that was refused
   refusedWait : Refusal → Call

@@ -3,6 +3,9 @@
 ghost use Rattle.history.specs.Calls as calls;
 ghost use Rattle.guarantees.specs.Premise.{Premise};
 ghost use Rattle.lent_calls.specs.Left.{Leaves};
+ghost use Rattle.lent_calls.specs.Shows.{Shows};
+use calls::Shown;
+use plan::Point;
 use scheduler::Answer;
 use scheduler::Scheduler;
 use scheduler::Submission;
@@ -32,4 +35,18 @@ pub fn tick(d: &mut Scheduler) -> Answer
     let o = calls::tick(*d);
     *d = o.scheduler;
     o.answer
+}
+
+// The free nodes from now on, into the list lent. A profile leaves the scheduler as it is, so that `&` serves.
+pub fn profile(d: &Scheduler, points: &mut [Point]) -> Shown
+    requires { ⌜ Premise (now d) ⌝ }
+    ensures { λ r. ⌜ Shows (now (d .entry)) (now (points .entry)) r (now (points .exit)) ⌝ }
+{
+    let p = calls::profile(*d, points.len());
+    let mut i = 0;
+    while i < p.count {
+        points[i] = calls::point_at(p, i);
+        i += 1;
+    }
+    p.answer
 }

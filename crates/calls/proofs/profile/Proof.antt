@@ -1,40 +1,56 @@
 -- `calls::profile` meets its contract.
 -- Assumes nothing.
-use mathlib.Core.Path.{refl}
+use mathlib.Core.Path.{ap, _∙_}
 use Rattle.scheduler.specs.declared.Kind.the-variants.{Conservative, Easy}
-use Rattle.calls.specs.Show.{shows-of}
+use Rattle.jobs.specs.Premise.{holds-as}
+use Rattle.profile.specs.declared.Profile.{Profile}
+use Rattle.conservative.specs.Slots.{valid-planned}
 use Rattle.guarantees.specs.Premise.{premise-of}
+use Rattle.calls.specs.Show.{showIn, show-conservative, show-easy}
 use borrow.Author.Needs.{needs}
 use Rattle.calls.proofs.profile.Statement.{statement}
 use Rattle.calls.proofs.profile.Tie as tie
 use Rattle.calls.proofs.profile.Reads as reads
 use Rattle.calls.proofs.profile.Lts as lts
-use Rattle.conservative.proofs.profile.Reads as profile-reads
+use Rattle.calls.proofs.no_points.Reads as no-points-reads
+use Rattle.calls.proofs.show.Reads as show-reads
+use Rattle.conservative.proofs.profile_of.Reads as profile-of-reads
 
 enum-told : tie.Need-enum-told
 enum-told c = search needs
 
-profile-requires : tie.Need-profile-requires
-profile-requires c κs =
-    let s = c .before .before .before .before .before .before in
-    premise-of (s .args .d) Conservative (c .before .before .enum-told .given .1) (s .pre)
+profile-of-requires : tie.Need-profile-of-requires
+profile-of-requires c κs =
+    let s = c .before .before in
+    holds-as _ _ (s .args .d) valid-planned (premise-of (s .args .d) Conservative (c .enum-told .given .1) (s .pre))
+
+show-requires : tie.Need-show-requires
+show-requires c κs = search needs
 
 enum-told-2 : tie.Need-enum-told-2
 enum-told-2 c = search needs
 
-same-length : tie.Need-same-length
-same-length c = search needs
-
-same-length-2 : tie.Need-same-length-2
-same-length-2 c = search needs
+no-points-requires : tie.Need-no-points-requires
+no-points-requires c κs = search needs
 
 returns : tie.Need-returns
-returns c = shows-of _ Conservative _ _ _ _ _ _ (c .before .before .before .before .before .before .before .enum-told .given .1) (c .before .before .before .before .profile .ensures)
+returns c =
+    let s = c .before .before .before .before in
+    c .show .ensures ∙ ap (λ (p : Profile). showIn p (s .args .room)) (c .before .profile-of .ensures) ∙ show-conservative (s .args .d) (s .args .room) (c .before .before .enum-told .given .1)
 
 returns-2 : tie.Need-returns-2
-returns-2 c = shows-of _ Easy _ _ _ _ _ _ (c .enum-told2 .given .1) (refl, refl, refl)
+returns-2 c =
+    let s = c .before .before .before in
+    c .no-points .ensures ∙ show-easy (s .args .d) (s .args .room) (c .before .enum-told2 .given .1)
 
 pub profile-spec : {M : Type 1} → statement M
 profile-spec =
     tie.close
-    (tie.spec enum-told profile-requires enum-told-2 same-length same-length-2 returns returns-2)
+    (tie.spec
+    enum-told
+    profile-of-requires
+    show-requires
+    enum-told-2
+    no-points-requires
+    returns
+    returns-2)

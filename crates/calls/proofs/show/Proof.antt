@@ -1,0 +1,23 @@
+-- `calls::show` meets its contract.
+-- Assumes nothing.
+use mathlib.Core.Path.{_∙_}
+use native.Mathlib.Omega.{arith}
+use Rattle.calls.specs.Show.{no-room, all-shown}
+use borrow.Author.Needs.{needs}
+use Rattle.calls.proofs.show.Statement.{statement}
+use Rattle.calls.proofs.show.Tie as tie
+use Rattle.calls.proofs.show.Reads as reads
+use Rattle.calls.proofs.show.Lts as lts
+use Rattle.calls.proofs.no_points.Reads as no-points-reads
+
+no-points-requires : tie.Need-no-points-requires
+no-points-requires c κs = search needs
+
+returns : tie.Need-returns
+returns c = c .no-points .ensures ∙ no-room _ _ (omega arith)
+
+returns-2 : tie.Need-returns-2
+returns-2 c = all-shown _ _ (omega arith)
+
+pub show-spec : {M : Type 1} → statement M
+show-spec = tie.close (tie.spec no-points-requires returns returns-2)

@@ -1,0 +1,31 @@
+-- `lent_calls::profile` meets its contract: the points that `calls::profile` gives fill the front of the list.
+-- Assumes nothing.
+use mathlib.Core.Path.{_≡_}
+use mathlib.Core.Bool.{true}
+use Prim.Native.Nat.{ℕ, _<_}
+use native.Mathlib.Nat.{lt-of-lt-of-le}
+use Rattle.scheduler.specs.Model.{view}
+use Rattle.plan.proofs.Point as R
+use Rattle.plan.proofs.Point.Laws as R′
+use Rattle.scheduler.proofs.Scheduler as D
+use Rattle.scheduler.proofs.Scheduler.Laws as D′
+use Rattle.guarantees.specs.Premise.{Premise}
+use Rattle.calls.specs.Show.{profileOutcome, pointAt}
+use Rattle.calls.proofs.profile.Symbol as callee
+use Rattle.calls.proofs.profile.Met as callee-thm
+use Rattle.calls.proofs.point_at.Symbol as at
+use Rattle.calls.proofs.point_at.Met as at-thm
+use Rattle.lent.proofs.Fills_ds.{fills-ds}
+use Rattle.lent_calls.specs.Shows.{Shows, shows-given, given-fits, given-few}
+use Rattle.lent_calls.proofs.Flats.{shown, shown-laws, profile-sheet}
+use Rattle.lent_calls.proofs.profile.Key as key
+use Rattle.lent_calls.proofs.profile.Statement as stated
+use Rattle.lent_calls.proofs.profile.Code as code
+
+pub profile-spec : {M : Type 1} → stated.statement M
+unfolding code.routine
+profile-spec 𝓤 H 𝓜 𝓖 𝓡 =
+    fills-ds R.the-type R′.the-laws R′.the-plain tt shown shown-laws profile-sheet D.the-type D′.the-laws D′.the-plain D′.the-copy callee.name at.name true true true
+    (λ d room. Premise d) (λ d room p. p ≡ profileOutcome (view d) room) (λ p i. i < 129) pointAt Shows (λ d room z. absurd z)
+    (λ d room p pre e. given-fits d room p e) (λ d room p i pre e l. lt-of-lt-of-le l (given-few d room p pre e)) (λ d lent p pre e. shows-given d lent p e)
+    𝓤 H 𝓜 𝓖 𝓡 code.env key.name (code.unfolded 𝓤 H 𝓜 𝓡) callee.routine code.calls-calls·profile (callee-thm.met 𝓤 H 𝓜 𝓖 𝓡) at.routine code.calls-calls·point-at (at-thm.met 𝓤 H 𝓜 𝓖 𝓡)

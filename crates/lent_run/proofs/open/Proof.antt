@@ -1,0 +1,18 @@
+-- `lent_run::open` meets its contract.
+-- Assumes nothing.
+use Rattle.guarantees.specs.Premise.{opened-held}
+use borrow.Author.Needs.{needs}
+use Rattle.lent_run.proofs.open.Statement.{statement}
+use Rattle.lent_run.proofs.open.Tie as tie
+use Rattle.lent_run.proofs.open.Reads as reads
+use Rattle.lent_run.proofs.open.Lts as lts
+use Rattle.scheduler.proofs.Scheduler.open.Reads as open-reads
+
+open-requires : tie.Need-open-requires
+open-requires c κs = search needs
+
+returns : tie.Need-returns
+returns c = opened-held _ _ (c .before .«open» .ensures)
+
+pub open-spec : {M : Type 1} → statement M
+open-spec = tie.close (tie.spec open-requires returns)

@@ -1,0 +1,226 @@
+// Calls over what is lent, on both kinds of scheduler: what each answers, refusals too, and what stands in a list lent to the profile call.
+ghost use Rattle.history.specs.Calls as calls;
+ghost use Rattle.guarantees.specs.Premise.{Premise};
+ghost use Rattle.lent_calls.specs.Left.{Leaves};
+ghost use Rattle.lent_calls.specs.Shows.{Shows};
+use calls::Shown;
+use libc::STDOUT_FILENO;
+use plan::Point;
+use scheduler::Answer;
+use scheduler::Kind;
+use scheduler::Opening;
+use scheduler::Outcome;
+use scheduler::Scheduler;
+use scheduler::Submission;
+use scheduler::Tickets;
+
+// A program makes no reference to a struct by itself: these lend a scheduler, or a list, of their own.
+fn lent_submit(d: Scheduler, s: Submission) -> Outcome
+    requires { ⌜ Premise d ⌝ }
+    ensures { λ r. ⌜ Leaves d (calls.submit (s .nodes) (s .estimate)) (r .answer) (r .scheduler) ⌝ }
+{
+    let mut e = d;
+    let a = lent_calls::submit(&mut e, s);
+    Outcome {
+        answer: a,
+        scheduler: e,
+    }
+}
+
+fn lent_complete(d: Scheduler, ticket: u32) -> Outcome
+    requires { ⌜ Premise d ⌝ }
+    ensures { λ r. ⌜ Leaves d (calls.complete ticket) (r .answer) (r .scheduler) ⌝ }
+{
+    let mut e = d;
+    let a = lent_calls::complete(&mut e, ticket);
+    Outcome {
+        answer: a,
+        scheduler: e,
+    }
+}
+
+fn lent_tick(d: Scheduler) -> Outcome
+    requires { ⌜ Premise d ⌝ }
+    ensures { λ r. ⌜ Leaves d calls.tick (r .answer) (r .scheduler) ⌝ }
+{
+    let mut e = d;
+    let a = lent_calls::tick(&mut e);
+    Outcome {
+        answer: a,
+        scheduler: e,
+    }
+}
+
+pub struct ListOfNone {
+    pub answer: Shown,
+    pub points: [Point; 0],
+}
+
+fn into_none(d: Scheduler, points: [Point; 0]) -> ListOfNone
+    requires { ⌜ Premise d ⌝ }
+    ensures { λ r. ⌜ Shows d points (r .answer) (r .points) ⌝ }
+{
+    let mut list = points;
+    let a = lent_calls::profile(&d, &mut list);
+    ListOfNone {
+        answer: a,
+        points: list,
+    }
+}
+
+pub struct ListOfFour {
+    pub answer: Shown,
+    pub points: [Point; 4],
+}
+
+fn into_four(d: Scheduler, points: [Point; 4]) -> ListOfFour
+    requires { ⌜ Premise d ⌝ }
+    ensures { λ r. ⌜ Shows d points (r .answer) (r .points) ⌝ }
+{
+    let mut list = points;
+    let a = lent_calls::profile(&d, &mut list);
+    ListOfFour {
+        answer: a,
+        points: list,
+    }
+}
+
+fn print(n: u32) {
+    io::print_decimal(STDOUT_FILENO, n as u64);
+    io::write_all(STDOUT_FILENO, b" ");
+}
+
+fn print_count(n: usize) {
+    io::print_decimal(STDOUT_FILENO, n as u64);
+    io::write_all(STDOUT_FILENO, b" ");
+}
+
+// How many, and the first two.
+fn print_tickets(t: Tickets) {
+    print_count(t.count);
+    print(t.list[0]);
+    print(t.list[1]);
+}
+
+// Clock after the call, refusal, ticket and promise; the tickets ended; those started; head and forecast.
+fn print_answer(clock: u32, a: Answer) {
+    print(clock);
+    let why = a.refusal;
+    print(why.code());
+    print(a.ticket);
+    print(a.promise);
+    io::write_all(STDOUT_FILENO, b"over ");
+    print_tickets(a.ended);
+    io::write_all(STDOUT_FILENO, b"start ");
+    print_tickets(a.started);
+    io::write_all(STDOUT_FILENO, b"head ");
+    print(a.head);
+    print(a.forecast);
+    io::write_all(STDOUT_FILENO, b"\n");
+}
+
+fn submit(d: Scheduler, nodes: u32, estimate: u32) -> Scheduler
+    requires { ⌜ Premise d ⌝ }
+    ensures { λ r. ⌜ Premise r ⌝ }
+{
+    let s = Submission {
+        nodes: nodes,
+        estimate: estimate,
+    };
+    let o = lent_submit(d, s);
+    let e = o.scheduler;
+    print_answer(e.clock, o.answer);
+    e
+}
+
+fn complete(d: Scheduler, ticket: u32) -> Scheduler
+    requires { ⌜ Premise d ⌝ }
+    ensures { λ r. ⌜ Premise r ⌝ }
+{
+    let o = lent_complete(d, ticket);
+    let e = o.scheduler;
+    print_answer(e.clock, o.answer);
+    e
+}
+
+fn tick(d: Scheduler) -> Scheduler
+    requires { ⌜ Premise d ⌝ }
+    ensures { λ r. ⌜ Premise r ⌝ }
+{
+    let o = lent_tick(d);
+    let e = o.scheduler;
+    print_answer(e.clock, o.answer);
+    e
+}
+
+fn print_shown(r: Shown) {
+    let why = r.refusal;
+    print(why.code());
+    print_count(r.count);
+}
+
+fn print_point(p: Point) {
+    print(p.minute);
+    print(p.free);
+}
+
+// The refusal and the count, into a list of none; then into one of four, and what stands in it.
+fn show(d: Scheduler)
+    requires { ⌜ Premise d ⌝ }
+{
+    let nine = Point { minute: 9, free: 9 };
+    let none = into_none(d, [nine; 0]);
+    print_shown(none.answer);
+    let four = into_four(d, [nine; 4]);
+    print_shown(four.answer);
+    let list = four.points;
+    print_point(list[0]);
+    print_point(list[1]);
+    print_point(list[2]);
+    print_point(list[3]);
+    io::write_all(STDOUT_FILENO, b"\n");
+}
+
+fn open(kind: Kind, minute: u32) -> Scheduler
+    ensures { λ r. ⌜ Premise r ⌝ }
+{
+    let opened = Scheduler::open(Opening {
+        kind: kind,
+        nodes: 10,
+        minute: minute,
+        ticket: 1,
+    });
+    opened.scheduler
+}
+
+fn main() {
+    // conservative: the list is longer than the profile, then as long, then too short
+    let d = open(Kind::Conservative, 0);
+    show(d);
+    let d1 = submit(d, 6, 20);
+    let d2 = submit(d1, 8, 10);
+    let d3 = submit(d2, 4, 25);
+    show(d3);
+    let d4 = submit(d3, 1, 5);
+    show(d4);
+    let d5 = submit(d4, 11, 5);
+    let d6 = complete(d5, 2);
+    let d7 = complete(d6, 1);
+    let d8 = tick(d7);
+    show(d8);
+    // EASY: no profile
+    let e = open(Kind::Easy, 0);
+    let e1 = submit(e, 6, 20);
+    let e2 = submit(e1, 8, 10);
+    let e3 = submit(e2, 3, 21);
+    let e4 = submit(e3, 2, 100);
+    let e5 = submit(e4, 1, 0);
+    show(e5);
+    let e6 = complete(e5, 1);
+    let e7 = complete(e6, 1);
+    let e8 = tick(e7);
+    // at the last minute no clock moves
+    let f = open(Kind::Conservative, 1000000);
+    let f1 = tick(f);
+    show(f1);
+}
