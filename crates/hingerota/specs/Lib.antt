@@ -1,5 +1,6 @@
 pub mod Mirror
 pub mod Handed
+pub mod Left
+pub mod Points
 pub mod Chain
-pub mod Refused
 pub mod Copied

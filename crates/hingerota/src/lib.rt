@@ -4,7 +4,11 @@ ghost use mathlib.Core.Path.{_≡_};
 ghost use Rattle.scheduler.specs.Answers.{code};
 ghost use Rattle.history.specs.Calls as calls;
 ghost use Rattle.hingerota.specs.Mirror.{kindOf, kindNumber, stateOf, stateNumber, mirrorJob, mirror, readRecord, read, mirrorTickets, mirrorAnswer, mirrorOutcome};
+ghost use Prim.Native.Nat.{_<_};
+ghost use Rattle.profile.specs.Stored.{places};
 ghost use Rattle.hingerota.specs.Handed.{Handed, gives, opens, promiseOpening, looseOpening};
+ghost use Rattle.hingerota.specs.Left.{Leaves};
+ghost use Rattle.hingerota.specs.Points.{mirrorShown, mirrorPoint, shownIn, pointAt, Shows};
 use scheduler::Job;
 use scheduler::Kind;
 use scheduler::Opening;
@@ -60,6 +64,26 @@ pub struct Outcome {
 pub struct Opened {
     pub refusal: u32,
     pub desk: Desk,
+}
+
+// So many nodes are free from this minute on.
+#[repr(C)]
+pub struct Point {
+    pub minute: u32,
+    pub free: u32,
+}
+
+// What a profile call answers; the refusal is document 01's number.
+#[repr(C)]
+pub struct Shown {
+    pub refusal: u32,
+    pub count: usize,
+}
+
+pub struct ProfileOutcome {
+    pub count: usize,
+    pub answer: Shown,
+    pub points: [plan::Point; 129],
 }
 
 fn kind_of(n: u32) -> Kind
@@ -207,6 +231,25 @@ fn mirror_outcome(o: scheduler::Outcome) -> Outcome
     }
 }
 
+fn mirror_shown(a: calls::Shown) -> Shown
+    ensures { λ r. ⌜ r ≡ mirrorShown a ⌝ }
+{
+    let refusal = a.refusal;
+    Shown {
+        refusal: refusal.code(),
+        count: a.count,
+    }
+}
+
+fn mirror_point(p: plan::Point) -> Point
+    ensures { λ r. ⌜ r ≡ mirrorPoint p ⌝ }
+{
+    Point {
+        minute: p.minute,
+        free: p.free,
+    }
+}
+
 // ## By value
 
 fn open(o: Opening) -> Opened
@@ -247,6 +290,28 @@ fn tick(d: Desk) -> Outcome
     mirror_outcome(calls::tick(read(d)))
 }
 
+fn profile(d: Desk, room: usize) -> ProfileOutcome
+    requires { ⌜ Handed d ⌝ }
+    ensures { λ r. ⌜ r ≡ shownIn d room ⌝ }
+{
+    let p = calls::profile(read(d), room);
+    let answer = mirror_shown(p.answer);
+    let points = p.points;
+    ProfileOutcome {
+        count: p.count,
+        answer: answer,
+        points: points,
+    }
+}
+
+fn point_at(p: ProfileOutcome, i: usize) -> Point
+    requires { ⌜ i < places ⌝ }
+    ensures { λ r. ⌜ r ≡ pointAt p i ⌝ }
+{
+    let q = p.points[i];
+    mirror_point(q)
+}
+
 // ## Exported
 
 // An empty desk of conservative backfilling (document 01: "Promise Desk").
@@ -279,7 +344,7 @@ pub extern "C" fn hingerota_open_loose(nodes: u32, minute: u32, ticket: u32) -> 
 #[no_mangle]
 pub extern "C" fn hingerota_submit(d: &mut Desk, nodes: u32, estimate: u32) -> Answer
     requires { ⌜ Handed (now d) ⌝ }
-    ensures { λ r. ⌜ (now (d .exit) ≡ gives (now (d .entry)) (calls.submit nodes estimate) .desk) × (r ≡ gives (now (d .entry)) (calls.submit nodes estimate) .answer) ⌝ }
+    ensures { λ r. ⌜ Leaves (now (d .entry)) (calls.submit nodes estimate) r (now (d .exit)) ⌝ }
 {
     let s = submit(*d, nodes, estimate);
     *d = s.desk;
@@ -290,7 +355,7 @@ pub extern "C" fn hingerota_submit(d: &mut Desk, nodes: u32, estimate: u32) -> A
 #[no_mangle]
 pub extern "C" fn hingerota_complete(d: &mut Desk, ticket: u32) -> Answer
     requires { ⌜ Handed (now d) ⌝ }
-    ensures { λ r. ⌜ (now (d .exit) ≡ gives (now (d .entry)) (calls.complete ticket) .desk) × (r ≡ gives (now (d .entry)) (calls.complete ticket) .answer) ⌝ }
+    ensures { λ r. ⌜ Leaves (now (d .entry)) (calls.complete ticket) r (now (d .exit)) ⌝ }
 {
     let s = complete(*d, ticket);
     *d = s.desk;
@@ -301,9 +366,24 @@ pub extern "C" fn hingerota_complete(d: &mut Desk, ticket: u32) -> Answer
 #[no_mangle]
 pub extern "C" fn hingerota_tick(d: &mut Desk) -> Answer
     requires { ⌜ Handed (now d) ⌝ }
-    ensures { λ r. ⌜ (now (d .exit) ≡ gives (now (d .entry)) calls.tick .desk) × (r ≡ gives (now (d .entry)) calls.tick .answer) ⌝ }
+    ensures { λ r. ⌜ Leaves (now (d .entry)) calls.tick r (now (d .exit)) ⌝ }
 {
     let s = tick(*d);
     *d = s.desk;
     s.answer
+}
+
+// The free nodes from now on, into the list lent; of the Promise Desk alone.
+#[no_mangle]
+pub extern "C" fn hingerota_profile(d: &Desk, points: &mut [Point]) -> Shown
+    requires { ⌜ Handed (now d) ⌝ }
+    ensures { λ r. ⌜ Shows (now (d .entry)) (now (points .entry)) r (now (points .exit)) ⌝ }
+{
+    let p = profile(*d, points.len());
+    let mut i = 0;
+    while i < p.count {
+        points[i] = point_at(p, i);
+        i += 1;
+    }
+    p.answer
 }
