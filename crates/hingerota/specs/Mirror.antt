@@ -12,6 +12,8 @@ use Rattle.scheduler.specs.declared.State.{State}
 use Rattle.scheduler.specs.declared.State.the-variants.{Unused, Waiting, Running}
 use Rattle.scheduler.specs.declared.Job.{Job}
 use Rattle.scheduler.specs.declared.Scheduler.{Scheduler}
+use Rattle.scheduler.specs.declared.Refusal.{Refusal}
+use Rattle.scheduler.specs.declared.Refusal.the-variants as refusal
 use Rattle.scheduler.specs.declared.Tickets as scheduler-tickets
 use Rattle.scheduler.specs.declared.Answer as scheduler-answer
 use Rattle.scheduler.specs.declared.Outcome as scheduler-outcome
@@ -98,6 +100,58 @@ mirrorAnswer a = record {
   forecast = a .forecast;
   ended = mirrorTickets (a .ended);
   started = mirrorTickets (a .started);
+}
+
+-- read back too: no two answers have the same mirror
+abbrev pub refusalOf : ℕ → Refusal
+refusalOf n =
+    cond (eqb n 1) refusal.NodesOutOfRange
+    (cond (eqb n 2) refusal.MinutesOutOfRange
+    (cond (eqb n 3) refusal.OpeningOutOfRange
+    (cond (eqb n 4) refusal.Full
+    (cond (eqb n 5) refusal.NoTicketLeft
+    (cond (eqb n 6) refusal.PastHorizon
+    (cond (eqb n 7) refusal.NotRunning
+    (cond (eqb n 8) refusal.ProfileTooLong
+    (cond (eqb n 9) refusal.Malformed
+    (cond (eqb n 10) refusal.TooShort refusal.None)))))))))
+
+abbrev pub readTickets : Tickets → scheduler-tickets.Tickets
+readTickets t = record { count = t .count; list = t .list }
+
+abbrev pub readAnswer : Answer → scheduler-answer.Answer
+readAnswer a = record {
+  refusal = refusalOf (a .refusal);
+  ticket = a .ticket;
+  promise = a .promise;
+  ended = readTickets (a .ended);
+  started = readTickets (a .started);
+  head = a .head;
+  forecast = a .forecast;
+}
+
+refusal-back : (r : Refusal) → refusalOf (code r) ≡ r
+refusal-back refusal.None = refl
+refusal-back refusal.NodesOutOfRange = refl
+refusal-back refusal.MinutesOutOfRange = refl
+refusal-back refusal.OpeningOutOfRange = refl
+refusal-back refusal.Full = refl
+refusal-back refusal.NoTicketLeft = refl
+refusal-back refusal.PastHorizon = refl
+refusal-back refusal.NotRunning = refl
+refusal-back refusal.ProfileTooLong = refl
+refusal-back refusal.Malformed = refl
+refusal-back refusal.TooShort = refl
+
+pub read-answer : (a : scheduler-answer.Answer) → readAnswer (mirrorAnswer a) ≡ a
+read-answer a = λ i. record {
+  refusal = refusal-back (a .refusal) i;
+  ticket = a .ticket;
+  promise = a .promise;
+  ended = a .ended;
+  started = a .started;
+  head = a .head;
+  forecast = a .forecast;
 }
 
 abbrev pub mirrorOutcome : scheduler-outcome.Outcome → Outcome

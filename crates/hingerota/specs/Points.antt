@@ -29,6 +29,10 @@ use Rattle.hingerota.specs.Left.{taken-is-0}
 abbrev pub mirrorPoint : plan-point.Point → Point
 mirrorPoint p = record { minute = p .minute; free = p .free }
 
+-- what is read of it is the point
+pub point-back : (p : plan-point.Point) → _≡_ {A = plan-point.Point} (record { minute = mirrorPoint p .minute; free = mirrorPoint p .free }) p
+point-back p = refl
+
 abbrev pub mirrorShown : calls-shown.Shown → Shown
 mirrorShown a = record { refusal = code (a .refusal); count = a .count }
 
