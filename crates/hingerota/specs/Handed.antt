@@ -2,8 +2,15 @@
 -- an opening or from a call here".
 -- Assumes nothing.
 use mathlib.Core.Path.{_≡_, sym, ap, subst, _∙_}
-use Prim.Native.Nat.{ℕ}
+use mathlib.Core.List.{List, [], _∷_, map}
+use Prim.Native.Nat.{ℕ, _≤_}
+use native.Mathlib.Omega.{arith}
+use Rattle.lists.specs.Lists.{All}
+use Rattle.scheduler.specs.declared.Kind.{Kind}
 use Rattle.scheduler.specs.declared.Kind.the-variants.{Conservative, Easy}
+use Rattle.scheduler.specs.declared.State.{State}
+use Rattle.scheduler.specs.declared.State.the-variants.{Unused, Waiting, Running}
+use Rattle.scheduler.specs.declared.Job.{Job}
 use Rattle.scheduler.specs.declared.Opening.{Opening}
 use Rattle.scheduler.specs.declared.Scheduler.{Scheduler}
 use Rattle.scheduler.specs.declared.Outcome as scheduler-outcome
@@ -14,9 +21,10 @@ use Rattle.history.specs.Calls.{Call}
 use Rattle.guarantees.specs.Rules.{call}
 use Rattle.guarantees.specs.Premise.{Premise, opened-premise, call-premise}
 use Rattle.hingerota.specs.declared.Desk.{Desk}
+use Rattle.hingerota.specs.declared.Record.{Record}
 use Rattle.hingerota.specs.declared.Outcome.{Outcome}
 use Rattle.hingerota.specs.declared.Opened.{Opened}
-use Rattle.hingerota.specs.Mirror.{mirror, read, read-mirror, mirrorOutcome, mirrorOpened}
+use Rattle.hingerota.specs.Mirror.{kindNumber, stateNumber, mirrorJob, mirror, read, read-mirror, mirrorOutcome, mirrorOpened}
 
 -- the desk is the mirror of a scheduler that meets the premise
 pub record Handed (d : Desk) : Type 0 where
@@ -45,7 +53,30 @@ opened-handed o = mirror-handed (opened o .scheduler) (opened-premise o)
 pub call-handed : (d : Desk) (c : Call) → Handed d → Handed (gives d c .desk)
 call-handed d c h = mirror-handed (outcome (call (view (read d)) c) .scheduler) (call-premise (read d) c (h .premise))
 
--- as a call has them, from what it read of the desk
+-- ## No other number stands for a kind or a state
+
+kind-low : (k : Kind) → kindNumber k ≤ 1
+kind-low Conservative = omega arith
+kind-low Easy = omega arith
+
+state-low : (s : State) → stateNumber s ≤ 2
+state-low Unused = omega arith
+state-low Waiting = omega arith
+state-low Running = omega arith
+
+states-low : (js : List Job) → All (λ (r : Record). r .state ≤ 2) (map mirrorJob js)
+states-low [] = tt
+states-low (j ∷ js) = (state-low (j .state), states-low js)
+
+pub handed-kind : (d : Desk) → Handed d → d .kind ≤ 1
+unfolding mirror
+handed-kind d h = subst (λ (e : Desk). e .kind ≤ 1) (sym (h .mirrored)) (kind-low (read d .kind))
+
+pub handed-states : (d : Desk) → Handed d → All (λ (r : Record). r .state ≤ 2) (d .jobs)
+unfolding mirror
+handed-states d h = subst (λ (e : Desk). All (λ (r : Record). r .state ≤ 2) (e .jobs)) (sym (h .mirrored)) (states-low (read d .jobs))
+
+-- ## As a call has them, from what it read of the desk
 
 pub read-premise : (d : Desk) (s : Scheduler) → s ≡ read d → Handed d → Premise s
 read-premise d s e h = subst Premise (sym e) (h .premise)
