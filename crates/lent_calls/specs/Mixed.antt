@@ -27,16 +27,18 @@ use Rattle.guarantees.specs.Chain.{gives, handed, given, answerOf, handed-is, g
 use Rattle.guarantees.specs.Statement.{blank, bookFrom}
 use Rattle.guarantees.specs.Proof.{demand3}
 use Rattle.calls.specs.declared.Shown.{Shown}
+use Rattle.calls.specs.declared.ProfileOutcome.{ProfileOutcome}
+use Rattle.calls.specs.Show.{profileRefusal, showing, profileOutcome}
 use Rattle.lent_calls.specs.Left.{Leaves}
 use Rattle.lent_calls.specs.Shows.{Shows}
 
--- a call on d as its contract says that it was made: by value, on d lent, or as a profile into a lent list. It answers, and a scheduler
--- stands after it
+-- a call on d as its contract says that it was made, by value or on what is lent: what it answers, and the scheduler after it
 pub data Made (d : Scheduler) : Call → Answer → Scheduler → Type 0 where
   byValue : {c : Call} {o : Outcome} → o ≡ gives d c → Made d c (o .answer) (o .scheduler)
   onLent : {c : Call} {a : Answer} {e : Scheduler} → Leaves d c a e → Made d c a e
-  -- its answer in the history is its refusal
-  profiled : {lent after : List Point} {s : Shown} → Shows d lent s after → Made d (profile (length lent)) (refusedAnswer (s .refusal)) d
+  -- the answer of a profile in the history is its refusal
+  profileByValue : {room : ℕ} {p : ProfileOutcome} → p ≡ profileOutcome (view d) room → Made d (profile room) (refusedAnswer (p .answer .refusal)) d
+  profileOnLent : {lent after : List Point} {s : Shown} → Shows d lent s after → Made d (profile (length lent)) (refusedAnswer (s .refusal)) d
 
 -- one after another
 pub data MadeAll : Scheduler → List Call → List Answer → Scheduler → Type 0 where
@@ -49,12 +51,17 @@ unfolding conservative.call easy.call
 profile-by Conservative m room = refl
 profile-by Easy m room = refl
 
+profile-is : (d : Scheduler) (room : ℕ) (r : Refusal) → Premise d → r ≡ profileRefusal (view d) room → (refusedAnswer r ≡ gives d (profile room) .answer) × (d ≡ gives d (profile room) .scheduler)
+profile-is d room r h e =
+    let p : gives d (profile room) ≡ outcome (refuse (view d) (profileRefusal (view d) room)) = ap outcome (profile-by (view d .settings .kind) (view d) room) in
+    (ap refusedAnswer e ∙ sym (ap (λ (o : Outcome). o .answer) p), h .stored ∙ sym (ap (λ (o : Outcome). o .scheduler) p))
+
 made-is : {d : Scheduler} {c : Call} {a : Answer} {e : Scheduler} → Premise d → Made d c a e → (a ≡ gives d c .answer) × (e ≡ gives d c .scheduler)
+unfolding showing
 made-is h (byValue q) = (ap (λ (o : Outcome). o .answer) q, ap (λ (o : Outcome). o .scheduler) q)
 made-is h (onLent l) = (l .answers, l .leaves)
-made-is {d} h (profiled {lent} {after} {s} w) =
-    let p : gives d (profile (length lent)) ≡ outcome (refuse (view d) (call (view d) (profile (length lent)) .reply .refusal)) = ap outcome (profile-by (view d .settings .kind) (view d) (length lent)) in
-    (ap (λ (x : Shown). refusedAnswer (x .refusal)) (w .answers) ∙ sym (ap (λ (o : Outcome). o .answer) p), h .stored ∙ sym (ap (λ (o : Outcome). o .scheduler) p))
+made-is {d} h (profileByValue {room} {p} e) = profile-is d room (p .answer .refusal) h (ap (λ (q : ProfileOutcome). q .answer .refusal) e)
+made-is {d} h (profileOnLent {lent} {after} {s} w) = profile-is d (length lent) (s .refusal) h (ap (λ (x : Shown). x .refusal) (w .answers))
 
 -- what is handed back or left, and the answers, are those of the list of calls
 pub made-all-is : {d : Scheduler} {cs : List Call} {xs : List Answer} {e : Scheduler} → Premise d → MadeAll d cs xs e → (e ≡ handed d cs) × (xs ≡ given d cs)

@@ -1,4 +1,4 @@
-// Calls over what is lent, on both kinds of scheduler: what each answers, refusals too, and what stands in a list lent to the profile call.
+// Calls over what is lent, on both kinds of scheduler: what each answers, refusals too, and what stands in a list lent for the profile.
 ghost use Rattle.history.specs.Calls as calls;
 ghost use Rattle.guarantees.specs.Premise.{Premise};
 ghost use Rattle.lent_calls.specs.Left.{Leaves};
