@@ -37,7 +37,8 @@ fn layouts_are_those_of_the_header() {
     let folder = root.join("target/layout");
     std::fs::create_dir_all(&folder).unwrap();
     let (source, program) = (folder.join("layout.c"), folder.join("layout"));
-    std::fs::write(&source, format!("#include <stdio.h>\n#include \"hingerota.h\"\n\nint main(void)\n{{\n{lines}    return 0;\n}}\n")).unwrap();
+    std::fs::write(&source, format!("#include <stdio.h>\n#include \"hingerota.h\"\n\nint main(void)\n{{\n{lines}    return 0;\n}}\n"))
+        .unwrap();
     let built = Command::new("gcc").arg("-I").arg(root.join("include")).arg("-o").arg(&program).arg(&source).status().expect("gcc");
     assert!(built.success());
     let printed = String::from_utf8(Command::new(&program).output().unwrap().stdout).unwrap();

@@ -70,14 +70,18 @@ impl Book {
     pub fn enter(&mut self, call: &Call, answer: &Answer) -> Result<(), String> {
         let (ended, started) = (answer.ended.as_slice(), answer.started.as_slice());
         if !answer.is_taken() {
-            claim!(ended.is_empty() && started.is_empty() && answer.ticket == 0 && answer.head == 0, "a refusal gives more than its number");
+            claim!(
+                ended.is_empty() && started.is_empty() && answer.ticket == 0 && answer.head == 0,
+                "a refusal gives more than its number"
+            );
             return Ok(());
         }
         match *call {
             Call::Submit { nodes, estimate } => {
                 let rank = self.waiting().count() as u32 + 1;
                 let bound = self.clock + rank * LONGEST_ESTIMATE;
-                let entry = Entry { nodes, promise: answer.promise, bound, forecast: None, start: None, ended: false, hold: held(estimate) };
+                let entry =
+                    Entry { nodes, promise: answer.promise, bound, forecast: None, start: None, ended: false, hold: held(estimate) };
                 claim!(self.entries.insert(answer.ticket, entry).is_none(), "ticket {} is given twice", answer.ticket);
             }
             Call::Tick => self.clock += 1,

@@ -88,7 +88,9 @@ impl Estimates {
         match self {
             Estimates::Tiny => random.between(1, 30),
             Estimates::Short => random.between(1, 300),
-            Estimates::Edges => random.one_of(&[1, 4, 5, 6, 119, 120, 121, 130, 131, 479, 480, 481, 510, 511, 10_050, 10_051, 10_079, 10_080]),
+            Estimates::Edges => {
+                random.one_of(&[1, 4, 5, 6, 119, 120, 121, 130, 131, 479, 480, 481, 510, 511, 10_050, 10_051, 10_079, 10_080])
+            }
             Estimates::Any => match random.below(3) {
                 0 => random.between(1, 480),
                 1 => random.between(1, 10_080),
@@ -240,7 +242,8 @@ impl Played {
         self.done.push(format!("profile into {room}"));
         self.count.profiles += 1;
         self.count.calls += 1;
-        let held: Vec<Point> = (0..room + 2 * AROUND).map(|i| Point { minute: 3_000_000_000 + i as u32, free: 4_000_000_000 + i as u32 }).collect();
+        let held: Vec<Point> =
+            (0..room + 2 * AROUND).map(|i| Point { minute: 3_000_000_000 + i as u32, free: 4_000_000_000 + i as u32 }).collect();
         let mut lent = held.clone();
         let shown = self.desk.profile(&mut lent[AROUND..AROUND + room]);
         let expected = self.model.profile(room);

@@ -331,9 +331,8 @@ impl Model {
         while let Some(head) = self.jobs.iter().position(|j| j.waits()) {
             let shadow = self.shadow(self.jobs[head].nodes);
             let extra = self.free_by(shadow) - self.jobs[head].nodes;
-            let qualifies = |j: &Job| {
-                j.waits() && j.nodes <= self.free_now() && (self.clock + held(j.estimate) <= shadow || j.nodes <= extra)
-            };
+            let qualifies =
+                |j: &Job| j.waits() && j.nodes <= self.free_now() && (self.clock + held(j.estimate) <= shadow || j.nodes <= extra);
             match (head + 1..self.jobs.len()).find(|later| qualifies(&self.jobs[*later])) {
                 Some(later) => self.start(later, answer),
                 None => break,
