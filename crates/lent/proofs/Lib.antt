@@ -6,3 +6,4 @@ pub mod OwnSlice_ds
 pub mod Thin
 pub mod Thin0
 pub mod Thin1
+pub mod Thin2

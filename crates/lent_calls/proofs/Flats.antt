@@ -22,7 +22,7 @@ use Rattle.scheduler.proofs.Submission.Laws as X′
 use Rattle.scheduler.proofs.Outcome as S
 use Rattle.scheduler.proofs.Outcome.Laws as S′
 
-struct-laws : (S : Declared) (L : LL.Laws S) → Plains (fields S) → FlatLaws (struct-flat S L)
+pub struct-laws : (S : Declared) (L : LL.Laws S) → Plains (fields S) → FlatLaws (struct-flat S L)
 struct-laws S L p = record {
   tells = LL.tells S L;
   typed = λ 𝓤 H A W x v is. LL.lawful S L 𝓤 H A W .typed x _ is .0;

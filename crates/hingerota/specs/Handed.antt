@@ -1,0 +1,85 @@
+-- What a host program has to keep, and that every opening and every call, refused ones too, hands it back. Document 01: "a desk came from
+-- an opening or from a call here".
+-- Assumes nothing.
+use mathlib.Core.Path.{_≡_, sym, ap, subst, _∙_}
+use mathlib.Core.List.{List, [], _∷_, map}
+use Prim.Native.Nat.{ℕ, _≤_}
+use native.Mathlib.Omega.{arith}
+use Rattle.lists.specs.Lists.{All}
+use Rattle.scheduler.specs.declared.Kind.{Kind}
+use Rattle.scheduler.specs.declared.Kind.the-variants.{Conservative, Easy}
+use Rattle.scheduler.specs.declared.State.{State}
+use Rattle.scheduler.specs.declared.State.the-variants.{Unused, Waiting, Running}
+use Rattle.scheduler.specs.declared.Job.{Job}
+use Rattle.scheduler.specs.declared.Opening.{Opening}
+use Rattle.scheduler.specs.declared.Scheduler.{Scheduler}
+use Rattle.scheduler.specs.declared.Outcome as scheduler-outcome
+use Rattle.scheduler.specs.Model.{view}
+use Rattle.scheduler.specs.Opening.{opened}
+use Rattle.scheduler.specs.Answers.{outcome}
+use Rattle.history.specs.Calls.{Call}
+use Rattle.guarantees.specs.Rules.{call}
+use Rattle.guarantees.specs.Premise.{Premise, opened-premise, call-premise}
+use Rattle.hingerota.specs.declared.Desk.{Desk}
+use Rattle.hingerota.specs.declared.Record.{Record}
+use Rattle.hingerota.specs.declared.Outcome.{Outcome}
+use Rattle.hingerota.specs.declared.Opened.{Opened}
+use Rattle.hingerota.specs.Mirror.{kindNumber, stateNumber, mirrorJob, mirror, read, read-mirror, mirrorOutcome, mirrorOpened}
+
+-- the desk is the mirror of a scheduler that meets the premise
+pub record Handed (d : Desk) : Type 0 where
+  pub mirrored : d ≡ mirror (read d)
+  pub premise : Premise (read d)
+
+-- what an opening, and what a call gives to a host
+abbrev pub opens : Opening → Opened
+opens o = mirrorOpened (opened o)
+
+abbrev pub gives : Desk → Call → Outcome
+gives d c = mirrorOutcome (outcome (call (view (read d)) c))
+
+abbrev pub promiseOpening : ℕ → ℕ → ℕ → Opening
+promiseOpening n m t = record { kind = Conservative; nodes = n; minute = m; ticket = t }
+
+abbrev pub looseOpening : ℕ → ℕ → ℕ → Opening
+looseOpening n m t = record { kind = Easy; nodes = n; minute = m; ticket = t }
+
+mirror-handed : (s : Scheduler) → Premise s → Handed (mirror s)
+mirror-handed s h = record { mirrored = ap mirror (sym (read-mirror s)); premise = subst Premise (sym (read-mirror s)) h }
+
+pub opened-handed : (o : Opening) → Handed (opens o .desk)
+opened-handed o = mirror-handed (opened o .scheduler) (opened-premise o)
+
+pub call-handed : (d : Desk) (c : Call) → Handed d → Handed (gives d c .desk)
+call-handed d c h = mirror-handed (outcome (call (view (read d)) c) .scheduler) (call-premise (read d) c (h .premise))
+
+-- ## No other number stands for a kind or a state
+
+kind-low : (k : Kind) → kindNumber k ≤ 1
+kind-low Conservative = omega arith
+kind-low Easy = omega arith
+
+state-low : (s : State) → stateNumber s ≤ 2
+state-low Unused = omega arith
+state-low Waiting = omega arith
+state-low Running = omega arith
+
+states-low : (js : List Job) → All (λ (r : Record). r .state ≤ 2) (map mirrorJob js)
+states-low [] = tt
+states-low (j ∷ js) = (state-low (j .state), states-low js)
+
+pub handed-kind : (d : Desk) → Handed d → d .kind ≤ 1
+unfolding mirror
+handed-kind d h = subst (λ (e : Desk). e .kind ≤ 1) (sym (h .mirrored)) (kind-low (read d .kind))
+
+pub handed-states : (d : Desk) → Handed d → All (λ (r : Record). r .state ≤ 2) (d .jobs)
+unfolding mirror
+handed-states d h = subst (λ (e : Desk). All (λ (r : Record). r .state ≤ 2) (e .jobs)) (sym (h .mirrored)) (states-low (read d .jobs))
+
+-- ## As a call has them, from what it read of the desk
+
+pub read-premise : (d : Desk) (s : Scheduler) → s ≡ read d → Handed d → Premise s
+read-premise d s e h = subst Premise (sym e) (h .premise)
+
+pub call-given : (d : Desk) (c : Call) (s : Scheduler) (o : scheduler-outcome.Outcome) (r : Outcome) → s ≡ read d → o ≡ outcome (call (view s) c) → r ≡ mirrorOutcome o → r ≡ gives d c
+call-given d c s o r e f g = g ∙ ap mirrorOutcome (f ∙ ap (λ (x : Scheduler). outcome (call (view x) c)) e)

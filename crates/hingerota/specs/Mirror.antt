@@ -1,0 +1,161 @@
+-- A scheduler, what it answers and what an opening gives, in numbers: what a host program holds. A function that is exported can hold no
+-- enum, so a kind, a state and a refusal are numbers there. Document 01: "A record has ticket, nodes, estimate, state, start and promise".
+-- Assumes nothing.
+use mathlib.Core.Path.{_≡_, refl, ap}
+use mathlib.Core.List.{List, [], _∷_, map}
+use mathlib.Core.Bool.{cond}
+use Prim.Native.Nat.{ℕ}
+use lib.Dec.{eqb}
+use Rattle.scheduler.specs.declared.Kind.{Kind}
+use Rattle.scheduler.specs.declared.Kind.the-variants.{Conservative, Easy}
+use Rattle.scheduler.specs.declared.State.{State}
+use Rattle.scheduler.specs.declared.State.the-variants.{Unused, Waiting, Running}
+use Rattle.scheduler.specs.declared.Job.{Job}
+use Rattle.scheduler.specs.declared.Scheduler.{Scheduler}
+use Rattle.scheduler.specs.declared.Refusal.{Refusal}
+use Rattle.scheduler.specs.declared.Refusal.the-variants as refusal
+use Rattle.scheduler.specs.declared.Tickets as scheduler-tickets
+use Rattle.scheduler.specs.declared.Answer as scheduler-answer
+use Rattle.scheduler.specs.declared.Outcome as scheduler-outcome
+use Rattle.scheduler.specs.declared.Opened as scheduler-opened
+use Rattle.scheduler.specs.Jobs.{unused}
+use Rattle.scheduler.specs.Answers.{code}
+use Rattle.hingerota.specs.declared.Record.{Record}
+use Rattle.hingerota.specs.declared.Desk.{Desk}
+use Rattle.hingerota.specs.declared.Tickets.{Tickets}
+use Rattle.hingerota.specs.declared.Answer.{Answer}
+use Rattle.hingerota.specs.declared.Outcome.{Outcome}
+use Rattle.hingerota.specs.declared.Opened.{Opened}
+
+-- ## The scheduler
+
+-- 0 the Promise Desk, 1 the Loose Desk
+abbrev pub kindNumber : Kind → ℕ
+kindNumber Conservative = 0
+kindNumber Easy = 1
+
+abbrev pub stateNumber : State → ℕ
+stateNumber Unused = 0
+stateNumber Waiting = 1
+stateNumber Running = 2
+
+abbrev pub mirrorJob : Job → Record
+mirrorJob j = record { ticket = j .ticket; nodes = j .nodes; estimate = j .estimate; state = stateNumber (j .state); start = j .start; promise = j .promise }
+
+-- an unused slot is all zero here too
+abbrev pub noRecord : Record
+noRecord = mirrorJob unused
+
+unfoldable pub mirror : Scheduler → Desk
+mirror d = record { kind = kindNumber (d .kind); nodes = d .nodes; clock = d .clock; next = d .next; jobs = map mirrorJob (d .jobs) }
+
+-- ## Read back. A number that is no kind is read as the Promise Desk, and one that is no state as unused
+
+abbrev pub kindOf : ℕ → Kind
+kindOf n = cond (eqb n 1) Easy Conservative
+
+abbrev pub stateOf : ℕ → State
+stateOf n = cond (eqb n 1) Waiting (cond (eqb n 2) Running Unused)
+
+abbrev pub readRecord : Record → Job
+readRecord r = record { ticket = r .ticket; nodes = r .nodes; estimate = r .estimate; state = stateOf (r .state); start = r .start; promise = r .promise }
+
+unfoldable pub read : Desk → Scheduler
+read d = record { kind = kindOf (d .kind); nodes = d .nodes; clock = d .clock; next = d .next; jobs = map readRecord (d .jobs) }
+
+-- ## What is read of a mirror is what was mirrored
+
+kind-back : (k : Kind) → kindOf (kindNumber k) ≡ k
+kind-back Conservative = refl
+kind-back Easy = refl
+
+state-back : (s : State) → stateOf (stateNumber s) ≡ s
+state-back Unused = refl
+state-back Waiting = refl
+state-back Running = refl
+
+pub job-back : (j : Job) → readRecord (mirrorJob j) ≡ j
+job-back j = λ i. record { ticket = j .ticket; nodes = j .nodes; estimate = j .estimate; state = state-back (j .state) i; start = j .start; promise = j .promise }
+
+jobs-back : (js : List Job) → map readRecord (map mirrorJob js) ≡ js
+jobs-back [] = refl
+jobs-back (j ∷ js) = λ i. job-back j i ∷ jobs-back js i
+
+pub read-mirror : (d : Scheduler) → read (mirror d) ≡ d
+unfolding read mirror
+read-mirror d = λ i. record { kind = kind-back (d .kind) i; nodes = d .nodes; clock = d .clock; next = d .next; jobs = jobs-back (d .jobs) i }
+
+-- ## What calls give
+
+abbrev pub mirrorTickets : scheduler-tickets.Tickets → Tickets
+mirrorTickets t = record { count = t .count; list = t .list }
+
+-- "A refusal gives its number"
+abbrev pub mirrorAnswer : scheduler-answer.Answer → Answer
+mirrorAnswer a = record {
+  refusal = code (a .refusal);
+  ticket = a .ticket;
+  promise = a .promise;
+  head = a .head;
+  forecast = a .forecast;
+  ended = mirrorTickets (a .ended);
+  started = mirrorTickets (a .started);
+}
+
+-- read back too: no two answers have the same mirror
+abbrev pub refusalOf : ℕ → Refusal
+refusalOf n =
+    cond (eqb n 1) refusal.NodesOutOfRange
+    (cond (eqb n 2) refusal.MinutesOutOfRange
+    (cond (eqb n 3) refusal.OpeningOutOfRange
+    (cond (eqb n 4) refusal.Full
+    (cond (eqb n 5) refusal.NoTicketLeft
+    (cond (eqb n 6) refusal.PastHorizon
+    (cond (eqb n 7) refusal.NotRunning
+    (cond (eqb n 8) refusal.ProfileTooLong
+    (cond (eqb n 9) refusal.Malformed
+    (cond (eqb n 10) refusal.TooShort refusal.None)))))))))
+
+abbrev pub readTickets : Tickets → scheduler-tickets.Tickets
+readTickets t = record { count = t .count; list = t .list }
+
+abbrev pub readAnswer : Answer → scheduler-answer.Answer
+readAnswer a = record {
+  refusal = refusalOf (a .refusal);
+  ticket = a .ticket;
+  promise = a .promise;
+  ended = readTickets (a .ended);
+  started = readTickets (a .started);
+  head = a .head;
+  forecast = a .forecast;
+}
+
+refusal-back : (r : Refusal) → refusalOf (code r) ≡ r
+refusal-back refusal.None = refl
+refusal-back refusal.NodesOutOfRange = refl
+refusal-back refusal.MinutesOutOfRange = refl
+refusal-back refusal.OpeningOutOfRange = refl
+refusal-back refusal.Full = refl
+refusal-back refusal.NoTicketLeft = refl
+refusal-back refusal.PastHorizon = refl
+refusal-back refusal.NotRunning = refl
+refusal-back refusal.ProfileTooLong = refl
+refusal-back refusal.Malformed = refl
+refusal-back refusal.TooShort = refl
+
+pub read-answer : (a : scheduler-answer.Answer) → readAnswer (mirrorAnswer a) ≡ a
+read-answer a = λ i. record {
+  refusal = refusal-back (a .refusal) i;
+  ticket = a .ticket;
+  promise = a .promise;
+  ended = a .ended;
+  started = a .started;
+  head = a .head;
+  forecast = a .forecast;
+}
+
+abbrev pub mirrorOutcome : scheduler-outcome.Outcome → Outcome
+mirrorOutcome o = record { answer = mirrorAnswer (o .answer); desk = mirror (o .scheduler) }
+
+abbrev pub mirrorOpened : scheduler-opened.Opened → Opened
+mirrorOpened o = record { refusal = code (o .refusal); desk = mirror (o .scheduler) }

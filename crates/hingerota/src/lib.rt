@@ -1,0 +1,389 @@
+// The calls for a host program in C or Rust, exported by plain names. The header is host/include/hingerota.h. A function that is exported
+// can hold no enum: the host's desk is the scheduler in numbers, read and mirrored back at each call.
+ghost use mathlib.Core.Path.{_≡_};
+ghost use Rattle.scheduler.specs.Answers.{code};
+ghost use Rattle.history.specs.Calls as calls;
+ghost use Rattle.hingerota.specs.Mirror.{kindOf, kindNumber, stateOf, stateNumber, mirrorJob, mirror, readRecord, read, mirrorTickets, mirrorAnswer, mirrorOutcome};
+ghost use Prim.Native.Nat.{_<_};
+ghost use Rattle.profile.specs.Stored.{places};
+ghost use Rattle.hingerota.specs.Handed.{Handed, gives, opens, promiseOpening, looseOpening};
+ghost use Rattle.hingerota.specs.Left.{Leaves};
+ghost use Rattle.hingerota.specs.Points.{mirrorShown, mirrorPoint, shownIn, pointAt, Shows};
+use scheduler::Job;
+use scheduler::Kind;
+use scheduler::Opening;
+use scheduler::Scheduler;
+use scheduler::State;
+use scheduler::Submission;
+
+// A job in numbers: state 0 unused, 1 waiting, 2 running.
+#[repr(C)]
+pub struct Record {
+    pub ticket: u32,
+    pub nodes: u32,
+    pub estimate: u32,
+    pub state: u32,
+    pub start: u32,
+    pub promise: u32,
+}
+
+// A scheduler in numbers: kind 0 conservative, 1 EASY.
+#[repr(C)]
+pub struct Desk {
+    pub kind: u32,
+    pub nodes: u32,
+    pub clock: u32,
+    pub next: u32,
+    pub jobs: [Record; 64],
+}
+
+#[repr(C)]
+pub struct Tickets {
+    pub count: usize,
+    pub list: [u32; 64],
+}
+
+// What a call answers; the refusal is document 01's number.
+#[repr(C)]
+pub struct Answer {
+    pub refusal: u32,
+    pub ticket: u32,
+    pub promise: u32,
+    pub head: u32,
+    pub forecast: u32,
+    pub ended: Tickets,
+    pub started: Tickets,
+}
+
+pub struct Outcome {
+    pub answer: Answer,
+    pub desk: Desk,
+}
+
+#[repr(C)]
+pub struct Opened {
+    pub refusal: u32,
+    pub desk: Desk,
+}
+
+// So many nodes are free from this minute on.
+#[repr(C)]
+pub struct Point {
+    pub minute: u32,
+    pub free: u32,
+}
+
+// What a profile call answers; the refusal is document 01's number.
+#[repr(C)]
+pub struct Shown {
+    pub refusal: u32,
+    pub count: usize,
+}
+
+pub struct ProfileOutcome {
+    pub count: usize,
+    pub answer: Shown,
+    pub points: [plan::Point; 129],
+}
+
+fn kind_of(n: u32) -> Kind
+    ensures { λ r. ⌜ r ≡ kindOf n ⌝ }
+{
+    if n == 1 {
+        return Kind::Easy;
+    }
+    Kind::Conservative
+}
+
+fn kind_number(k: Kind) -> u32
+    ensures { λ r. ⌜ r ≡ kindNumber k ⌝ }
+{
+    match k {
+        Kind::Conservative => 0,
+        Kind::Easy => 1,
+    }
+}
+
+fn state_of(n: u32) -> State
+    ensures { λ r. ⌜ r ≡ stateOf n ⌝ }
+{
+    if n == 1 {
+        return State::Waiting;
+    }
+    if n == 2 {
+        return State::Running;
+    }
+    State::Unused
+}
+
+fn state_number(s: State) -> u32
+    ensures { λ r. ⌜ r ≡ stateNumber s ⌝ }
+{
+    match s {
+        State::Unused => 0,
+        State::Waiting => 1,
+        State::Running => 2,
+    }
+}
+
+fn read_record(r: Record) -> Job
+    ensures { λ j. ⌜ j ≡ readRecord r ⌝ }
+{
+    Job {
+        ticket: r.ticket,
+        nodes: r.nodes,
+        estimate: r.estimate,
+        state: state_of(r.state),
+        start: r.start,
+        promise: r.promise,
+    }
+}
+
+fn mirror_job(j: Job) -> Record
+    ensures { λ r. ⌜ r ≡ mirrorJob j ⌝ }
+{
+    let s = j.state;
+    Record {
+        ticket: j.ticket,
+        nodes: j.nodes,
+        estimate: j.estimate,
+        state: state_number(s),
+        start: j.start,
+        promise: j.promise,
+    }
+}
+
+fn read(d: Desk) -> Scheduler
+    ensures { λ r. ⌜ r ≡ read d ⌝ }
+{
+    let none = Job::unused();
+    let mut jobs = [none; 64];
+    let mut i: usize = 0;
+    while i < Scheduler::LIVE {
+        let r = d.jobs[i];
+        jobs[i] = read_record(r);
+        i += 1;
+    }
+    let kind = kind_of(d.kind);
+    Scheduler {
+        kind: kind,
+        nodes: d.nodes,
+        clock: d.clock,
+        next: d.next,
+        jobs: jobs,
+    }
+}
+
+fn mirror(s: Scheduler) -> Desk
+    ensures { λ r. ⌜ r ≡ mirror s ⌝ }
+{
+    let none = mirror_job(Job::unused());
+    let mut jobs = [none; 64];
+    let mut i: usize = 0;
+    while i < Scheduler::LIVE {
+        let j = s.jobs[i];
+        jobs[i] = mirror_job(j);
+        i += 1;
+    }
+    let kind = s.kind;
+    Desk {
+        kind: kind_number(kind),
+        nodes: s.nodes,
+        clock: s.clock,
+        next: s.next,
+        jobs: jobs,
+    }
+}
+
+fn mirror_tickets(t: scheduler::Tickets) -> Tickets
+    ensures { λ r. ⌜ r ≡ mirrorTickets t ⌝ }
+{
+    let list = t.list;
+    Tickets {
+        count: t.count,
+        list: list,
+    }
+}
+
+fn mirror_answer(a: scheduler::Answer) -> Answer
+    ensures { λ r. ⌜ r ≡ mirrorAnswer a ⌝ }
+{
+    let refusal = a.refusal;
+    Answer {
+        refusal: refusal.code(),
+        ticket: a.ticket,
+        promise: a.promise,
+        head: a.head,
+        forecast: a.forecast,
+        ended: mirror_tickets(a.ended),
+        started: mirror_tickets(a.started),
+    }
+}
+
+fn mirror_outcome(o: scheduler::Outcome) -> Outcome
+    ensures { λ r. ⌜ r ≡ mirrorOutcome o ⌝ }
+{
+    let answer = mirror_answer(o.answer);
+    let desk = mirror(o.scheduler);
+    Outcome {
+        answer: answer,
+        desk: desk,
+    }
+}
+
+fn mirror_shown(a: calls::Shown) -> Shown
+    ensures { λ r. ⌜ r ≡ mirrorShown a ⌝ }
+{
+    let refusal = a.refusal;
+    Shown {
+        refusal: refusal.code(),
+        count: a.count,
+    }
+}
+
+fn mirror_point(p: plan::Point) -> Point
+    ensures { λ r. ⌜ r ≡ mirrorPoint p ⌝ }
+{
+    Point {
+        minute: p.minute,
+        free: p.free,
+    }
+}
+
+// ## By value
+
+fn open(o: Opening) -> Opened
+    ensures { λ r. ⌜ r ≡ opens o ⌝ }
+{
+    let p = Scheduler::open(o);
+    let refusal = p.refusal;
+    let number = refusal.code();
+    let desk = mirror(p.scheduler);
+    Opened {
+        refusal: number,
+        desk: desk,
+    }
+}
+
+fn submit(d: Desk, nodes: u32, estimate: u32) -> Outcome
+    requires { ⌜ Handed d ⌝ }
+    ensures { λ r. ⌜ r ≡ gives d (calls.submit nodes estimate) ⌝ }
+{
+    let s = Submission {
+        nodes: nodes,
+        estimate: estimate,
+    };
+    mirror_outcome(calls::submit(read(d), s))
+}
+
+fn complete(d: Desk, ticket: u32) -> Outcome
+    requires { ⌜ Handed d ⌝ }
+    ensures { λ r. ⌜ r ≡ gives d (calls.complete ticket) ⌝ }
+{
+    mirror_outcome(calls::complete(read(d), ticket))
+}
+
+fn tick(d: Desk) -> Outcome
+    requires { ⌜ Handed d ⌝ }
+    ensures { λ r. ⌜ r ≡ gives d calls.tick ⌝ }
+{
+    mirror_outcome(calls::tick(read(d)))
+}
+
+fn profile(d: Desk, room: usize) -> ProfileOutcome
+    requires { ⌜ Handed d ⌝ }
+    ensures { λ r. ⌜ r ≡ shownIn d room ⌝ }
+{
+    let p = calls::profile(read(d), room);
+    let answer = mirror_shown(p.answer);
+    let points = p.points;
+    ProfileOutcome {
+        count: p.count,
+        answer: answer,
+        points: points,
+    }
+}
+
+fn point_at(p: ProfileOutcome, i: usize) -> Point
+    requires { ⌜ i < places ⌝ }
+    ensures { λ r. ⌜ r ≡ pointAt p i ⌝ }
+{
+    let q = p.points[i];
+    mirror_point(q)
+}
+
+// ## Exported
+
+// An empty desk of conservative backfilling (document 01: "Promise Desk").
+#[no_mangle]
+pub extern "C" fn hingerota_open_promise(nodes: u32, minute: u32, ticket: u32) -> Opened
+    ensures { λ r. ⌜ r ≡ opens (promiseOpening nodes minute ticket) ⌝ }
+{
+    open(Opening {
+        kind: Kind::Conservative,
+        nodes: nodes,
+        minute: minute,
+        ticket: ticket,
+    })
+}
+
+// An empty desk of EASY backfilling (document 01: "Loose Desk").
+#[no_mangle]
+pub extern "C" fn hingerota_open_loose(nodes: u32, minute: u32, ticket: u32) -> Opened
+    ensures { λ r. ⌜ r ≡ opens (looseOpening nodes minute ticket) ⌝ }
+{
+    open(Opening {
+        kind: Kind::Easy,
+        nodes: nodes,
+        minute: minute,
+        ticket: ticket,
+    })
+}
+
+// A job is submitted.
+#[no_mangle]
+pub extern "C" fn hingerota_submit(d: &mut Desk, nodes: u32, estimate: u32) -> Answer
+    requires { ⌜ Handed (now d) ⌝ }
+    ensures { λ r. ⌜ Leaves (now (d .entry)) (calls.submit nodes estimate) r (now (d .exit)) ⌝ }
+{
+    let s = submit(*d, nodes, estimate);
+    *d = s.desk;
+    s.answer
+}
+
+// A running job is over before its wall time.
+#[no_mangle]
+pub extern "C" fn hingerota_complete(d: &mut Desk, ticket: u32) -> Answer
+    requires { ⌜ Handed (now d) ⌝ }
+    ensures { λ r. ⌜ Leaves (now (d .entry)) (calls.complete ticket) r (now (d .exit)) ⌝ }
+{
+    let s = complete(*d, ticket);
+    *d = s.desk;
+    s.answer
+}
+
+// One minute passes.
+#[no_mangle]
+pub extern "C" fn hingerota_tick(d: &mut Desk) -> Answer
+    requires { ⌜ Handed (now d) ⌝ }
+    ensures { λ r. ⌜ Leaves (now (d .entry)) calls.tick r (now (d .exit)) ⌝ }
+{
+    let s = tick(*d);
+    *d = s.desk;
+    s.answer
+}
+
+// The free nodes from now on, into the list lent; of the Promise Desk alone.
+#[no_mangle]
+pub extern "C" fn hingerota_profile(d: &Desk, points: &mut [Point]) -> Shown
+    requires { ⌜ Handed (now d) ⌝ }
+    ensures { λ r. ⌜ Shows (now (d .entry)) (now (points .entry)) r (now (points .exit)) ⌝ }
+{
+    let p = profile(*d, points.len());
+    let mut i = 0;
+    while i < p.count {
+        points[i] = point_at(p, i);
+        i += 1;
+    }
+    p.answer
+}

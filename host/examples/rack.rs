@@ -1,0 +1,55 @@
+//! A host program to copy: one machine of 10 nodes, whose minutes and completions it tells the desk. It prints what the desk answers.
+//! `cargo run --offline --example rack`
+
+use hingerota_host::{reason, Answer, Desk, Kind, Point, MOST_POINTS};
+
+fn print(desk: &Desk, call: &str, answer: &Answer) {
+    print!("{call}:");
+    if !answer.is_taken() {
+        println!(" refused by {} ({})", answer.refusal, reason(answer.refusal));
+        return;
+    }
+    if answer.ticket != 0 {
+        print!(" ticket {}", answer.ticket);
+        if desk.kind() == Kind::Promise {
+            print!(" promise {}", answer.promise);
+        }
+    }
+    for ticket in answer.ended.as_slice() {
+        print!(" ended {ticket}");
+    }
+    for ticket in answer.started.as_slice() {
+        print!(" started {ticket}");
+    }
+    if let Some((head, forecast)) = answer.new_head() {
+        print!(" head {head} forecast {forecast}");
+    }
+    println!();
+}
+
+fn main() {
+    for (kind, name) in [(Kind::Promise, "promise"), (Kind::Loose, "loose")] {
+        println!("{name} desk, 10 nodes, minute 0, first ticket 1");
+        let mut desk = match Desk::open(kind, 10, 0, 1) {
+            Ok(desk) => desk,
+            Err(refused) => panic!("{}", reason(refused.refusal)),
+        };
+        for (nodes, estimate) in [(6, 20), (8, 10), (4, 25), (11, 5)] {
+            let answer = desk.submit(nodes, estimate);
+            print(&desk, &format!("submit {nodes} {estimate}"), &answer);
+        }
+        let mut points = [Point { minute: 0, free: 0 }; MOST_POINTS];
+        let shown = desk.profile(&mut points);
+        for point in &points[..shown.count] {
+            println!("free from {}: {}", point.minute, point.free);
+        }
+        let answer = desk.complete(1);
+        print(&desk, "complete 1", &answer);
+        for _ in 0..40 {
+            let answer = desk.tick();
+            if answer.ended.count + answer.started.count > 0 {
+                print(&desk, &format!("minute {}", desk.clock()), &answer);
+            }
+        }
+    }
+}

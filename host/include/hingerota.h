@@ -1,0 +1,135 @@
+/* Hingerota: two batch schedulers for a machine of up to 1,024 nodes, proved, for a host program in C or C++ on x86-64 Linux.
+ *
+ *   rt staticlib hingerota                      proves the library and writes target/staticlib/libhingerota.a
+ *   gcc -Ihost/include rack.c target/staticlib/libhingerota.a
+ *
+ * A desk is the scheduler of one machine. A job is submitted with a number of nodes and an estimate in minutes, and gets a ticket.
+ *
+ * The premise. Every call is proved for desks that meet it, and says nothing of others:
+ *   - a desk is made by hingerota_open_promise or hingerota_open_loose alone, and changed by the calls of this header alone;
+ *   - nobody else writes to it, and no two calls use it at the same time (read it as you like between calls);
+ *   - a pointer handed to a call points to a whole desk, or to so many points as `room` says, and the two do not overlap. It is never
+ *     NULL, also where `room` is 0.
+ * Openings and calls, refused ones too, are proved to hand back a desk that meets the premise. A copy of a desk is a desk; calls on the
+ * one say nothing of the other.
+ *
+ * What is proved. Each call gives exactly what its definition says (docs/ARCHITECTURE.md): answer, desk and points. Over every list of
+ * calls on a desk: a job of a Promise Desk starts no later than its promise; a job of a Loose Desk starts no later than its bound, the
+ * minute of its submission + 10,080 for each job that waited then and for itself; every head of a Loose Desk hears a forecast and starts
+ * no later; and the jobs that run never hold more nodes than the machine has.
+ */
+#ifndef HINGEROTA_H
+#define HINGEROTA_H
+
+#include <stddef.h>
+#include <stdint.h>
+
+#ifdef __cplusplus
+extern "C" {
+#endif
+
+enum {
+    HINGEROTA_MOST_NODES = 1024,
+    HINGEROTA_LAST_MINUTE = 1000000,
+    HINGEROTA_LONGEST_ESTIMATE = 10080,
+    HINGEROTA_LIVE_JOBS = 64,
+    HINGEROTA_LAST_TICKET = 999999,
+    HINGEROTA_MOST_POINTS = 129 /* a list of so many points is never too short */
+};
+
+/* Why a call is refused. A refused call gives its number and nothing else, and leaves the desk and the points as they were. */
+enum {
+    HINGEROTA_TAKEN = 0,
+    HINGEROTA_NODES_OUT_OF_RANGE = 1,   /* an opening outside 1 to 1,024; a job with 0, or more than the machine has */
+    HINGEROTA_MINUTES_OUT_OF_RANGE = 2, /* an estimate outside 1 to 10,080 */
+    HINGEROTA_OPENING_OUT_OF_RANGE = 3, /* a first minute above 1,000,000, or a first ticket outside 1 to 999,999 */
+    HINGEROTA_FULL = 4,                 /* 64 jobs are live */
+    HINGEROTA_NO_TICKET_LEFT = 5,       /* ticket 999,999 has been given */
+    HINGEROTA_PAST_LAST_MINUTE = 6,     /* a job that could end after minute 1,000,000, or a tick past it */
+    HINGEROTA_NOT_RUNNING = 7,          /* the ticket is of no running job */
+    HINGEROTA_PROFILE_TOO_LONG = 8,     /* more than 129 points; proved never to occur */
+    HINGEROTA_TOO_SHORT = 10            /* the points do not fit into the list lent */
+};
+
+enum { HINGEROTA_PROMISE = 0, HINGEROTA_LOOSE = 1 };                       /* of a desk */
+enum { HINGEROTA_UNUSED = 0, HINGEROTA_WAITING = 1, HINGEROTA_RUNNING = 2 }; /* of a record */
+
+/* A live job, or an unused place, which is all 0. `start` is that of a running job, and the planned one of a job that waits on a Promise
+ * Desk. On a Loose Desk `promise`, and the start of a job that waits, are 0. */
+typedef struct {
+    uint32_t ticket;
+    uint32_t nodes;
+    uint32_t estimate;
+    uint32_t state;
+    uint32_t start;
+    uint32_t promise;
+} hingerota_record; /* 24 bytes */
+
+/* The live jobs stand first, in the order of their tickets. */
+typedef struct {
+    uint32_t kind;
+    uint32_t nodes;
+    uint32_t clock;
+    uint32_t next; /* the next ticket */
+    hingerota_record jobs[64];
+} hingerota_desk; /* 1,552 bytes */
+
+/* Tickets; the places past the count are 0. */
+typedef struct {
+    size_t count;
+    uint32_t list[64];
+} hingerota_tickets; /* 264 bytes */
+
+/* What a call does not give is 0. */
+typedef struct {
+    uint32_t refusal;
+    uint32_t ticket;   /* of a submission that is taken */
+    uint32_t promise;  /* and, on a Promise Desk, the minute by which it starts */
+    uint32_t head;     /* on a Loose Desk: the first waiting job, if it was not the first before this call */
+    uint32_t forecast; /* and the minute by which it starts */
+    hingerota_tickets ended;   /* ascending */
+    hingerota_tickets started; /* in the order of starting; on a Promise Desk, ascending */
+} hingerota_answer; /* 552 bytes */
+
+typedef struct {
+    uint32_t refusal;
+    hingerota_desk desk;
+} hingerota_opened; /* 1,556 bytes */
+
+/* So many nodes are free from this minute on. */
+typedef struct {
+    uint32_t minute;
+    uint32_t free;
+} hingerota_point; /* 8 bytes */
+
+typedef struct {
+    uint32_t refusal;
+    size_t count;
+} hingerota_shown; /* 16 bytes */
+
+/* An empty desk for a machine of so many nodes, with its clock at `minute` and `ticket` as the first to be given. Refused by 1 or 3; the
+ * desk is then of its kind, with 1 node, minute 0 and ticket 1.
+ * Promise: conservative backfilling. Loose: EASY backfilling. */
+hingerota_opened hingerota_open_promise(uint32_t nodes, uint32_t minute, uint32_t ticket);
+hingerota_opened hingerota_open_loose(uint32_t nodes, uint32_t minute, uint32_t ticket);
+
+/* A job is submitted. Its nodes are kept for its estimate rounded up: to 120 minutes by fives, to 480 by tens, above by thirties; then
+ * the desk ends it. It starts at once if its ticket stands in `started`. Refused by 1, 2, 4, 5, 6 or 8, the first that applies. */
+hingerota_answer hingerota_submit(hingerota_desk *d, uint32_t nodes, uint32_t estimate);
+
+/* A running job is over before its time: it stands in `ended`, and those that start now in `started`. Refused by 7. */
+hingerota_answer hingerota_complete(hingerota_desk *d, uint32_t ticket);
+
+/* One minute passes: those whose time is over end, and those whose turn has come start. Refused by 6, at minute 1,000,000. */
+hingerota_answer hingerota_tick(hingerota_desk *d);
+
+/* The free nodes of a Promise Desk from now on, counting waiting jobs at their planned starts: `count` points are written into `points`,
+ * which has places for `room`. The first is now, then each later minute whose free nodes differ from those of the minute before. The
+ * places past the last point keep what they held. Refused by 10. A Loose Desk has no profile: nothing is refused and nothing written. */
+hingerota_shown hingerota_profile(const hingerota_desk *d, hingerota_point *points, size_t room);
+
+#ifdef __cplusplus
+}
+#endif
+
+#endif

@@ -1,0 +1,69 @@
+//! The structs of `raw.rs` have the sizes and offsets of those in `include/hingerota.h`, as a C compiler lays them out.
+
+use crate::raw::{Answer, Desk, Opened, Point, Record, Shown, Tickets};
+use std::mem::{offset_of, size_of};
+use std::path::Path;
+use std::process::Command;
+
+/// The structs with their fields: their lines in C, and the same numbers as Rust has them.
+macro_rules! layouts {
+    ($($c:literal $t:ty { $($field:ident)* })*) => {{
+        let mut program = String::new();
+        let mut numbers = Vec::new();
+        $(
+            program += concat!("    printf(\"%zu \", sizeof(", $c, "));\n");
+            numbers.push((concat!("sizeof ", $c), size_of::<$t>()));
+            $(
+                program += concat!("    printf(\"%zu \", offsetof(", $c, ", ", stringify!($field), "));\n");
+                numbers.push((concat!($c, ".", stringify!($field)), offset_of!($t, $field)));
+            )*
+        )*
+        (program, numbers)
+    }};
+}
+
+#[test]
+fn layouts_are_those_of_the_header() {
+    let (lines, numbers) = layouts! {
+        "hingerota_record" Record { ticket nodes estimate state start promise }
+        "hingerota_desk" Desk { kind nodes clock next jobs }
+        "hingerota_tickets" Tickets { count list }
+        "hingerota_answer" Answer { refusal ticket promise head forecast ended started }
+        "hingerota_opened" Opened { refusal desk }
+        "hingerota_point" Point { minute free }
+        "hingerota_shown" Shown { refusal count }
+    };
+    let root = Path::new(env!("CARGO_MANIFEST_DIR"));
+    let folder = root.join("target/layout");
+    std::fs::create_dir_all(&folder).unwrap();
+    let (source, program) = (folder.join("layout.c"), folder.join("layout"));
+    std::fs::write(&source, format!("#include <stdio.h>\n#include \"hingerota.h\"\n\nint main(void)\n{{\n{lines}    return 0;\n}}\n"))
+        .unwrap();
+    let built = Command::new("gcc").arg("-I").arg(root.join("include")).arg("-o").arg(&program).arg(&source).status().expect("gcc");
+    assert!(built.success());
+    let printed = String::from_utf8(Command::new(&program).output().unwrap().stdout).unwrap();
+    let in_c: Vec<usize> = printed.split_whitespace().map(|n| n.parse().unwrap()).collect();
+    assert_eq!(in_c.len(), numbers.len());
+    for ((name, in_rust), in_c) in numbers.iter().zip(in_c) {
+        assert_eq!(*in_rust, in_c, "{name}");
+    }
+}
+
+/// The sizes that the header's comments state.
+#[test]
+fn sizes_are_as_stated() {
+    let header = std::fs::read_to_string(Path::new(env!("CARGO_MANIFEST_DIR")).join("include/hingerota.h")).unwrap();
+    for (name, size) in [
+        ("hingerota_record", size_of::<Record>()),
+        ("hingerota_desk", size_of::<Desk>()),
+        ("hingerota_tickets", size_of::<Tickets>()),
+        ("hingerota_answer", size_of::<Answer>()),
+        ("hingerota_opened", size_of::<Opened>()),
+        ("hingerota_point", size_of::<Point>()),
+        ("hingerota_shown", size_of::<Shown>()),
+    ] {
+        let line = header.lines().find(|l| l.starts_with(&format!("}} {name};"))).expect(name);
+        let stated: String = line.chars().skip_while(|c| *c != '*').filter(char::is_ascii_digit).collect();
+        assert_eq!(stated, size.to_string(), "{line}");
+    }
+}

@@ -1,0 +1,136 @@
+//! The proved schedulers for a host program in Rust. `../include/hingerota.h` says what each call gives and promises.
+//!
+//! A [`Desk`] is opaque: it is made by an opening and changed by calls alone, and a call borrows it, so that the premise of the proofs is
+//! met by every program that compiles without `unsafe` of its own.
+
+#[cfg(test)]
+mod layout;
+mod raw;
+
+pub use raw::{Answer, Point, Record, Shown, Tickets};
+
+/// The list of points that always suffices.
+pub const MOST_POINTS: usize = 129;
+
+/// Which rules a desk follows.
+#[derive(Clone, Copy, PartialEq, Eq, Debug)]
+pub enum Kind {
+    /// Conservative backfilling: every job is told the minute by which it starts.
+    Promise,
+    /// EASY backfilling: the first waiting job is told it.
+    Loose,
+}
+
+/// The scheduler of one machine.
+pub struct Desk {
+    raw: raw::Desk,
+}
+
+/// A refused opening: its number, and the desk that it hands back, of 1 node, at minute 0, with first ticket 1.
+pub struct RefusedOpening {
+    pub refusal: u32,
+    pub desk: Desk,
+}
+
+impl Desk {
+    /// An empty desk; refused by 1 or 3.
+    pub fn open(kind: Kind, nodes: u32, minute: u32, ticket: u32) -> Result<Desk, Box<RefusedOpening>> {
+        // SAFETY: openings take numbers and ask nothing.
+        let opened = unsafe {
+            match kind {
+                Kind::Promise => raw::hingerota_open_promise(nodes, minute, ticket),
+                Kind::Loose => raw::hingerota_open_loose(nodes, minute, ticket),
+            }
+        };
+        let desk = Desk { raw: opened.desk };
+        match opened.refusal {
+            0 => Ok(desk),
+            refusal => Err(Box::new(RefusedOpening { refusal, desk })),
+        }
+    }
+
+    // SAFETY of the calls: `self.raw` came from an opening or a call, since nothing else makes or changes it; it is borrowed whole, so
+    // nobody else writes it meanwhile; a slice points to as many places as its length says, and is no part of the desk.
+
+    /// A job is submitted; refused by 1, 2, 4, 5, 6 or 8.
+    pub fn submit(&mut self, nodes: u32, estimate: u32) -> Answer {
+        unsafe { raw::hingerota_submit(&mut self.raw, nodes, estimate) }
+    }
+
+    /// A running job is over before its time; refused by 7.
+    pub fn complete(&mut self, ticket: u32) -> Answer {
+        unsafe { raw::hingerota_complete(&mut self.raw, ticket) }
+    }
+
+    /// One minute passes; refused by 6.
+    pub fn tick(&mut self) -> Answer {
+        unsafe { raw::hingerota_tick(&mut self.raw) }
+    }
+
+    /// The free nodes from now on, into the front of the list lent; refused by 10. Places past the last point keep what they held.
+    pub fn profile(&self, points: &mut [Point]) -> Shown {
+        unsafe { raw::hingerota_profile(&self.raw, points.as_mut_ptr(), points.len()) }
+    }
+
+    pub fn kind(&self) -> Kind {
+        match self.raw.kind {
+            0 => Kind::Promise,
+            _ => Kind::Loose,
+        }
+    }
+
+    pub fn nodes(&self) -> u32 {
+        self.raw.nodes
+    }
+
+    pub fn clock(&self) -> u32 {
+        self.raw.clock
+    }
+
+    /// The next ticket to be given.
+    pub fn next(&self) -> u32 {
+        self.raw.next
+    }
+
+    /// All 64 places: the live jobs first, in the order of their tickets, then unused ones, all 0.
+    pub fn records(&self) -> &[Record; 64] {
+        &self.raw.jobs
+    }
+}
+
+impl Answer {
+    pub fn is_taken(&self) -> bool {
+        self.refusal == 0
+    }
+
+    /// The ticket and the forecast of a job that is head now and was not before.
+    pub fn new_head(&self) -> Option<(u32, u32)> {
+        match self.head {
+            0 => None,
+            ticket => Some((ticket, self.forecast)),
+        }
+    }
+}
+
+impl Tickets {
+    pub fn as_slice(&self) -> &[u32] {
+        &self.list[..self.count]
+    }
+}
+
+/// What the number of a refusal says.
+pub fn reason(refusal: u32) -> &'static str {
+    match refusal {
+        0 => "taken",
+        1 => "nodes out of range",
+        2 => "an estimate outside 1 to 10,080",
+        3 => "opened past minute 1,000,000, or with a first ticket outside 1 to 999,999",
+        4 => "64 jobs are live",
+        5 => "ticket 999,999 has been given",
+        6 => "past the last minute, 1,000,000",
+        7 => "the ticket is not running",
+        8 => "the profile would have more than 129 points",
+        10 => "the list is too short",
+        _ => "no such refusal",
+    }
+}

@@ -1,0 +1,72 @@
+//! The structs and functions of `include/hingerota.h`. `layout.rs` holds their layouts to those of the header.
+
+#[repr(C)]
+#[derive(Clone, Copy, PartialEq, Eq, Debug)]
+pub struct Record {
+    pub ticket: u32,
+    pub nodes: u32,
+    pub estimate: u32,
+    /// 0 unused, 1 waiting, 2 running.
+    pub state: u32,
+    pub start: u32,
+    pub promise: u32,
+}
+
+#[repr(C)]
+pub struct Desk {
+    pub kind: u32,
+    pub nodes: u32,
+    pub clock: u32,
+    pub next: u32,
+    pub jobs: [Record; 64],
+}
+
+#[repr(C)]
+#[derive(Clone, Copy, PartialEq, Eq, Debug)]
+pub struct Tickets {
+    pub count: usize,
+    pub list: [u32; 64],
+}
+
+#[repr(C)]
+#[derive(Clone, Copy, PartialEq, Eq, Debug)]
+#[must_use = "a call may be refused"]
+pub struct Answer {
+    pub refusal: u32,
+    pub ticket: u32,
+    pub promise: u32,
+    pub head: u32,
+    pub forecast: u32,
+    pub ended: Tickets,
+    pub started: Tickets,
+}
+
+#[repr(C)]
+pub struct Opened {
+    pub refusal: u32,
+    pub desk: Desk,
+}
+
+#[repr(C)]
+#[derive(Clone, Copy, PartialEq, Eq, Debug)]
+pub struct Point {
+    pub minute: u32,
+    pub free: u32,
+}
+
+#[repr(C)]
+#[derive(Clone, Copy, PartialEq, Eq, Debug)]
+#[must_use = "a call may be refused"]
+pub struct Shown {
+    pub refusal: u32,
+    pub count: usize,
+}
+
+extern "C" {
+    pub fn hingerota_open_promise(nodes: u32, minute: u32, ticket: u32) -> Opened;
+    pub fn hingerota_open_loose(nodes: u32, minute: u32, ticket: u32) -> Opened;
+    pub fn hingerota_submit(d: *mut Desk, nodes: u32, estimate: u32) -> Answer;
+    pub fn hingerota_complete(d: *mut Desk, ticket: u32) -> Answer;
+    pub fn hingerota_tick(d: *mut Desk) -> Answer;
+    pub fn hingerota_profile(d: *const Desk, points: *mut Point, room: usize) -> Shown;
+}

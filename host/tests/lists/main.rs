@@ -1,0 +1,387 @@
+//! Random lists of calls, on the library and on a model written from document 01's words: after every call the answers, every field of the
+//! desk and of its 64 records, and the points are compared, and the guarantees are watched by the calls and their answers. The lists are the
+//! same in every run; LISTS says how many, and LIST plays one alone.
+
+mod book;
+mod model;
+mod random;
+
+use book::{Book, Call, Tried};
+use hingerota_host::{Answer, Desk, Kind, Point, Record};
+use model::{Model, Search, State};
+use random::Random;
+use std::io::IsTerminal;
+use std::sync::atomic::{AtomicU64, Ordering};
+use std::sync::Mutex;
+use std::time::Instant;
+
+const LISTS: u64 = 40_000;
+
+/// How long the jobs of a list are.
+#[derive(Clone, Copy, PartialEq)]
+enum Estimates {
+    Tiny,
+    Short,
+    Edges,
+    Any,
+}
+
+/// What is asked for in a list.
+struct Plan {
+    kind: Kind,
+    nodes: u32,
+    minute: u32,
+    ticket: u32,
+    calls: u32,
+    estimates: Estimates,
+    /// Of a hundred calls, so many are submissions, completions and profiles; the others are ticks.
+    submissions: u32,
+    completions: u32,
+    profiles: u32,
+}
+
+fn plan(random: &mut Random) -> Plan {
+    let nodes = match random.below(6) {
+        0 => 1,
+        1 | 2 => random.between(2, 10),
+        3 => random.between(11, 64),
+        4 => random.between(65, 1_024),
+        _ => random.one_of(&[2, 4, 10, 16, 1_024]),
+    };
+    let minute = match random.below(10) {
+        0..=4 => 0,
+        5 => random.between(0, 900_000),
+        6 => 1_000_000 - random.below(120),
+        7 => 1_000_000 - random.below(12_000),
+        8 => 1_000_000 - 10_080 * random.between(1, 5) - random.below(500),
+        _ => random.one_of(&[1_000_000, 999_999, 999_990, 989_900, 1]),
+    };
+    let ticket = match random.below(10) {
+        0..=5 => 1,
+        6 | 7 => random.between(1, 999_999),
+        _ => 999_999 - random.below(60),
+    };
+    let calls = match random.below(200) {
+        0..=99 => random.between(1, 15),
+        100..=179 => random.between(16, 80),
+        180..=197 => random.between(81, 400),
+        _ => random.between(1_000, 2_500),
+    };
+    let (submissions, completions, profiles) = random.one_of(&[(40, 20, 10), (60, 10, 5), (25, 25, 25), (80, 5, 5), (35, 35, 5)]);
+    let kind = random.one_of(&[Kind::Promise, Kind::Loose]);
+    let estimates = random.one_of(&[Estimates::Tiny, Estimates::Short, Estimates::Edges, Estimates::Any]);
+    let mut plan = Plan { kind, nodes, minute, ticket, calls, estimates, submissions, completions, profiles };
+    // One opening of twelve is refused, for one reason or for several.
+    if random.percent(8) {
+        match random.below(4) {
+            0 => plan.nodes = random.one_of(&[0, 1_025, u32::MAX]),
+            1 => plan.minute = random.one_of(&[1_000_001, u32::MAX]),
+            2 => plan.ticket = random.one_of(&[0, 1_000_000, u32::MAX]),
+            _ => (plan.nodes, plan.minute, plan.ticket) = (random.one_of(&[0, 5]), 1_000_001, 0),
+        }
+    }
+    plan
+}
+
+impl Estimates {
+    fn pick(self, random: &mut Random) -> u32 {
+        match self {
+            Estimates::Tiny => random.between(1, 30),
+            Estimates::Short => random.between(1, 300),
+            Estimates::Edges => {
+                random.one_of(&[1, 4, 5, 6, 119, 120, 121, 130, 131, 479, 480, 481, 510, 511, 10_050, 10_051, 10_079, 10_080])
+            }
+            Estimates::Any => match random.below(3) {
+                0 => random.between(1, 480),
+                1 => random.between(1, 10_080),
+                _ => random.between(9_000, 10_080),
+            },
+        }
+    }
+}
+
+/// What was done, of one list or of all.
+#[derive(Default)]
+struct Count {
+    lists: u64,
+    calls: u64,
+    submissions: u64,
+    completions: u64,
+    ticks: u64,
+    profiles: u64,
+    points: u64,
+    most_live: usize,
+    most_points: usize,
+    /// By number, of openings and of calls.
+    refusals: [u64; 11],
+    tried: Tried,
+}
+
+impl Count {
+    fn add(&mut self, other: &Count) {
+        self.lists += other.lists;
+        self.calls += other.calls;
+        self.submissions += other.submissions;
+        self.completions += other.completions;
+        self.ticks += other.ticks;
+        self.profiles += other.profiles;
+        self.points += other.points;
+        self.most_live = self.most_live.max(other.most_live);
+        self.most_points = self.most_points.max(other.most_points);
+        for (sum, n) in self.refusals.iter_mut().zip(other.refusals) {
+            *sum += n;
+        }
+        self.tried.add(other.tried);
+    }
+}
+
+/// A list as it is played on both.
+struct Played {
+    desk: Desk,
+    model: Model,
+    book: Book,
+    count: Count,
+    done: Vec<String>,
+}
+
+fn same<T: PartialEq + std::fmt::Debug>(what: &str, library: T, model: T) -> Result<(), String> {
+    if library == model {
+        return Ok(());
+    }
+    Err(format!("{what}: library {library:?}, model {model:?}"))
+}
+
+impl Played {
+    fn open(plan: &Plan) -> Result<Played, String> {
+        let (refusal, model) = Model::open(plan.kind, plan.nodes, plan.minute, plan.ticket);
+        let (number, desk) = match Desk::open(plan.kind, plan.nodes, plan.minute, plan.ticket) {
+            Ok(desk) => (0, desk),
+            Err(refused) => (refused.refusal, refused.desk),
+        };
+        same("refusal of the opening", number, refusal)?;
+        let book = Book::new(plan.kind, model.nodes, model.clock);
+        let mut count = Count { lists: 1, ..Count::default() };
+        count.refusals[refusal as usize] += 1;
+        let done = vec![format!("open {:?} {} {} {}", plan.kind, plan.nodes, plan.minute, plan.ticket)];
+        let played = Played { desk, model, book, count, done };
+        played.same_desk()?;
+        Ok(played)
+    }
+
+    fn same_desk(&self) -> Result<(), String> {
+        let (desk, model) = (&self.desk, &self.model);
+        same("kind", desk.kind(), model.kind)?;
+        same("nodes", desk.nodes(), model.nodes)?;
+        same("clock", desk.clock(), model.clock)?;
+        same("next ticket", desk.next(), model.next)?;
+        for (place, record) in desk.records().iter().enumerate() {
+            let expected = match model.jobs.get(place) {
+                Some(j) => {
+                    let state = match j.state {
+                        State::Waiting => 1,
+                        State::Running => 2,
+                    };
+                    Record { ticket: j.ticket, nodes: j.nodes, estimate: j.estimate, state, start: j.start, promise: j.promise }
+                }
+                None => Record { ticket: 0, nodes: 0, estimate: 0, state: 0, start: 0, promise: 0 },
+            };
+            if *record != expected {
+                return Err(format!("record {place}: library {record:?}, model {expected:?}"));
+            }
+        }
+        Ok(())
+    }
+
+    fn same_answer(&mut self, call: Call, library: Answer, model: model::Answer) -> Result<(), String> {
+        same("refusal", library.refusal, model.refusal)?;
+        same("ticket", library.ticket, model.ticket)?;
+        same("promise", library.promise, model.promise)?;
+        let (head, forecast) = model.head.unwrap_or((0, 0));
+        same("head", library.head, head)?;
+        same("forecast", library.forecast, forecast)?;
+        for (what, tickets, expected) in [("ended", library.ended, &model.ended), ("started", library.started, &model.started)] {
+            same(what, tickets.as_slice(), expected)?;
+            same("places past the count", tickets.list[tickets.count..].iter().all(|t| *t == 0), true)?;
+        }
+        self.same_desk()?;
+        self.book.enter(&call, &library)?;
+        self.count.calls += 1;
+        self.count.refusals[model.refusal as usize] += 1;
+        self.count.most_live = self.count.most_live.max(self.model.jobs.len());
+        Ok(())
+    }
+
+    fn submit(&mut self, nodes: u32, estimate: u32) -> Result<(), String> {
+        self.done.push(format!("submit {nodes} {estimate}"));
+        self.count.submissions += 1;
+        let (library, model) = (self.desk.submit(nodes, estimate), self.model.submit(nodes, estimate));
+        self.same_answer(Call::Submit { nodes, estimate }, library, model)
+    }
+
+    fn complete(&mut self, ticket: u32) -> Result<(), String> {
+        self.done.push(format!("complete {ticket}"));
+        self.count.completions += 1;
+        let (library, model) = (self.desk.complete(ticket), self.model.complete(ticket));
+        self.same_answer(Call::Complete, library, model)
+    }
+
+    fn tick(&mut self) -> Result<(), String> {
+        self.count.ticks += 1;
+        let (library, model) = (self.desk.tick(), self.model.tick());
+        self.same_answer(Call::Tick, library, model)
+    }
+
+    fn ticks(&mut self, minutes: u32) -> Result<(), String> {
+        self.done.push(format!("{minutes} ticks"));
+        (0..minutes).try_for_each(|_| self.tick())
+    }
+
+    /// A list of so many places, in the middle of a longer one of which no place may change but those of the points.
+    fn profile(&mut self, room: usize) -> Result<(), String> {
+        const AROUND: usize = 4;
+        self.done.push(format!("profile into {room}"));
+        self.count.profiles += 1;
+        self.count.calls += 1;
+        let held: Vec<Point> =
+            (0..room + 2 * AROUND).map(|i| Point { minute: 3_000_000_000 + i as u32, free: 4_000_000_000 + i as u32 }).collect();
+        let mut lent = held.clone();
+        let shown = self.desk.profile(&mut lent[AROUND..AROUND + room]);
+        let expected = self.model.profile(room);
+        let (refusal, points) = match &expected {
+            Ok(points) => (0, points.as_slice()),
+            Err(refusal) => (*refusal, &[][..]),
+        };
+        self.count.refusals[refusal as usize] += 1;
+        self.count.points += points.len() as u64;
+        self.count.most_points = self.count.most_points.max(points.len());
+        same("refusal of the profile", shown.refusal, refusal)?;
+        same("number of points", shown.count, points.len())?;
+        let mut after = held;
+        for (place, (minute, free)) in after[AROUND..].iter_mut().zip(points) {
+            *place = Point { minute: *minute, free: *free };
+        }
+        same("points", lent, after)?;
+        self.same_desk()
+    }
+}
+
+/// The next call of a list.
+fn step(plan: &Plan, played: &mut Played, random: &mut Random) -> Result<(), String> {
+    let roll = random.below(100);
+    if roll < plan.submissions {
+        let machine = played.model.nodes;
+        let nodes = match random.below(20) {
+            0 => random.one_of(&[0, machine + 1, u32::MAX]),
+            1..=3 => machine,
+            4..=9 => random.between(1, (machine / 4).max(1)),
+            _ => random.between(1, machine),
+        };
+        let estimate = match random.below(25) {
+            0 => random.one_of(&[0, 10_081, u32::MAX]),
+            _ => plan.estimates.pick(random),
+        };
+        played.submit(nodes, estimate)
+    } else if roll < plan.submissions + plan.completions {
+        // Mostly one that runs; else one that waits, is over, or was never given.
+        let live: Vec<(u32, State)> = played.model.jobs.iter().map(|j| (j.ticket, j.state)).collect();
+        let running: Vec<u32> = live.iter().filter(|j| j.1 == State::Running).map(|j| j.0).collect();
+        let ticket = match random.below(8) {
+            0 => random.one_of(&[0, played.model.next, played.model.next.saturating_sub(1), u32::MAX]),
+            1 if !live.is_empty() => random.one_of(&live).0,
+            _ if !running.is_empty() => random.one_of(&running),
+            _ => random.below(played.model.next + 1),
+        };
+        played.complete(ticket)
+    } else if roll < plan.submissions + plan.completions + plan.profiles {
+        let points = played.model.profile(usize::MAX).unwrap().len();
+        let room = match random.below(6) {
+            0 => 0,
+            1 => points.saturating_sub(1),
+            2 => points,
+            3 => points + random.between(1, 5) as usize,
+            4 => 129,
+            _ => random.between(0, 200) as usize,
+        };
+        played.profile(room)
+    } else {
+        // Some minutes, or as many as it takes until a job that is due ends or starts.
+        let clock = played.model.clock;
+        let events = played.model.jobs.iter().map(|j| match j.state {
+            State::Waiting => j.start,
+            State::Running => j.start + model::held(j.estimate),
+        });
+        let next = events.filter(|m| *m > clock).min().map_or(1, |m| m - clock);
+        let minutes = match random.below(6) {
+            0..=2 => 1,
+            3 => random.between(2, 12),
+            _ if next <= 60 || random.percent(3) => next,
+            _ => 3,
+        };
+        played.ticks(minutes)
+    }
+}
+
+fn play(list: u64) -> Result<Count, String> {
+    let random = &mut Random::new(list);
+    let plan = plan(random);
+    let mut played = Played::open(&plan)?;
+    if plan.estimates == Estimates::Tiny && plan.calls <= 25 {
+        played.model.search = Search::EveryMinute;
+    }
+    for _ in 0..plan.calls {
+        step(&plan, &mut played, random).map_err(|e| format!("list {list}: {}\n{e}", played.done.join(", ")))?;
+    }
+    played.count.tried = played.book.tried;
+    Ok(played.count)
+}
+
+fn number(name: &str) -> Option<u64> {
+    std::env::var(name).ok().map(|n| n.parse().unwrap_or_else(|_| panic!("{name} is not a number")))
+}
+
+fn main() {
+    let (first, end) = match number("LIST") {
+        Some(list) => (list, list + 1),
+        None => (0, number("LISTS").unwrap_or(LISTS)),
+    };
+    book::finds_broken_claims();
+    let (began, total, shown) = (Instant::now(), end - first, std::io::stderr().is_terminal());
+    let (next, all) = (AtomicU64::new(first), Mutex::new(Count::default()));
+    let work = || loop {
+        let list = next.fetch_add(1, Ordering::Relaxed);
+        if list >= end {
+            return;
+        }
+        let played = play(list);
+        let mut all = all.lock().unwrap();
+        match played {
+            Ok(count) => all.add(&count),
+            Err(wrong) => {
+                eprintln!("\nFAILED {wrong}");
+                std::process::exit(1);
+            }
+        }
+        if shown && all.lists % 100 == 0 {
+            eprint!("\r{} of {total} lists, {} calls", all.lists, all.calls);
+        } else if all.lists % 5_000 == 0 {
+            eprintln!("{} of {total} lists, {} calls", all.lists, all.calls);
+        }
+    };
+    std::thread::scope(|threads| {
+        for _ in 0..std::thread::available_parallelism().map_or(1, |n| n.get()) {
+            threads.spawn(work);
+        }
+    });
+    if shown {
+        eprintln!();
+    }
+    let all = all.into_inner().unwrap();
+    let Tried { promises, bounds, forecasts, heads, sums } = all.tried;
+    println!(
+        "{} lists, {} calls: {} submissions, {} completions, {} ticks, {} profiles with {} points",
+        all.lists, all.calls, all.submissions, all.completions, all.ticks, all.profiles, all.points
+    );
+    println!("at most {} live jobs and {} points; refusals by number, from 0: {:?}", all.most_live, all.most_points, all.refusals);
+    println!("guarantees: {promises} promises, {bounds} bounds and {forecasts} forecasts kept, {heads} heads with a forecast, {sums} sums of nodes");
+    println!("library and model agree ({:.1} s)", began.elapsed().as_secs_f64());
+}

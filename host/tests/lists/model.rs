@@ -1,0 +1,348 @@
+//! Document 01's two desks, written from its words and as plainly as they allow, to be compared with: a list of live jobs, everything
+//! worked out anew in each call. Its words are quoted where they are followed.
+
+use hingerota_host::Kind;
+
+pub const MOST_NODES: u32 = 1_024;
+pub const LAST_MINUTE: u32 = 1_000_000;
+pub const LONGEST_ESTIMATE: u32 = 10_080;
+pub const LIVE_JOBS: usize = 64;
+pub const LAST_TICKET: u32 = 999_999;
+pub const MOST_POINTS: usize = 129;
+
+#[derive(Clone, Copy, PartialEq, Eq, Debug)]
+pub enum State {
+    Waiting,
+    Running,
+}
+
+#[derive(Clone, Copy, PartialEq, Eq, Debug)]
+pub struct Job {
+    pub ticket: u32,
+    pub nodes: u32,
+    pub estimate: u32,
+    pub state: State,
+    pub start: u32,
+    pub promise: u32,
+}
+
+#[derive(Default, PartialEq, Eq, Debug)]
+pub struct Answer {
+    pub refusal: u32,
+    pub ticket: u32,
+    pub promise: u32,
+    pub ended: Vec<u32>,
+    pub started: Vec<u32>,
+    /// A job that is head now and was not before, with its forecast.
+    pub head: Option<(u32, u32)>,
+}
+
+/// How the smallest minute is looked for.
+#[derive(Clone, Copy, PartialEq, Eq, Debug)]
+pub enum Search {
+    /// Minute by minute, as document 01 says it.
+    EveryMinute,
+    /// Only at the minutes in which free nodes change: between these, nothing does.
+    Changes,
+}
+
+pub struct Model {
+    pub kind: Kind,
+    pub nodes: u32,
+    pub clock: u32,
+    pub next: u32,
+    /// In the order of tickets.
+    pub jobs: Vec<Job>,
+    pub search: Search,
+}
+
+/// "to 120 by fives, to 480 by tens, to 10,080 by thirties"
+pub fn held(estimate: u32) -> u32 {
+    let up_to_a_multiple_of = |width: u32| (estimate + width - 1) / width * width;
+    if estimate <= 120 {
+        up_to_a_multiple_of(5)
+    } else if estimate <= 480 {
+        up_to_a_multiple_of(10)
+    } else {
+        up_to_a_multiple_of(30)
+    }
+}
+
+impl Job {
+    /// "A stack that starts at minute s ends at s + held".
+    fn end(&self) -> u32 {
+        self.start + held(self.estimate)
+    }
+
+    fn waits(&self) -> bool {
+        self.state == State::Waiting
+    }
+
+    fn runs(&self) -> bool {
+        self.state == State::Running
+    }
+}
+
+fn refused(refusal: u32) -> Answer {
+    Answer { refusal, ..Answer::default() }
+}
+
+impl Model {
+    /// The refusal, and the desk; "A refused opening hands back an empty desk of its kind with 1 node, minute 0 and ticket 1".
+    pub fn open(kind: Kind, nodes: u32, minute: u32, ticket: u32) -> (u32, Model) {
+        let empty = |nodes, clock, next| Model { kind, nodes, clock, next, jobs: Vec::new(), search: Search::Changes };
+        if nodes < 1 || nodes > MOST_NODES {
+            return (1, empty(1, 0, 1));
+        }
+        if minute > LAST_MINUTE || ticket < 1 || ticket > LAST_TICKET {
+            return (3, empty(1, 0, 1));
+        }
+        (0, empty(nodes, minute, ticket))
+    }
+
+    pub fn submit(&mut self, nodes: u32, estimate: u32) -> Answer {
+        if nodes == 0 || nodes > self.nodes {
+            return refused(1);
+        }
+        if estimate < 1 || estimate > LONGEST_ESTIMATE {
+            return refused(2);
+        }
+        if self.jobs.len() == LIVE_JOBS {
+            return refused(4);
+        }
+        if self.next > LAST_TICKET {
+            return refused(5);
+        }
+        let job = Job { ticket: self.next, nodes, estimate, state: State::Waiting, start: 0, promise: 0 };
+        match self.kind {
+            Kind::Promise => self.submit_promise(job),
+            Kind::Loose => self.submit_loose(job),
+        }
+    }
+
+    pub fn complete(&mut self, ticket: u32) -> Answer {
+        let Some(place) = self.jobs.iter().position(|j| j.runs() && j.ticket == ticket) else {
+            return refused(7);
+        };
+        let head = self.head();
+        self.jobs.remove(place);
+        let mut answer = Answer { ended: vec![ticket], ..Answer::default() };
+        match self.kind {
+            Kind::Promise => answer.started = self.put_in_again(),
+            Kind::Loose => self.settle(head, &mut answer),
+        }
+        answer
+    }
+
+    pub fn tick(&mut self) -> Answer {
+        if self.clock == LAST_MINUTE {
+            return refused(6);
+        }
+        let head = self.head();
+        self.clock += 1;
+        let now = self.clock;
+        let mut answer = Answer::default();
+        // "stacks whose end is now leave"
+        for job in self.jobs.iter().filter(|j| j.runs() && j.end() == now) {
+            answer.ended.push(job.ticket);
+        }
+        self.jobs.retain(|j| !(j.runs() && j.end() == now));
+        match self.kind {
+            // "waiting stacks whose planned start is now start. Nothing else moves."
+            Kind::Promise => {
+                for job in self.jobs.iter_mut().filter(|j| j.waits() && j.start == now) {
+                    job.state = State::Running;
+                    answer.started.push(job.ticket);
+                }
+            }
+            Kind::Loose => self.settle(head, &mut answer),
+        }
+        answer
+    }
+
+    /// The points of the profile, or 10 if there is no room for them; "The Loose Desk has no profile."
+    pub fn profile(&self, room: usize) -> Result<Vec<(u32, u32)>, u32> {
+        match self.kind {
+            Kind::Loose => Ok(Vec::new()),
+            Kind::Promise => {
+                let points = self.points();
+                if room < points.len() {
+                    return Err(10);
+                }
+                Ok(points)
+            }
+        }
+    }
+
+    // The Promise Desk.
+
+    /// "Free nodes at minute t are the rack's, less those of running stacks whose end is after t, less those of waiting stacks with
+    /// start ≤ t < start + held."
+    fn free(&self, t: u32) -> u32 {
+        let running: u32 = self.jobs.iter().filter(|j| j.runs() && j.end() > t).map(|j| j.nodes).sum();
+        let waiting: u32 = self.jobs.iter().filter(|j| j.waits() && j.start <= t && t < j.end()).map(|j| j.nodes).sum();
+        self.nodes - running - waiting
+    }
+
+    /// The minutes, now or later, in which free nodes can differ from those of the minute before, and now.
+    fn changes(&self) -> Vec<u32> {
+        let mut minutes = vec![self.clock];
+        for job in &self.jobs {
+            minutes.push(job.start);
+            minutes.push(job.end());
+        }
+        minutes.retain(|m| *m >= self.clock);
+        minutes.sort();
+        minutes.dedup();
+        minutes
+    }
+
+    /// "The planned start is the smallest minute, now or later, such that the stack's nodes are free in every minute of its held time."
+    fn planned(&self, nodes: u32, hold: u32) -> u32 {
+        match self.search {
+            Search::EveryMinute => {
+                let mut start = self.clock;
+                while !(start..start + hold).all(|t| self.free(t) >= nodes) {
+                    start += 1;
+                }
+                start
+            }
+            // If it fits from a minute on and not from the one before, then free nodes change in that minute.
+            Search::Changes => {
+                let free: Vec<(u32, u32)> = self.changes().into_iter().map(|m| (m, self.free(m))).collect();
+                let fits = |s: usize| free[s..].iter().take_while(|(m, _)| *m < free[s].0 + hold).all(|(_, f)| *f >= nodes);
+                free[(0..free.len()).find(|s| fits(*s)).expect("all nodes are free in the end")].0
+            }
+        }
+    }
+
+    fn submit_promise(&mut self, mut job: Job) -> Answer {
+        let start = self.planned(job.nodes, held(job.estimate));
+        job.start = start;
+        job.promise = start;
+        if job.end() > LAST_MINUTE {
+            return refused(6);
+        }
+        let mut answer = Answer { ticket: job.ticket, promise: start, ..Answer::default() };
+        // "If it is now, the stack starts."
+        if start == self.clock {
+            job.state = State::Running;
+            answer.started.push(job.ticket);
+        }
+        self.jobs.push(job);
+        if self.points().len() > MOST_POINTS {
+            self.jobs.pop();
+            return refused(8);
+        }
+        self.next += 1;
+        answer
+    }
+
+    /// "each waiting stack, once, in ticket order, is taken out of the plan and put in again at its smallest minute, the others staying at
+    /// their places. One that comes to now starts." The tickets started.
+    fn put_in_again(&mut self) -> Vec<u32> {
+        let mut started = Vec::new();
+        for place in 0..self.jobs.len() {
+            if !self.jobs[place].waits() {
+                continue;
+            }
+            let mut job = self.jobs.remove(place);
+            job.start = self.planned(job.nodes, held(job.estimate));
+            if job.start == self.clock {
+                job.state = State::Running;
+                started.push(job.ticket);
+            }
+            self.jobs.insert(place, job);
+        }
+        started
+    }
+
+    /// "The first is now; then every later minute whose free nodes differ from those of the minute before."
+    fn points(&self) -> Vec<(u32, u32)> {
+        let differs = |m: &u32| *m == self.clock || self.free(*m) != self.free(*m - 1);
+        self.changes().into_iter().filter(differs).map(|m| (m, self.free(m))).collect()
+    }
+
+    // The Loose Desk.
+
+    /// "Waiting stacks stand in ticket order; the first is the head."
+    fn head(&self) -> Option<u32> {
+        self.jobs.iter().find(|j| j.waits()).map(|j| j.ticket)
+    }
+
+    fn free_now(&self) -> u32 {
+        self.nodes - self.jobs.iter().filter(|j| j.runs()).map(|j| j.nodes).sum::<u32>()
+    }
+
+    /// "the nodes free now and those of running stacks with end ≤ that minute together"
+    fn free_by(&self, minute: u32) -> u32 {
+        self.free_now() + self.jobs.iter().filter(|j| j.runs() && j.end() <= minute).map(|j| j.nodes).sum::<u32>()
+    }
+
+    /// "the smallest minute at which [these] suffice for it"
+    fn shadow(&self, nodes: u32) -> u32 {
+        match self.search {
+            Search::EveryMinute => {
+                let mut minute = self.clock;
+                while self.free_by(minute) < nodes {
+                    minute += 1;
+                }
+                minute
+            }
+            // Nodes come free at ends alone.
+            Search::Changes => {
+                let mut ends: Vec<u32> = self.jobs.iter().filter(|j| j.runs()).map(|j| j.end()).collect();
+                ends.push(self.clock);
+                ends.sort();
+                ends.into_iter().find(|m| self.free_by(*m) >= nodes).expect("all nodes are free in the end")
+            }
+        }
+    }
+
+    fn submit_loose(&mut self, job: Job) -> Answer {
+        let r = self.jobs.iter().filter(|j| j.waits()).count() as u32 + 1;
+        if self.clock + r * LONGEST_ESTIMATE + held(job.estimate) > LAST_MINUTE {
+            return refused(6);
+        }
+        let head = self.head();
+        let mut answer = Answer { ticket: job.ticket, ..Answer::default() };
+        self.next += 1;
+        self.jobs.push(job);
+        self.settle(head, &mut answer);
+        answer
+    }
+
+    fn start(&mut self, place: usize, answer: &mut Answer) {
+        self.jobs[place].state = State::Running;
+        self.jobs[place].start = self.clock;
+        answer.started.push(self.jobs[place].ticket);
+    }
+
+    /// The three steps, after a call that found `before` as head.
+    fn settle(&mut self, before: Option<u32>, answer: &mut Answer) {
+        // "While the head's nodes are free now, it starts."
+        while let Some(head) = self.jobs.iter().position(|j| j.waits()) {
+            if self.jobs[head].nodes > self.free_now() {
+                break;
+            }
+            self.start(head, answer);
+        }
+        // "Shadow, extra and both rules are worked out afresh after each stack passed forward, until none qualifies."
+        while let Some(head) = self.jobs.iter().position(|j| j.waits()) {
+            let shadow = self.shadow(self.jobs[head].nodes);
+            let extra = self.free_by(shadow) - self.jobs[head].nodes;
+            let qualifies =
+                |j: &Job| j.waits() && j.nodes <= self.free_now() && (self.clock + held(j.estimate) <= shadow || j.nodes <= extra);
+            match (head + 1..self.jobs.len()).find(|later| qualifies(&self.jobs[*later])) {
+                Some(later) => self.start(later, answer),
+                None => break,
+            }
+        }
+        // "A stack that is head after a call and was not before gets the shadow then as its forecast."
+        if let Some(head) = self.jobs.iter().find(|j| j.waits()) {
+            if before != Some(head.ticket) {
+                answer.head = Some((head.ticket, self.shadow(head.nodes)));
+            }
+        }
+    }
+}
