@@ -10,14 +10,15 @@ use lib.Dec.{ltb}
 use lib.ListN.{length}
 use borrow.Author.Tests.{lt-ltb, le-ltb, ltb-false}
 use Rattle.lists.specs.Tests.{case}
-use Rattle.lists.specs.Lists.{any}
+use Rattle.lists.specs.Lists.{any, length-keep-le}
 use Rattle.lists.specs.Loops.{positionFrom}
 use Rattle.scheduler.specs.declared.Job.{Job}
 use Rattle.scheduler.specs.declared.Refusal.{Refusal}
 use Rattle.scheduler.specs.declared.Scheduler.{Scheduler}
 use Rattle.scheduler.specs.declared.Submission.{Submission}
 use Rattle.scheduler.specs.declared.Slot.the-variants.{At, Nowhere}
-use Rattle.scheduler.specs.Jobs.{picks}
+use Rattle.walltime.specs.Laws.{wallTime-le}
+use Rattle.scheduler.specs.Jobs.{isWaiting, picks}
 use Rattle.scheduler.specs.Limits.{horizon}
 use Rattle.scheduler.specs.Table.{slot, counted, located, appended}
 use Rattle.scheduler.specs.Model.{store, view, joined, withModelJobs}
@@ -61,6 +62,11 @@ module _ (d : Scheduler) (n e : ℕ) (h : Holds Sound d) where
   refusal-is =
       let t : checked d n e ≡ verdict (submitTests (view d) n e []) = ap (λ (x : Scheduler). checked x n e) (h .stored) ∙ checked-stored (view d) n e (all-live (view d) (h .holds)) in
       rw t (checked-more (view d) n e ((ltb horizon (latestEnd (view d) e), refusal.PastHorizon) ∷ []))
+
+  -- early on, the last of a full queue ends in time
+  pub early-latest : d .clock ≤ 334720 → latestEnd (view d) e ≤ horizon
+  unfolding view
+  early-latest l = omega (arith, length-keep-le isWaiting (view d .jobs), h .holds .few, wallTime-le e)
 
   pub refusal-checked : accepts (checked d n e) ≡ false → checked d n e ≡ submitRefusal (view d) n e
   refusal-checked a = rw (refusal-is, a)

@@ -38,3 +38,7 @@ window m n = record { clock = m .clock; free = free m; shadow = shadow m n; extr
 -- a waiting job that may pass
 abbrev pub admits : Window → Job → Bool
 admits w j = isWaiting j && (leb (j .nodes) (w .free) && (leb (w .clock + wallTime (j .estimate)) (w .shadow) || leb (j .nodes) (w .extra)))
+
+-- a waiting job that needs no more than n nodes
+abbrev pub fits : ℕ → Job → Bool
+fits n j = isWaiting j && leb (j .nodes) n

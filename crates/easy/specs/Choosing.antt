@@ -28,7 +28,7 @@ use Rattle.easy_rules.specs.Code.{head-first, passes, passes-stored, job-stored
 use Rattle.easy.specs.Choice.{jobAt, window, admits}
 use Rattle.easy.specs.Slots.{slots-are}
 
-slot-at : (o : Option ℕ) (i : ℕ) → slot o ≡ At i → o ≡ some i
+pub slot-at : (o : Option ℕ) (i : ℕ) → slot o ≡ At i → o ≡ some i
 slot-at none i e = absurd (let z : _≡_ {A = ℕ} 0 1 = cc in omega arith)
 slot-at (some k) i e = let z : k ≡ i = cc in ap some z
 

@@ -1,6 +1,8 @@
+pub mod Minutes
 pub mod Choice
 pub mod Slots
 pub mod Choosing
+pub mod Fitting
 pub mod Starts
 pub mod Starting
 pub mod Replies

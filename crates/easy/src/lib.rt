@@ -11,7 +11,9 @@ use scheduler::Submission;
 use scheduler::Tickets;
 ghost use mathlib.Core.Path.{_≡_};
 ghost use mathlib.Core.List.{List};
+ghost use lib.Dec.{ltb};
 ghost use Prim.Native.Nat.{ℕ, _+_, _<_, _≤_};
+ghost use Rattle.lists.specs.Lists.{any};
 ghost use Rattle.lists.specs.Loops.{position};
 ghost use Rattle.scheduler.specs.Limits.{horizon};
 ghost use Rattle.scheduler.specs.Settings.{Settings, until};
@@ -24,9 +26,12 @@ ghost use Rattle.history.specs.Calls.{submit, complete, tick};
 ghost use Rattle.easy_rules.specs.Easy.{head, free, freed, avail, shadow, choice, settled, forecast, finished, newJob, submitRefusal, advanced, call};
 ghost use Rattle.easy_rules.specs.Valid.{Ready, Valid, latestEnd};
 ghost use Rattle.easy_rules.specs.Code.{sooner};
-ghost use Rattle.easy.specs.Choice.{Lacks, jobAt, window, admits};
+ghost use Rattle.easy.specs.Choice.{Lacks, jobAt, window, admits, fits};
 ghost use Rattle.easy.specs.Starts.{startAt, push, settlement, Settleable};
 ghost use Rattle.easy.specs.Replies.{ticketIn, announced, Leaves};
+
+// Up to this minute even the last of 64 jobs in the queue ends by the last minute, so that the queue is not counted.
+const EARLY: u32 = Scheduler::HORIZON - 66 * Scheduler::LONGEST;
 
 // What a job that passes the head may use: the free nodes until the shadow, and the extra nodes for any time.
 struct Window {
@@ -56,6 +61,16 @@ fn end_of(job: Job) -> u32
     job.start + walltime::wall_time(job.estimate)
 }
 
+// Whether that minute comes before this one.
+fn ends_before(job: Job, minute: u32) -> bool
+    ensures { λ r. ⌜ ((S : Settings) → r ≡ ltb (until S job) minute) ⌝ }
+{
+    if minute <= job.start {
+        return false;
+    }
+    walltime::within(job.estimate, minute - job.start - 1)
+}
+
 // The nodes that the job, if it runs, has given back by this minute.
 fn freed(job: Job, minute: u32) -> u32
     requires { ⌜ job .start ≤ horizon ⌝ }
@@ -66,7 +81,10 @@ fn freed(job: Job, minute: u32) -> u32
         State::Unused => 0,
         State::Waiting => 0,
         State::Running => {
-            if end_of(job) <= minute {
+            if minute < job.start {
+                return 0;
+            }
+            if walltime::within(job.estimate, minute - job.start) {
                 return job.nodes;
             }
             0
@@ -106,14 +124,13 @@ fn sooner(d: Scheduler, spare: u32, nodes: u32, best: u32, job: Job) -> u32
         State::Unused => best,
         State::Waiting => best,
         State::Running => {
-            let end = end_of(job);
-            if best <= end {
-                return best;
+            if ends_before(job, best) {
+                let end = end_of(job);
+                if nodes <= avail_at(d, spare, end) {
+                    return end;
+                }
             }
-            if avail_at(d, spare, end) < nodes {
-                return best;
-            }
-            end
+            best
         }
     }
 }
@@ -160,10 +177,13 @@ impl Window {
                 if self.free < job.nodes {
                     return false;
                 }
-                if self.clock + walltime::wall_time(job.estimate) <= self.shadow {
+                if job.nodes <= self.extra {
                     return true;
                 }
-                job.nodes <= self.extra
+                if self.shadow < self.clock {
+                    return false;
+                }
+                walltime::within(job.estimate, self.shadow - self.clock)
             }
             State::Running => false,
         }
@@ -186,9 +206,33 @@ fn forward(d: Scheduler, w: Window) -> Slot
     Slot::Nowhere
 }
 
+// Whether the job waits and needs no more than these nodes.
+fn fits(job: Job, spare: u32) -> bool
+    ensures { λ r. ⌜ r ≡ fits spare job ⌝ }
+{
+    if job.is_waiting() {
+        return job.nodes <= spare;
+    }
+    false
+}
+
+fn some_fits(d: Scheduler, spare: u32) -> bool
+    ensures { λ r. ⌜ r ≡ any (fits spare) (d .jobs) ⌝ }
+{
+    let mut i: usize = 0;
+    while i < Scheduler::LIVE {
+        let j = d.jobs[i];
+        if fits(j, spare) {
+            return true;
+        }
+        i += 1;
+    }
+    false
+}
+
 // The slot of the job that starts next: the head if its nodes are free now, else the first that may pass it.
-fn choose(d: Scheduler) -> Slot
-    requires { ⌜ Holds Sound d ⌝ }
+fn pick(d: Scheduler, spare: u32) -> Slot
+    requires { ⌜ Holds Sound d × (spare ≡ free (view d)) ⌝ }
     ensures { λ r. ⌜ jobAt (d .jobs) r ≡ choice (view d) ⌝ }
 {
     let first = d.locate(Select::Waiting);
@@ -196,7 +240,6 @@ fn choose(d: Scheduler) -> Slot
         Slot::Nowhere => Slot::Nowhere,
         Slot::At(i) => {
             let h = d.jobs[i];
-            let spare = free_nodes(d);
             if h.nodes <= spare {
                 return Slot::At(i);
             }
@@ -204,6 +247,18 @@ fn choose(d: Scheduler) -> Slot
             forward(d, w)
         }
     }
+}
+
+// The same. Where nobody fits, nobody starts, and no shadow is needed.
+fn choose(d: Scheduler) -> Slot
+    requires { ⌜ Holds Sound d ⌝ }
+    ensures { λ r. ⌜ jobAt (d .jobs) r ≡ choice (view d) ⌝ }
+{
+    let spare = free_nodes(d);
+    if some_fits(d, spare) {
+        return pick(d, spare);
+    }
+    Slot::Nowhere
 }
 
 // The job in this slot starts now.
@@ -354,6 +409,9 @@ fn submit_refusal(d: Scheduler, s: Submission) -> Refusal
 {
     let refusal = d.check(s);
     if refusal.is_none() {
+        if d.clock <= EARLY {
+            return Refusal::None;
+        }
         if Scheduler::HORIZON < latest_end(d, s.estimate) {
             return Refusal::PastHorizon;
         }

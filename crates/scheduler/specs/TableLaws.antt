@@ -1,16 +1,19 @@
 -- What an operation on the slots of a stored model means for the model.
 -- Assumes nothing.
 use mathlib.Core.Path.{_≡_, refl, ap, sym, _∙_}
-use mathlib.Core.Bool.{Bool, true, false, not, cond}
-use lib.Dec.{leb, ltb}
+use mathlib.Core.Bool.{Bool, true, false, not, cond, _&&_}
+use lib.Dec.{leb, ltb, eqb}
 use mathlib.Core.List.{List, [], _∷_, _++_}
-use Prim.Native.Nat.{ℕ, _≤_, _<_}
+use Prim.Native.Nat.{ℕ, zero, suc, _+_, _≤_, _<_}
 use native.Mathlib.Omega.{arith}
-use lib.ListN.{length, set}
-use Rattle.lists.specs.Tests.{case, on}
+use lib.ListN.{length, set, drop}
+use Rattle.lists.specs.Tests.{case, on, on-le}
 use Rattle.lists.specs.Lists.{keep, sum, All, all-in, length-keep, keep-all}
 use Rattle.lists.specs.Pads.{pad, sum-pad, keep-pad, pad-keep, pad-push, pad-set}
 use Rattle.lists.specs.Loops.{position, position-pad}
+use Rattle.walltime.specs.WallTime.{wallTime}
+use Rattle.scheduler.specs.declared.State.{State}
+use Rattle.scheduler.specs.declared.State.the-variants.{Unused, Waiting, Running}
 use Rattle.scheduler.specs.declared.Job.{Job}
 use Rattle.scheduler.specs.declared.Scheduler.{Scheduler}
 use Rattle.scheduler.specs.declared.Removed.{Removed}
@@ -21,7 +24,7 @@ use Rattle.scheduler.specs.declared.Refusal.the-variants as refusal
 use Rattle.scheduler.specs.Limits.{slots, longest, lastTicket, outside}
 use Rattle.scheduler.specs.Answers.{verdict, accepts}
 use Rattle.scheduler.specs.Refusals.{checked, submitTests}
-use Rattle.scheduler.specs.Jobs.{unused, isLive, held, picks}
+use Rattle.scheduler.specs.Jobs.{unused, live?, waiting?, running?, isLive, held, picks}
 use Rattle.scheduler.specs.Table.{withJobs, counted, located, slot, nodesHeld, ticketsOf, tickets, staying, appended, removed}
 use Rattle.scheduler.specs.Model.{Model, store, withModelJobs, Live}
 
@@ -83,3 +86,37 @@ checked-more m n e more =
     (λ a. rw a (case (outside 1 longest e) (λ b. rw b)
     (λ b. rw b (case (leb slots (length (m .jobs))) (λ c. rw c)
     (λ c. rw c (case (ltb lastTicket (m .next)) (λ d. rw d) (λ d. rw d)))))))
+
+-- ## Counting over the slots that are used
+
+-- whatever a test picks is live
+picks-live : (s : Select) (j : Job) → on (picks s j) 1 ≤ on (isLive j) 1
+picks-live select.Live j = omega arith
+picks-live select.Waiting j = by-state (j .state)
+  where
+    by-state : (t : State) → on (waiting? t) 1 ≤ on (live? t) 1
+    by-state Unused = omega arith
+    by-state Waiting = omega arith
+    by-state Running = omega arith
+picks-live (select.RunningTicket t) j = by-state (j .state)
+  where
+    by-state : (x : State) → on (running? x && eqb (j .ticket) t) 1 ≤ on (live? x) 1
+    by-state Unused = omega arith
+    by-state Waiting = omega arith
+    by-state Running = on-le (eqb (j .ticket) t) 1
+picks-live (select.EndingAt t) j = by-state (j .state)
+  where
+    by-state : (x : State) → on (running? x && eqb (j .start + wallTime (j .estimate)) t) 1 ≤ on (live? x) 1
+    by-state Unused = omega arith
+    by-state Waiting = omega arith
+    by-state Running = on-le (eqb (j .start + wallTime (j .estimate)) t) 1
+
+pub counted-live : (s : Select) (js : List Job) → counted s js ≤ counted select.Live js
+counted-live s [] = omega arith
+counted-live s (j ∷ js) = omega (arith, picks-live s j, counted-live s js)
+
+-- at most one for each slot
+pub counted-few : (s : Select) (js : List Job) (n : ℕ) → counted s js ≤ n + counted s (drop n js)
+counted-few s js zero = omega arith
+counted-few s [] (suc n) = omega arith
+counted-few s (j ∷ js) (suc n) = omega (arith, on-le (picks s j) 1, counted-few s js n)

@@ -1,7 +1,8 @@
 // The scheduler of one machine (document 01: "desk", "rack"): its limits, its job table by value, opening, and what calls answer.
 ghost use mathlib.Core.Path.{_≡_};
 ghost use Prim.Native.Nat.{_+_, _<_, _≤_};
-ghost use lib.ListN.{set};
+ghost use lib.Dec.{leb};
+ghost use lib.ListN.{set, drop};
 ghost use Rattle.scheduler.specs.Limits.{limits, outside};
 ghost use Rattle.scheduler.specs.Jobs.{unused, picks, held};
 ghost use Rattle.scheduler.specs.Table.{withJobs, counted, located, nodesHeld, removed, appended, tickets, oneIf};
@@ -273,11 +274,14 @@ impl Job {
             State::Unused => false,
             State::Waiting => false,
             State::Running => {
-                let hold = walltime::wall_time(self.estimate);
-                if minute < hold {
+                if minute < self.start {
                     return false;
                 }
-                minute - hold == self.start
+                let passed = minute - self.start;
+                if walltime::within(self.estimate, passed) {
+                    return passed == walltime::wall_time(self.estimate);
+                }
+                false
             }
         }
     }
@@ -383,12 +387,29 @@ impl Scheduler {
         }
     }
 
+    // So many slots that all live jobs stand in them: up to the last.
+    fn used(self) -> usize
+        ensures { λ r. ⌜ (r ≤ 64) × (counted Select.Live (drop r (self .jobs)) ≡ 0) ⌝ }
+    {
+        let mut i = Scheduler::LIVE;
+        while 0 < i {
+            let last = i - 1;
+            let j = self.jobs[last];
+            if j.is_live() {
+                return i;
+            }
+            i = last;
+        }
+        i
+    }
+
     pub fn count(self, which: Select) -> usize
         ensures { λ r. ⌜ r ≡ counted which (self .jobs) ⌝ }
     {
+        let end = self.used();
         let mut n: usize = 0;
         let mut i: usize = 0;
-        while i < Scheduler::LIVE {
+        while i < end {
             let j = self.jobs[i];
             if which.picks(j) {
                 n += 1;
@@ -413,6 +434,16 @@ impl Scheduler {
         Slot::Nowhere
     }
 
+    // Whether every slot is used. Mostly the last one says that it is not.
+    fn is_full(self) -> bool
+        ensures { λ r. ⌜ r ≡ leb 64 (counted Select.Live (self .jobs)) ⌝ }
+    {
+        if self.used() < Scheduler::LIVE {
+            return false;
+        }
+        Scheduler::LIVE <= self.count(Select::Live)
+    }
+
     // What a submission is refused for, whatever the kind: its nodes, its estimate, no slot or no ticket left.
     pub fn check(self, s: Submission) -> Refusal
         ensures { λ r. ⌜ r ≡ checked self (s .nodes) (s .estimate) ⌝ }
@@ -423,7 +454,7 @@ impl Scheduler {
         if outside_range(s.estimate, 1, Scheduler::LONGEST) {
             return Refusal::MinutesOutOfRange;
         }
-        if Scheduler::LIVE <= self.count(Select::Live) {
+        if self.is_full() {
             return Refusal::Full;
         }
         if Scheduler::LAST_TICKET < self.next {

@@ -1,5 +1,7 @@
 // Wall times (document 01: "held time", "the wall chart"): the minutes that an estimate reserves.
 ghost use mathlib.Core.Path.{_≡_};
+ghost use Prim.Native.Nat.{_+_, _<_};
+ghost use lib.Dec.{leb};
 ghost use Rattle.walltime.specs.WallTime.{wallTime, bandTime, bands};
 
 // Estimates up to `end` are rounded up to a multiple of `width`.
@@ -531,4 +533,28 @@ pub fn wall_time(estimate: u32) -> u32
         return TABLE[i] as u32;
     }
     by_bands(estimate)
+}
+
+// Rounding up adds less than this: a width of the bands that the table is for, or of the last.
+fn rounding(estimate: u32) -> u32
+    ensures { λ r. ⌜ wallTime estimate < estimate + r ⌝ }
+{
+    if estimate <= 480 {
+        return 10;
+    }
+    30
+}
+
+// Whether the wall time of an estimate is at most so many minutes. The table is read only where rounding decides.
+pub fn within(estimate: u32, minutes: u32) -> bool
+    ensures { λ r. ⌜ r ≡ leb (wallTime estimate) minutes ⌝ }
+{
+    if minutes < estimate {
+        let last = BANDS[2];
+        return last.end <= minutes;
+    }
+    if minutes - estimate < rounding(estimate) {
+        return wall_time(estimate) <= minutes;
+    }
+    true
 }

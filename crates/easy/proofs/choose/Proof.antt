@@ -1,77 +1,28 @@
-use native.Mathlib.Omega.{arith}
-use mathlib.Core.Path.{sym, _∙_}
+use mathlib.Core.Path.{sym, ap, _∙_}
+use Prim.Native.Nat.{ℕ}
 use borrow.Author.Needs.{needs}
-use Rattle.scheduler.specs.Model.{view}
-use Rattle.easy.specs.Choosing.{none-chosen, head-low, head-within, head-chosen, forward-chosen}
+use Rattle.lists.specs.Lists.{any}
+use Rattle.easy.specs.Choice.{fits}
+use Rattle.easy.specs.Fitting.{none-fits}
 use Rattle.easy.proofs.choose.Statement.{statement}
 use Rattle.easy.proofs.choose.Tie as tie
-
-locate-requires : tie.Need-locate-requires
-locate-requires c κs = search needs
-
-enum-told : tie.Need-enum-told
-enum-told c = search needs
-
-enum-known-first : tie.Need-enum-known-first
-enum-known-first c = search needs
-
-mul-h : tie.Need-mul-h
-mul-h c =
-    let s = c .before .before .before .before in
-    let i = c .before .first .given .0 .0 in
-    let e = sym (c .before .first .given .1) ∙ c .before .before .before .locate .ensures in
-    omega (arith, head-low (s .args .t1) (s .pre) i e)
-
-element-copy-out-h : tie.Need-element-copy-out-h
-element-copy-out-h c =
-    let s = c .before .before .before .before in
-    let i = c .before .first .given .0 .0 in
-    let e = sym (c .before .first .given .1) ∙ c .before .before .before .locate .ensures in
-    head-low (s .args .t1) (s .pre) i e
 
 free-nodes-requires : tie.Need-free-nodes-requires
 free-nodes-requires c κs = search needs
 
+some-fits-requires : tie.Need-some-fits-requires
+some-fits-requires c κs = search needs
+
+pick-requires : tie.Need-pick-requires
+pick-requires c κs = (c .before .before .before .pre, c .before .before .free-nodes .ensures)
+
 returns : tie.Need-returns
-returns c =
-    let s = c .before .before .before .before .before .before .before .before in
-    let i = c .before .before .before .before .before .first .given .0 .0 in
-    let e = sym (c .before .before .before .before .before .first .given .1) ∙ c .before .before .before .before .before .before .before .locate .ensures in
-    head-chosen (s .args .t1) (s .pre) i e (omega (arith, c .before .before .free-nodes .ensures, c .if1 .taken))
-
-window-beside-requires : tie.Need-window-beside-requires
-window-beside-requires c κs =
-    let s = c .before .before .before .before .before .before .before .before in
-    let i = c .before .before .before .before .before .first .given .0 .0 in
-    let e = sym (c .before .before .before .before .before .first .given .1) ∙ c .before .before .before .before .before .before .before .locate .ensures in
-    record { sound = s .pre; spare-is = c .before .before .free-nodes .ensures; more = c .if1 .left; within = head-within (s .args .t1) (s .pre) i e }
-
-forward-requires : tie.Need-forward-requires
-unfolding view
-forward-requires c κs = rw (c .window-beside .ensures) (c .before .before .before .before .before .before .before .before .before .pre .holds .clock-to)
+returns c = c .pick .ensures
 
 returns-2 : tie.Need-returns-2
-returns-2 c = none-chosen (c .before .before .before .args .t1) (c .before .before .before .pre) (sym (c .enum-told .given .1) ∙ c .before .before .locate .ensures)
-
-returns-3 : tie.Need-returns-3
-returns-3 c =
-    let s = c .before .before .before .before .before .before .before .before .before .before in
-    let i = c .before .before .before .before .before .before .before .first .given .0 .0 in
-    let e = sym (c .before .before .before .before .before .before .before .first .given .1) ∙ c .before .before .before .before .before .before .before .before .before .locate .ensures in
-    rw (c .forward .ensures, c .before .window-beside .ensures) (forward-chosen (s .args .t1) (s .pre) i e (omega (arith, c .before .before .before .before .free-nodes .ensures, c .before .before .if1 .left)))
+returns-2 c =
+    let s = c .before .before .before in
+    none-fits (s .args .d) (s .pre) (ap (λ (n : ℕ). any (fits n) (s .args .d .jobs)) (sym (c .before .before .free-nodes .ensures)) ∙ sym (c .before .some-fits .ensures) ∙ c .if1 .left)
 
 pub choose-spec : {M : Type 1} → statement M
-choose-spec =
-    tie.close
-    (tie.spec
-    locate-requires
-    enum-told
-    enum-known-first
-    mul-h
-    element-copy-out-h
-    free-nodes-requires
-    returns
-    window-beside-requires
-    forward-requires
-    returns-2
-    returns-3)
+choose-spec = tie.close (tie.spec free-nodes-requires some-fits-requires pick-requires returns returns-2)

@@ -1,10 +1,12 @@
 use Rattle.walltime.specs.WallTime.{wallTime}
-use Rattle.lists.specs.Tests.{eqb-sub}
-use mathlib.Core.Path.{_≡_}
+use mathlib.Core.Path.{_≡_, sym, _∙_}
+use mathlib.Core.Bool.{true, false}
 use native.Mathlib.Omega.{arith}
-use Prim.Native.Nat.{_+_}
-use borrow.Author.Tests.{ne-eqb}
+use Prim.Native.Nat.{_+_, _-_}
+use lib.Dec.{leb}
+use borrow.Author.Tests.{ne-eqb, leb-false}
 use borrow.Author.Needs.{needs}
+use Rattle.lists.specs.Tests.{eqb-sub}
 use Rattle.scheduler.proofs.Job.ends_at.Statement.{statement}
 use Rattle.scheduler.proofs.Job.ends_at.Tie as tie
 
@@ -17,28 +19,37 @@ enum-told-2 c = search needs
 enum-told-3 : tie.Need-enum-told-3
 enum-told-3 c = search needs
 
+returns : tie.Need-returns
+returns c =
+    let a = c .before .before .before .before .args in
+    rw (c .before .before .enum-told3 .given .1, ne-eqb (a .self .start + wallTime (a .self .estimate)) (a .minute) (λ e. omega arith))
+
+within-requires : tie.Need-within-requires
+within-requires c κs = search needs
+
 wall-time-requires : tie.Need-wall-time-requires
 wall-time-requires c κs = search needs
 
-returns : tie.Need-returns
-returns c =
-    let j = c .before .before .before .before .args .self in
-    let m = c .before .before .before .before .args .minute in
-    let w = c .before .wall-time .ensures in
-    rw (c .before .before .enum-told3 .given .1, ne-eqb (j .start + wallTime (j .estimate)) m (λ e. omega arith))
-
 returns-2 : tie.Need-returns-2
-returns-2 c = search needs
+returns-2 c =
+    let a = c .before .before .before .before .before .before .before .before .args in
+    let j = a .self in
+    let w : c .wall-time .result ≡ wallTime (j .estimate) = c .wall-time .ensures in
+    let swap : wallTime (j .estimate) + j .start ≡ j .start + wallTime (j .estimate) = omega arith in
+    rw (c .before .before .before .before .before .before .enum-told3 .given .1, w, eqb-sub (a .minute) (j .start) (wallTime (j .estimate)) (omega arith), swap)
 
 returns-3 : tie.Need-returns-3
 returns-3 c = search needs
 
 returns-4 : tie.Need-returns-4
-returns-4 c =
-    let j = c .before .before .before .before .before .args .self in
-    let m = c .before .before .before .before .before .args .minute in
-    let w : c .before .before .wall-time .result ≡ wallTime (j .estimate) = c .before .before .wall-time .ensures in
-    rw (c .before .before .before .enum-told3 .given .1, w) (eqb-sub m (wallTime (j .estimate)) (j .start) (omega arith))
+returns-4 c = search needs
+
+returns-5 : tie.Need-returns-5
+returns-5 c =
+    let a = c .before .before .before .before .before .before .before .args in
+    let j = a .self in
+    let late : leb (wallTime (j .estimate)) (a .minute - j .start) ≡ false = sym (c .before .within .ensures) ∙ c .if2 .left in
+    rw (c .before .before .before .before .before .enum-told3 .given .1, ne-eqb (j .start + wallTime (j .estimate)) (a .minute) (λ e. omega (arith, leb-false (wallTime (j .estimate)) (a .minute - j .start) late)))
 
 pub ends-at-spec : {M : Type 1} → statement M
 ends-at-spec =
@@ -47,8 +58,10 @@ ends-at-spec =
     enum-told
     enum-told-2
     enum-told-3
-    wall-time-requires
     returns
+    within-requires
+    wall-time-requires
     returns-2
     returns-3
-    returns-4)
+    returns-4
+    returns-5)

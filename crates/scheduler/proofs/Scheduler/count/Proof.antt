@@ -7,19 +7,24 @@ use mathlib.Core.Logic.{⊎-elim}
 use mathlib.Core.Path.{_≡_, refl, sym, _∙_}
 use Prim.Native.Nat.{ℕ, _+_, _-_, _≤_, _<_}
 use lib.ListN.{length, getD, drop}
-use Rattle.lists.specs.Loops.{sum-drop, sum-done}
+use Rattle.lists.specs.Loops.{sum-drop}
 use Rattle.scheduler.proofs.Whole.{whole}
-use Rattle.scheduler.specs.Jobs.{unused, picks, held}
-use Rattle.scheduler.specs.Table.{counted, nodesHeld}
+use Rattle.scheduler.specs.declared.Select.the-variants as select
+use Rattle.scheduler.specs.Jobs.{unused, picks}
+use Rattle.scheduler.specs.Table.{counted}
+use Rattle.scheduler.specs.TableLaws.{counted-live}
 use borrow.Author.Needs.{needs}
 use Rattle.scheduler.proofs.Scheduler.count.Statement.{statement}
 use Rattle.scheduler.proofs.Scheduler.count.Tie as tie
 
 abbrev Inv-loop : tie.InvT-loop
-Inv-loop which self n₀ i₀ n i = (i ≤ 64) × (n ≤ i) × (n + counted which (drop i (self .jobs)) ≡ counted which (self .jobs))
+Inv-loop which self end n₀ i₀ n i = (i ≤ end) × (end ≤ 64) × (counted select.Live (drop end (self .jobs)) ≡ 0) × (n ≤ i) × (n + counted which (drop i (self .jobs)) ≡ counted which (self .jobs))
 
 abbrev μ-loop : tie.MeasureT-loop
-μ-loop which self n₀ i₀ n i = 64 - i
+μ-loop which self end n₀ i₀ n i = end - i
+
+used-requires : tie.Need-used-requires Inv-loop μ-loop
+used-requires c κs = search needs
 
 loop-holds : tie.Need-loop-holds Inv-loop μ-loop
 loop-holds c = search needs
@@ -45,7 +50,7 @@ loop-less c = search needs
 loop-again : tie.Need-loop-again Inv-loop μ-loop
 loop-again c =
     let l = c .before .before .before .before .loop in
-    let s = c .before .before .before .before .before in
+    let s = c .before .before .before .before .before .before in
     let js = s .args .t1 .jobs in
     let which = s .args .which in
     let len = whole (s .args .t1) (s .good .0) in
@@ -60,10 +65,12 @@ loop-again c =
 returns : tie.Need-returns Inv-loop μ-loop
 returns c =
     let l = c .before .loop in
-    let s = c .before .before in
+    let s = c .before .before .before in
+    let which = s .args .which in
     let js = s .args .t1 .jobs in
-    let len = whole (s .args .t1) (s .good .0) in
-    omega (arith, sum-done unused (λ (j : Job). on (picks (s .args .which) j) 1) js (l .i) (omega arith))
+    let end : l .i ≡ c .before .before .used .result = omega (arith, l .inv .0, l .inv .1) in
+    let past : counted which (drop (l .i) js) ≡ counted which (drop (c .before .before .used .result) js) = ap (λ (n : ℕ). counted which (drop n js)) end in
+    omega (arith, past, counted-live which (drop (c .before .before .used .result) js), l .inv .2)
 
 pub count-spec : {M : Type 1} → statement M
 count-spec =
@@ -71,6 +78,7 @@ count-spec =
     (tie.spec
     Inv-loop
     μ-loop
+    used-requires
     loop-holds
     mul-j
     element-copy-out-j
