@@ -26,11 +26,15 @@ ghost use Rattle.easy_rules.specs.Easy.{head, free, freed, avail, shadow, choic
 ghost use Rattle.easy_rules.specs.Valid.{Ready, Valid, latestEnd};
 ghost use Rattle.easy_rules.specs.Code.{sooner};
 ghost use Rattle.easy.specs.Choice.{Lacks, jobAt, window, admits, fits};
+ghost use Rattle.easy.specs.Leaving.{withoutSlot};
 ghost use Rattle.easy.specs.Starts.{startAt, push, settlement, Settleable};
 ghost use Rattle.easy.specs.Replies.{ticketIn, announced, Leaves};
 
 // Up to this minute even the last of 64 jobs in the queue ends by the last minute, so that the queue is not counted.
 const EARLY: u32 = Scheduler::HORIZON - 66 * Scheduler::LONGEST;
+
+// The last slot.
+const LAST: usize = Scheduler::LIVE - 1;
 
 // What a job that passes the head may use: the free nodes until the shadow, and the extra nodes for any time.
 struct Window {
@@ -300,6 +304,7 @@ fn settle(d: Scheduler, i: usize, started: Tickets) -> Settled
     }
 }
 
+// The whole settling: nothing, or from the first job that can start.
 fn settle_all(d: Scheduler) -> Settled
     requires { ⌜ Holds Ready d ⌝ }
     ensures { λ r. ⌜ r ≡ settlement (settled (view d)) noTickets ⌝ }
@@ -380,6 +385,24 @@ fn finish(before: u32, d: Scheduler, ticket: u32, ended: Tickets) -> Outcome
         answer: answer,
         scheduler: e,
     }
+}
+
+// The job in this slot leaves, and those after it move up.
+fn without_slot(d: Scheduler, at: usize) -> Scheduler
+    requires { ⌜ at < 64 ⌝ }
+    ensures { λ r. ⌜ r ≡ withoutSlot d at ⌝ }
+{
+    let none = Job::unused();
+    let mut e = d;
+    let mut i = at;
+    while i < LAST {
+        let next = i + 1;
+        let j = d.jobs[next];
+        e.jobs[i] = j;
+        i = next;
+    }
+    e.jobs[i] = none;
+    e
 }
 
 // Those that the test picks leave, the clock is set, and the others settle.
@@ -463,7 +486,13 @@ pub fn complete(d: Scheduler, ticket: u32) -> Outcome
     let found = d.locate(which);
     match found {
         Slot::Nowhere => d.refused(Refusal::NotRunning),
-        Slot::At(_) => advance(d, d.clock, which),
+        // No other job has this ticket.
+        Slot::At(i) => {
+            let before = head_ticket(d);
+            let e = without_slot(d, i);
+            let ended = Tickets::one_if(true, ticket);
+            finish(before, e, 0, ended)
+        }
     }
 }
 
