@@ -30,9 +30,6 @@ use Rattle.easy.specs.Choice.{jobAt, window, admits, fits}
 use Rattle.easy.specs.Choosing.{slot-at, none-chosen, head-low, forward-chosen}
 
 module _ (p : Job → Bool) (js : List Job) (i : ℕ) where
-  pub any-hit : i < length js → p (getD js i unused) ≡ true → any p (drop i js) ≡ true
-  any-hit h e = rw (drop-cons js i unused h, e)
-
   pub any-miss : i < length js → p (getD js i unused) ≡ false → any p (drop i js) ≡ any p (drop (i + 1) js)
   any-miss h e = rw (drop-cons js i unused h, e, add-one)
 

@@ -3,6 +3,7 @@ pub mod Choice
 pub mod Slots
 pub mod Choosing
 pub mod Fitting
+pub mod Leaving
 pub mod Starts
 pub mod Starting
 pub mod Replies

@@ -13,13 +13,12 @@ ghost use mathlib.Core.Path.{_≡_};
 ghost use mathlib.Core.List.{List};
 ghost use lib.Dec.{ltb};
 ghost use Prim.Native.Nat.{ℕ, _+_, _<_, _≤_};
-ghost use Rattle.lists.specs.Lists.{any};
 ghost use Rattle.lists.specs.Loops.{position};
 ghost use Rattle.scheduler.specs.Limits.{horizon};
 ghost use Rattle.scheduler.specs.Settings.{Settings, until};
 ghost use Rattle.scheduler.specs.Table.{slot, tickets};
 ghost use Rattle.scheduler.specs.Model.{Model, view, store, joined};
-ghost use Rattle.scheduler.specs.Answers.{outcome};
+ghost use Rattle.scheduler.specs.Answers.{outcome, noTickets};
 ghost use Rattle.jobs.specs.Sound.{Sound, Fit};
 ghost use Rattle.jobs.specs.Premise.{Holds};
 ghost use Rattle.history.specs.Calls.{submit, complete, tick};
@@ -27,11 +26,15 @@ ghost use Rattle.easy_rules.specs.Easy.{head, free, freed, avail, shadow, choic
 ghost use Rattle.easy_rules.specs.Valid.{Ready, Valid, latestEnd};
 ghost use Rattle.easy_rules.specs.Code.{sooner};
 ghost use Rattle.easy.specs.Choice.{Lacks, jobAt, window, admits, fits};
+ghost use Rattle.easy.specs.Leaving.{withoutSlot};
 ghost use Rattle.easy.specs.Starts.{startAt, push, settlement, Settleable};
 ghost use Rattle.easy.specs.Replies.{ticketIn, announced, Leaves};
 
 // Up to this minute even the last of 64 jobs in the queue ends by the last minute, so that the queue is not counted.
 const EARLY: u32 = Scheduler::HORIZON - 66 * Scheduler::LONGEST;
+
+// The last slot.
+const LAST: usize = Scheduler::LIVE - 1;
 
 // What a job that passes the head may use: the free nodes until the shadow, and the extra nodes for any time.
 struct Window {
@@ -216,20 +219,6 @@ fn fits(job: Job, spare: u32) -> bool
     false
 }
 
-fn some_fits(d: Scheduler, spare: u32) -> bool
-    ensures { λ r. ⌜ r ≡ any (fits spare) (d .jobs) ⌝ }
-{
-    let mut i: usize = 0;
-    while i < Scheduler::LIVE {
-        let j = d.jobs[i];
-        if fits(j, spare) {
-            return true;
-        }
-        i += 1;
-    }
-    false
-}
-
 // The slot of the job that starts next: the head if its nodes are free now, else the first that may pass it.
 fn pick(d: Scheduler, spare: u32) -> Slot
     requires { ⌜ Holds Sound d × (spare ≡ free (view d)) ⌝ }
@@ -255,8 +244,13 @@ fn choose(d: Scheduler) -> Slot
     ensures { λ r. ⌜ jobAt (d .jobs) r ≡ choice (view d) ⌝ }
 {
     let spare = free_nodes(d);
-    if some_fits(d, spare) {
-        return pick(d, spare);
+    let mut i: usize = 0;
+    while i < Scheduler::LIVE {
+        let j = d.jobs[i];
+        if fits(j, spare) {
+            return pick(d, spare);
+        }
+        i += 1;
     }
     Slot::Nowhere
 }
@@ -292,23 +286,37 @@ fn push(t: Tickets, ticket: u32) -> Tickets
     }
 }
 
-// Starts one job and settles again, until no job can start. The tickets handed in are followed by those of the jobs started.
-fn settle(d: Scheduler, started: Tickets) -> Settled
-    requires { ⌜ Settleable d started ⌝ }
+// Starts the job in this slot and settles again, until no job can start. The tickets handed in are followed by those of the jobs started.
+fn settle(d: Scheduler, i: usize, started: Tickets) -> Settled
+    requires { ⌜ Settleable d started × (jobAt (d .jobs) (Slot.At i) ≡ choice (view d)) ⌝ }
     ensures { λ r. ⌜ r ≡ settlement (settled (view d)) started ⌝ }
 {
+    let j = d.jobs[i];
+    let more = push(started, j.ticket);
+    let e = start_at(d, i);
+    let next = choose(e);
+    match next {
+        Slot::Nowhere => Settled {
+            started: more,
+            scheduler: e,
+        },
+        Slot::At(k) => settle(e, k, more),
+    }
+}
+
+// The whole settling: nothing, or from the first job that can start.
+fn settle_all(d: Scheduler) -> Settled
+    requires { ⌜ Holds Ready d ⌝ }
+    ensures { λ r. ⌜ r ≡ settlement (settled (view d)) noTickets ⌝ }
+{
+    let none = Tickets::none();
     let next = choose(d);
     match next {
         Slot::Nowhere => Settled {
-            started: started,
+            started: none,
             scheduler: d,
         },
-        Slot::At(i) => {
-            let j = d.jobs[i];
-            let more = push(started, j.ticket);
-            let e = start_at(d, i);
-            settle(e, more)
-        }
+        Slot::At(i) => settle(d, i, none),
     }
 }
 
@@ -360,8 +368,7 @@ fn finish(before: u32, d: Scheduler, ticket: u32, ended: Tickets) -> Outcome
     requires { ⌜ Holds Ready d ⌝ }
     ensures { λ r. ⌜ ((b : Model) (ts : List ℕ) → before ≡ ticketIn (head b) → ended ≡ tickets ts → r ≡ outcome (finished b (view d) ticket ts)) ⌝ }
 {
-    let none = Tickets::none();
-    let s = settle(d, none);
+    let s = settle_all(d);
     let e = s.scheduler;
     let started = s.started;
     let head = announce(before, e);
@@ -378,6 +385,24 @@ fn finish(before: u32, d: Scheduler, ticket: u32, ended: Tickets) -> Outcome
         answer: answer,
         scheduler: e,
     }
+}
+
+// The job in this slot leaves, and those after it move up.
+fn without_slot(d: Scheduler, at: usize) -> Scheduler
+    requires { ⌜ at < 64 ⌝ }
+    ensures { λ r. ⌜ r ≡ withoutSlot d at ⌝ }
+{
+    let none = Job::unused();
+    let mut e = d;
+    let mut i = at;
+    while i < LAST {
+        let next = i + 1;
+        let j = d.jobs[next];
+        e.jobs[i] = j;
+        i = next;
+    }
+    e.jobs[i] = none;
+    e
 }
 
 // Those that the test picks leave, the clock is set, and the others settle.
@@ -461,7 +486,13 @@ pub fn complete(d: Scheduler, ticket: u32) -> Outcome
     let found = d.locate(which);
     match found {
         Slot::Nowhere => d.refused(Refusal::NotRunning),
-        Slot::At(_) => advance(d, d.clock, which),
+        // No other job has this ticket.
+        Slot::At(i) => {
+            let before = head_ticket(d);
+            let e = without_slot(d, i);
+            let ended = Tickets::one_if(true, ticket);
+            finish(before, e, 0, ended)
+        }
     }
 }
 

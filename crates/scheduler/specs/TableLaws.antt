@@ -3,10 +3,12 @@
 use mathlib.Core.Path.{_≡_, refl, ap, sym, _∙_}
 use mathlib.Core.Bool.{Bool, true, false, not, cond, _&&_}
 use lib.Dec.{leb, ltb, eqb}
-use mathlib.Core.List.{List, [], _∷_, _++_}
-use Prim.Native.Nat.{ℕ, zero, suc, _+_, _≤_, _<_}
+use mathlib.Core.List.{List, [], _∷_, _++_, append-assoc, append-nil}
+use Prim.Native.Nat.{ℕ, zero, suc, _+_, _-_, _≤_, _<_}
 use native.Mathlib.Omega.{arith}
-use lib.ListN.{length, set, drop}
+use lib.ListN.{length, set, take, drop, getD, replicate, replicate-append-replicate}
+use lib.Seq.{drop-cons, set-at, take-append-seam}
+use native.Mathlib.Numerals.{add-one}
 use Rattle.lists.specs.Tests.{case, on, on-le}
 use Rattle.lists.specs.Lists.{keep, sum, All, all-in, length-keep, keep-all}
 use Rattle.lists.specs.Pads.{pad, sum-pad, keep-pad, pad-keep, pad-push, pad-set}
@@ -120,3 +122,25 @@ pub counted-few : (s : Select) (js : List Job) (n : ℕ) → counted s js ≤ n 
 counted-few s js zero = omega arith
 counted-few s [] (suc n) = omega arith
 counted-few s (j ∷ js) (suc n) = omega (arith, on-le (picks s j) 1, counted-few s js n)
+
+-- ## Slots written one after another
+
+-- the first slots have been written, and one more
+pub overwrite : (ws xs : List Job) (x : Job) (k : ℕ) → length ws ≡ k → k < length xs → set (ws ++ drop k xs) k x ≡ (ws ++ (x ∷ [])) ++ drop (k + 1) xs
+overwrite ws xs x k e h =
+    rw (drop-cons xs k unused h, add-one k, append-assoc ws (x ∷ []) (drop (suc k) xs)) (set-at ws (getD xs k unused) (drop (suc k) xs) x k e)
+
+pub take-written : (ws bs : List Job) (k : ℕ) → length ws ≡ k → take k (ws ++ bs) ≡ ws
+take-written ws bs k e = rw (← e) (take-append-seam ws bs)
+
+-- no unused slot
+pub pad-whole : (xs : List Job) (k : ℕ) → length xs ≡ k → pad k unused xs ≡ xs
+unfolding pad
+pad-whole xs k e = let z : k - length xs ≡ 0 = omega arith in rw z (append-nil xs)
+
+-- one unused slot more
+pub pad-grow : (xs : List Job) (k : ℕ) → length xs ≤ k → pad (k + 1) unused xs ≡ pad k unused xs ++ (unused ∷ [])
+unfolding pad
+pad-grow xs k h =
+    let e : k + 1 - length xs ≡ (k - length xs) + 1 = omega arith in
+    rw (e, append-assoc xs (replicate (k - length xs) unused) (unused ∷ []), ← replicate-append-replicate (k - length xs) 1 unused)

@@ -2,7 +2,8 @@
 ghost use mathlib.Core.Path.{_≡_};
 ghost use Prim.Native.Nat.{_+_, _<_, _≤_};
 ghost use lib.Dec.{leb};
-ghost use lib.ListN.{set, drop};
+ghost use lib.ListN.{set, take, drop};
+ghost use Rattle.lists.specs.Pads.{pad};
 ghost use Rattle.scheduler.specs.Limits.{limits, outside};
 ghost use Rattle.scheduler.specs.Jobs.{unused, picks, held};
 ghost use Rattle.scheduler.specs.Table.{withJobs, counted, located, nodesHeld, removed, appended, tickets, oneIf};
@@ -434,14 +435,15 @@ impl Scheduler {
         Slot::Nowhere
     }
 
-    // Whether every slot is used. Mostly the last one says that it is not.
+    // Whether every slot is used. Where the last is not, nothing is counted.
     fn is_full(self) -> bool
         ensures { λ r. ⌜ r ≡ leb 64 (counted Select.Live (self .jobs)) ⌝ }
     {
-        if self.used() < Scheduler::LIVE {
-            return false;
+        let last = self.jobs[63];
+        if last.is_live() {
+            return Scheduler::LIVE <= self.count(Select::Live);
         }
-        Scheduler::LIVE <= self.count(Select::Live)
+        false
     }
 
     // What a submission is refused for, whatever the kind: its nodes, its estimate, no slot or no ticket left.
@@ -495,12 +497,26 @@ impl Scheduler {
         self.put(live, job)
     }
 
+    // The slots from this one on become unused.
+    fn cleared(self, from: usize) -> Scheduler
+        requires { ⌜ from ≤ 64 ⌝ }
+        ensures { λ d. ⌜ d ≡ withJobs self (pad 64 unused (take from (self .jobs))) ⌝ }
+    {
+        let none = Job::unused();
+        let mut d = self;
+        let mut i = from;
+        while i < Scheduler::LIVE {
+            d.jobs[i] = none;
+            i += 1;
+        }
+        d
+    }
+
     // The jobs that the test picks leave, and their tickets are given in order; the others move up.
     pub fn remove(self, which: Select) -> Removed
         ensures { λ r. ⌜ r ≡ removed self which ⌝ }
     {
-        let kind = self.kind;
-        let mut d = Scheduler::empty(kind, self.nodes, self.clock, self.next);
+        let mut d = self;
         let mut list = [0u32; 64];
         let mut kept: usize = 0;
         let mut gone: usize = 0;
@@ -522,7 +538,7 @@ impl Scheduler {
         };
         Removed {
             tickets: tickets,
-            scheduler: d,
+            scheduler: d.cleared(kept),
         }
     }
 }

@@ -3,7 +3,7 @@
 use Prim.Native.Nat.{ℕ, _<_}
 use native.Mathlib.Omega.{arith}
 use mathlib.Core.Path.{_≡_, sym, ap, _∙_}
-use mathlib.Core.Option.{some}
+use mathlib.Core.Option.{none}
 use lib.ListN.{getD}
 use borrow.Author.Needs.{needs}
 use borrow.Fn.Kinds.{In}
@@ -36,10 +36,41 @@ settle-below t = and 0 settle-kinds.ps (falls 0 settle-kinds.ps _<_ μ-settle t)
 
 -- what the functions called ask and say
 abbrev callees : ℕ → settle-lts.Claims
-callees t = (choose-reads.Asked, choose-reads.Learnt, push-reads.Asked, push-reads.Learnt, start-at-reads.Asked, start-at-reads.Learnt, settle-below t, settle.Post)
+callees t = (push-reads.Asked, push-reads.Learnt, start-at-reads.Asked, start-at-reads.Learnt, choose-reads.Asked, choose-reads.Learnt, settle-below t, settle.Post)
+
+settle-mul-j : (t : ℕ) → settle-lts.Need-mul-j (callees t) (settle-at t) settle.Post
+settle-mul-j t c = omega (arith, start-low (c .args .t1) (c .args .i) (c .pre .1 .0 .ready) (c .pre .1 .1))
+
+settle-element-copy-out-j : (t : ℕ) → settle-lts.Need-element-copy-out-j (callees t) (settle-at t) settle.Post
+settle-element-copy-out-j t c = start-low (c .args .t1) (c .args .i) (c .pre .1 .0 .ready) (c .pre .1 .1)
+
+settle-push-requires : (t : ℕ) → settle-lts.Need-push-requires (callees t) (settle-at t) settle.Post
+settle-push-requires t c κs =
+    let s = c .before in
+    let d = s .args .t1 in
+    let i = s .args .i in
+    let h = s .pre .1 .0 .ready in
+    let e = s .pre .1 .1 in
+    omega (arith, start-fewer d i h e, s .pre .1 .0 .room)
+
+settle-start-at-requires : (t : ℕ) → settle-lts.Need-start-at-requires (callees t) (settle-at t) settle.Post
+settle-start-at-requires t c κs =
+    let s = c .before .before in
+    let d = s .args .t1 in
+    let i = s .args .i in
+    let h = s .pre .1 .0 .ready in
+    let e = s .pre .1 .1 in
+    start-low d i h e
 
 settle-choose-requires : (t : ℕ) → settle-lts.Need-choose-requires (callees t) (settle-at t) settle.Post
-settle-choose-requires t c κs = sound-of (c .args .t1) (c .pre .1 .ready)
+settle-choose-requires t c κs =
+    let s = c .before .before .before in
+    let d = s .args .t1 in
+    let i = s .args .i in
+    let h = s .pre .1 .0 .ready in
+    let e = s .pre .1 .1 in
+    let q : c .start-at .result ≡ startAt d i = c .start-at .ensures in
+    rw q (sound-of (startAt d i) (start-ready d i h e))
 
 settle-enum-told : (t : ℕ) → settle-lts.Need-enum-told (callees t) (settle-at t) settle.Post
 settle-enum-told t c = search needs
@@ -47,70 +78,58 @@ settle-enum-told t c = search needs
 settle-enum-known-next : (t : ℕ) → settle-lts.Need-enum-known-next (callees t) (settle-at t) settle.Post
 settle-enum-known-next t c = search needs
 
--- the slot found has the job that starts next
-found : (t : ℕ) (c : settle-lts.After-known-told (callees t) (settle-at t) settle.Post)
-    → some (getD (c .before .before .before .before .args .t1 .jobs) (c .before .next .given .0 .0) unused) ≡ choice (view (c .before .before .before .before .args .t1))
-found t c = sym (ap (jobAt (c .before .before .before .before .args .t1 .jobs)) (c .before .next .given .1)) ∙ c .before .before .before .choose .ensures
-
-settle-mul-j : (t : ℕ) → settle-lts.Need-mul-j (callees t) (settle-at t) settle.Post
-settle-mul-j t c = omega (arith, start-low (c .before .before .before .before .args .t1) (c .before .next .given .0 .0) (c .before .before .before .before .pre .1 .ready) (found t c))
-
-settle-element-copy-out-j : (t : ℕ) → settle-lts.Need-element-copy-out-j (callees t) (settle-at t) settle.Post
-settle-element-copy-out-j t c = start-low (c .before .before .before .before .args .t1) (c .before .next .given .0 .0) (c .before .before .before .before .pre .1 .ready) (found t c)
-
-settle-push-requires : (t : ℕ) → settle-lts.Need-push-requires (callees t) (settle-at t) settle.Post
-settle-push-requires t c κs =
-    let s = c .before .before .before .before .before in
-    let i = c .before .before .next .given .0 .0 in
-    let d = s .args .t1 in
-    let h = s .pre .1 .ready in
-    let e = found t (c .before) in
-    omega (arith, start-fewer d i h e, s .pre .1 .room)
-
-settle-start-at-requires : (t : ℕ) → settle-lts.Need-start-at-requires (callees t) (settle-at t) settle.Post
-settle-start-at-requires t c κs = start-low (c .before .before .before .before .before .before .args .t1) (c .before .before .before .next .given .0 .0) (c .before .before .before .before .before .before .pre .1 .ready) (found t (c .before .before))
-
 settle-settle-requires : (t : ℕ) → settle-lts.Need-settle-requires (callees t) (settle-at t) settle.Post
 settle-settle-requires t c κs =
     let s = c .before .before .before .before .before .before .before in
-    let i = c .before .before .before .before .next .given .0 .0 in
     let d = s .args .t1 in
-    let h = s .pre .1 .ready in
-    let e = found t (c .before .before .before) in
-    let q : c .start-at .result ≡ startAt d i = c .start-at .ensures in
-    let p : c .before .push .result ≡ push (s .args .started) (getD (d .jobs) i unused .ticket) = c .before .push .ensures in
-    let f : counted select.Waiting (c .start-at .result .jobs) < t = rw q (omega (arith, s .pre .0, start-fewer d i h e)) in
+    let i = s .args .i in
+    let h = s .pre .1 .0 .ready in
+    let e = s .pre .1 .1 in
+    let b = c .before .before .before .before in
+    let q : b .start-at .result ≡ startAt d i = b .start-at .ensures in
+    let p : b .before .push .result ≡ push (s .args .started) (getD (d .jobs) i unused .ticket) = b .before .push .ensures in
+    let f : counted select.Waiting (b .start-at .result .jobs) < t = rw q (omega (arith, s .pre .0, start-fewer d i h e)) in
     let g : Settleable (startAt d i) (push (s .args .started) (getD (d .jobs) i unused .ticket)) =
-    record { ready = start-ready d i h e; room = omega (arith, s .pre .1 .room, start-fewer d i h e) } in
-    (f, rw (← q, ← p) at g)
+    record { ready = start-ready d i h e; room = omega (arith, s .pre .1 .0 .room, start-fewer d i h e) } in
+    let k = sym (ap (jobAt (b .start-at .result .jobs)) (c .before .next .given .1)) ∙ c .before .before .before .choose .ensures in
+    (f, (rw (← q, ← p) at g, k))
 
 settle-returns : (t : ℕ) → settle-lts.Need-returns (callees t) (settle-at t) settle.Post
 settle-returns t c =
-    let s = c .before .before .before in
-    rest-settles (s .args .t1) (s .args .started) (s .pre .1 .ready) (sym (ap (jobAt (s .args .t1 .jobs)) (c .enum-told .given .1)) ∙ c .before .before .choose .ensures)
+    let s = c .before .before .before .before .before .before in
+    let d = s .args .t1 in
+    let i = s .args .i in
+    let h = s .pre .1 .0 .ready in
+    let e = s .pre .1 .1 in
+    let b = c .before .before .before in
+    let q : b .start-at .result ≡ startAt d i = b .start-at .ensures in
+    let p : b .before .push .result ≡ push (s .args .started) (getD (d .jobs) i unused .ticket) = b .before .push .ensures in
+    let k : none ≡ choice (view (b .start-at .result)) = sym (ap (jobAt (b .start-at .result .jobs)) (c .enum-told .given .1)) ∙ c .before .before .choose .ensures in
+    rw (q, p) (rest-settles (startAt d i) (push (s .args .started) (getD (d .jobs) i unused .ticket)) (start-ready d i h e) (rw q at k) ∙ start-settles d i h e (s .args .started))
 
 settle-returns-2 : (t : ℕ) → settle-lts.Need-returns-2 (callees t) (settle-at t) settle.Post
 settle-returns-2 t c =
     let s = c .before .before .before .before .before .before .before .before in
-    let i = c .before .before .before .before .before .next .given .0 .0 in
     let d = s .args .t1 in
-    let h = s .pre .1 .ready in
-    let e = found t (c .before .before .before .before) in
-    let q : c .before .start-at .result ≡ startAt d i = c .before .start-at .ensures in
-    let p : c .before .before .push .result ≡ push (s .args .started) (getD (d .jobs) i unused .ticket) = c .before .before .push .ensures in
+    let i = s .args .i in
+    let h = s .pre .1 .0 .ready in
+    let e = s .pre .1 .1 in
+    let b = c .before .before .before .before .before in
+    let q : b .start-at .result ≡ startAt d i = b .start-at .ensures in
+    let p : b .before .push .result ≡ push (s .args .started) (getD (d .jobs) i unused .ticket) = b .before .push .ensures in
     c .settle .ensures ∙ rw (q, p) (start-settles d i h e (s .args .started))
 
 pub +settle-spec : {M : Type 1} → statement M
 +settle-spec = close μ-settle λ t. settle-lts.spec (callees t)
     (settle-at t)
     settle.Post
-    (settle-choose-requires t)
-    (settle-enum-told t)
-    (settle-enum-known-next t)
     (settle-mul-j t)
     (settle-element-copy-out-j t)
     (settle-push-requires t)
     (settle-start-at-requires t)
+    (settle-choose-requires t)
+    (settle-enum-told t)
+    (settle-enum-known-next t)
     (settle-settle-requires t)
     (settle-returns t)
     (settle-returns-2 t)

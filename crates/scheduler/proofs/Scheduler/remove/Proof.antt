@@ -6,7 +6,7 @@ use mathlib.Core.List.{List, [], _∷_, _++_, map, map-append}
 use mathlib.Core.Logic.{⊎-elim}
 use Prim.Native.Nat.{ℕ, _+_, _-_, _≤_, _<_}
 use native.Mathlib.Omega.{arith}
-use lib.ListN.{length, getD, take, set, length-append, length-map}
+use lib.ListN.{length, getD, take, drop, set, length-append, length-map}
 use lib.Seq.{take-all}
 use Rattle.lists.specs.Lists.{keep}
 use Rattle.lists.specs.Loops.{keep-take-yes, keep-take-no}
@@ -16,7 +16,7 @@ use Rattle.scheduler.specs.declared.Scheduler.{Scheduler}
 use Rattle.scheduler.specs.declared.Select.{Select}
 use Rattle.scheduler.specs.Jobs.{unused, picks}
 use Rattle.scheduler.specs.Table.{withJobs, ticketOf, ticketsOf, tickets, staying, removed}
-use Rattle.scheduler.specs.Model.{store}
+use Rattle.scheduler.specs.TableLaws.{overwrite, take-written}
 use Rattle.scheduler.proofs.Whole.{whole}
 use borrow.Author.Needs.{needs}
 use Rattle.scheduler.proofs.Scheduler.remove.Statement.{statement}
@@ -27,7 +27,7 @@ record Inv (s : Select) (self d : Scheduler) (list : List ℕ) (kept gone i : �
   parts : kept + gone ≡ i
   kept-is : kept ≡ length (staying s (take i (self .jobs)))
   gone-is : gone ≡ length (ticketsOf (keep (picks s) (take i (self .jobs))))
-  scheduler-is : d ≡ withJobs self (pad 64 unused (staying s (take i (self .jobs))))
+  scheduler-is : d ≡ withJobs self (staying s (take i (self .jobs)) ++ drop kept (self .jobs))
   list-is : list ≡ pad 64 0 (ticketsOf (keep (picks s) (take i (self .jobs))))
 
 module _ {s : Select} {self d : Scheduler} {list : List ℕ} {kept gone i : ℕ} (v : Inv s self d list kept gone i) (len : length (self .jobs) ≡ 64) (h : i < 64) where
@@ -67,7 +67,7 @@ module _ {s : Select} {self d : Scheduler} {list : List ℕ} {kept gone i : ℕ}
         scheduler-is =
             rw eK
             (ap (λ (e : Scheduler). withJobs e (set (e .jobs) kept x)) (v .scheduler-is)
-            ∙ ap (withJobs self) (pad-push 64 unused (staying s (take i xs)) x kept (sym (v .kept-is)) (omega (arith, v .parts))));
+            ∙ ap (withJobs self) (overwrite (staying s (take i xs)) xs x kept (sym (v .kept-is)) (omega (arith, v .parts))));
         list-is = rw eG (v .list-is);
       }
 
@@ -77,12 +77,9 @@ Inv-loop which self d₀ list₀ kept₀ gone₀ i₀ d list kept gone i = Inv w
 abbrev μ-loop : tie.MeasureT-loop
 μ-loop which self d₀ list₀ kept₀ gone₀ i₀ d list kept gone i = 64 - i
 
-empty-requires : tie.Need-empty-requires Inv-loop μ-loop
-empty-requires c κs = search needs
-
 loop-holds : tie.Need-loop-holds Inv-loop μ-loop
-unfolding pad store
-loop-holds c = record { low = search needs; parts = search needs; kept-is = refl; gone-is = refl; scheduler-is = c .empty .ensures; list-is = refl }
+unfolding pad
+loop-holds c = record { low = search needs; parts = search needs; kept-is = refl; gone-is = refl; scheduler-is = refl; list-is = refl }
 
 mul-j : tie.Need-mul-j Inv-loop μ-loop
 mul-j c = search needs
@@ -120,7 +117,7 @@ loop-less c = search needs
 loop-again : tie.Need-loop-again Inv-loop μ-loop
 loop-again c =
     let l = c .before .before .before .before .loop in
-    let s = c .before .before .before .before .before .before in
+    let s = c .before .before .before .before .before in
     let len = whole (s .args .t1) (s .good .0) in
     let h : l .i < 64 = omega arith in
     let e = c .before .picks .ensures in
@@ -129,19 +126,27 @@ loop-again c =
     (λ w. rw (w .1, w .2, w .3, w .4) (kept-step (l .inv) len h (sym e ∙ w .0 .left)))
     (c .if1 .came)
 
+cleared-requires : tie.Need-cleared-requires Inv-loop μ-loop
+cleared-requires c κs = let v = c .before .loop .inv in omega (arith, v .parts, v .low)
+
 returns : tie.Need-returns Inv-loop μ-loop
 unfolding removed tickets
 returns c =
     let s = c .before .before .before in
-    let l = c .before .loop in
+    let l = c .before .before .loop in
     let v = l .inv in
-    let len = whole (s .args .t1) (s .good .0) in
-    let xs = s .args .t1 .jobs in
-    let le : length xs ≤ l .i = omega arith in
-    let all = take-all (l .i) xs le in
+    let self = s .args .t1 in
+    let xs = self .jobs in
+    let len = whole self (s .good .0) in
+    let all = take-all (l .i) xs (omega arith) in
+    let stay = staying (s .args .which) (take (l .i) xs) in
+    let table : c .cleared .result ≡ withJobs self (pad 64 unused stay) =
+    c .cleared .ensures
+    ∙ ap (λ (e : Scheduler). withJobs e (pad 64 unused (take (l .kept) (e .jobs)))) (v .scheduler-is)
+    ∙ ap (λ (js : List Job). withJobs self (pad 64 unused js)) (take-written stay (drop (l .kept) xs) (l .kept) (sym (v .kept-is))) in
     λ j. record {
       tickets = record { count = (rw all at (v .gone-is)) j; list = (rw all at (v .list-is)) j };
-      scheduler = (rw all at (v .scheduler-is)) j;
+      scheduler = (rw all at table) j;
     }
 
 pub remove-spec : {M : Type 1} → statement M
@@ -150,7 +155,6 @@ remove-spec =
     (tie.spec
     Inv-loop
     μ-loop
-    empty-requires
     loop-holds
     mul-j
     element-copy-out-j
@@ -164,4 +168,5 @@ remove-spec =
     add-i
     loop-less
     loop-again
+    cleared-requires
     returns)
