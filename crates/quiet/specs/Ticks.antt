@@ -6,6 +6,7 @@ use native.Mathlib.Omega.{arith}
 use mathlib.Core.Path.{_≡_, refl, sym, ap, subst, _∙_}
 use mathlib.Core.Bool.{Bool, true, false, _||_}
 use mathlib.Core.List.{List, [], _∷_}
+use lib.ListN.{replicate}
 use Rattle.lists.specs.Tests.{neither}
 use Rattle.lists.specs.Lists.{In, here, there, any}
 use Rattle.scheduler.specs.declared.Kind.{Kind}
@@ -19,10 +20,11 @@ use Rattle.scheduler.specs.Limits.{horizon}
 use Rattle.scheduler.specs.Model.{Model, store, view}
 use Rattle.scheduler.specs.Answers.{Result, refusing}
 use Rattle.jobs.specs.Premise.{Holds}
-use Rattle.history.specs.Calls.{tick}
+use Rattle.history.specs.Calls.{tick, after}
 use Rattle.conservative_rules.specs.Faithful.{startsAt}
 use Rattle.guarantees.specs.Rules.{rulesOf, call}
 use Rattle.guarantees.specs.Premise.{Valid, ValidBy, Premise, call-valid}
+use Rattle.guarantees.specs.Chain.{handed, handed-is}
 use Rattle.easy.specs.Quiet as easy
 use Rattle.quiet.specs.Due.{dueAt, Quiet}
 use Rattle.quiet.specs.Conservative as conservative
@@ -78,6 +80,15 @@ passed-valid (suc k) m v l q =
     subst Valid (passed-more m k)
     (passed-valid k (passed m 1) (tick-valid m v (omega arith) (quiet-next m k q)) (omega arith) (quiet-rest m k q))
 
+-- as many ticks lead there
+pub passed-after : (k : ℕ) (m : Model) → Valid m → m .clock + k ≤ horizon → Quiet m k → after call m (replicate k tick) ≡ passed m k
+passed-after zero m v l q = sym (passed-none m)
+passed-after (suc k) m v l q =
+    let h = quiet-next m k q in
+    ap (λ (r : Result). after call (r .model) (replicate k tick)) (quiet-tick m v (omega arith) h)
+    ∙ passed-after k (passed m 1) (tick-valid m v (omega arith) h) (omega arith) (quiet-rest m k q)
+    ∙ passed-more m k
+
 -- the scheduler so many minutes later
 abbrev pub passedOver : Scheduler → ℕ → Scheduler
 passedOver d k = record { kind = d .kind; nodes = d .nodes; clock = d .clock + k; next = d .next; jobs = d .jobs }
@@ -85,3 +96,10 @@ passedOver d k = record { kind = d .kind; nodes = d .nodes; clock = d .clock + k
 pub passed-premise : (d : Scheduler) (k : ℕ) → Premise d → d .clock + k ≤ horizon → Quiet (view d) k → Premise (passedOver d k)
 unfolding view store
 passed-premise d k h l q = record { stored = ap (λ (e : Scheduler). passedOver e k) (h .stored); holds = passed-valid k (view d) (h .holds) l q }
+
+-- it is the one that as many calls of a tick hand back
+pub passed-handed : (d : Scheduler) (k : ℕ) → Premise d → d .clock + k ≤ horizon → Quiet (view d) k → passedOver d k ≡ handed d (replicate k tick)
+unfolding view store
+passed-handed d k h l q =
+    ap (λ (e : Scheduler). passedOver e k) (h .stored)
+    ∙ sym (handed-is d (replicate k tick) h ∙ ap store (passed-after k (view d) (h .holds) l q))

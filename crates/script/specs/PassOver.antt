@@ -14,8 +14,9 @@ use Rattle.scheduler.specs.Answers.{Result, refusing}
 use Rattle.history.specs.Calls.{Call, tick, after}
 use Rattle.guarantees.specs.Rules.{call}
 use Rattle.guarantees.specs.Premise.{Premise, Valid, premise-sound}
+use Rattle.guarantees.specs.Chain.{handed}
 use Rattle.quiet.specs.Due.{Quiet}
-use Rattle.quiet.specs.Ticks.{passed, quiet-tick, tick-valid, quiet-next, quiet-rest, passed-none, passed-more, passedOver, passed-premise}
+use Rattle.quiet.specs.Ticks.{passed, quiet-tick, tick-valid, quiet-next, quiet-rest, passed-none, passed-more, passedOver, passed-premise, passed-handed}
 use Rattle.quiet.specs.Ahead.{Ahead}
 use Rattle.script_rules.specs.Lines.{linesOf}
 use Rattle.script_rules.specs.Writing.{textOf, taken, rowsOf}
@@ -26,11 +27,15 @@ use Rattle.script.specs.declared.Stage.{Stage}
 use Rattle.script.specs.Whole.{fromHere, leftBy, left}
 use Rattle.script.specs.Ends.{Ready, weight, weightBy}
 
--- r stands some quiet minutes after p: how many may differ from one correct program to another, and what is left to print may not
+-- r stands some quiet minutes after p, with the scheduler that as many ticks hand back: how many they are may differ from one correct
+-- program to another, and what is left to print may not
 pub record PassesOver (p r : Play) : Type 0 where
   pub stage-is : r .stage ≡ p .stage
   pub at-is : r .at ≡ p .at
-  pub few : r .steps ≤ p .steps
+  pub minutes : ℕ
+  pub steps-is : r .steps + minutes ≡ p .steps
+  pub quiet : Quiet (view (p .scheduler)) minutes
+  pub scheduler-is : r .scheduler ≡ handed (p .scheduler) (replicate minutes tick)
   pub premise : Premise (r .scheduler)
   pub left-is : (s : List ℕ) → left s r ≡ left s p
 
@@ -60,7 +65,16 @@ module _ (s : List ℕ) (at : ℕ) where
       ∙ ap (fromHere s at n) (passed-more m k)
 
 pub passes-none : (p : Play) → Premise (p .scheduler) → PassesOver p p
-passes-none p h = record { stage-is = refl; at-is = refl; few = omega arith; premise = h; left-is = λ s. refl }
+passes-none p h = record {
+  stage-is = refl;
+  at-is = refl;
+  minutes = 0;
+  steps-is = omega arith;
+  quiet = λ j i t a b. absurd (omega arith);
+  scheduler-is = refl;
+  premise = h;
+  left-is = λ s. refl;
+}
 
 module _ (p : Play) (h : Premise (p .scheduler)) {k : ℕ} (a : Ahead (p .scheduler) (p .steps) k) where
   pub in-time : p .scheduler .clock + k ≤ horizon
@@ -82,7 +96,10 @@ module _ (p : Play) (h : Premise (p .scheduler)) {k : ℕ} (a : Ahead (p .schedu
   passes-quiet = record {
     stage-is = refl;
     at-is = refl;
-    few = omega arith;
+    minutes = k;
+    steps-is = omega (arith, a .few);
+    quiet = a .quiet;
+    scheduler-is = passed-handed (p .scheduler) k h in-time (a .quiet);
     premise = passed-premise (p .scheduler) k h in-time (a .quiet);
     left-is = left-same (p .stage);
   }
@@ -90,12 +107,12 @@ module _ (p : Play) (h : Premise (p .scheduler)) {k : ℕ} (a : Ahead (p .schedu
 -- a script being played is ready after it too, and has no more to play
 module _ (s : List ℕ) (p r : Play) (o : PassesOver p r) where
   pub passes-ready : Ready s p → Ready s r
-  passes-ready q = record { premise = o .premise; inside = omega (arith, q .inside, o .at-is); few = omega (arith, q .few, o .few) }
+  passes-ready q = record { premise = o .premise; inside = omega (arith, q .inside, o .at-is); few = omega (arith, q .few, o .steps-is) }
 
   pub passes-no-more : weight s r ≤ weight s p
   passes-no-more = subst (λ (g : Stage). weightBy g s r ≤ weight s p) (sym (o .stage-is)) (by (p .stage))
     where
       by : (g : Stage) → weightBy g s r ≤ weightBy g s p
-      by First = let e = ap (λ (i : ℕ). (length s - i) * suc longest) (o .at-is) in omega (arith, o .few)
-      by Playing = let e = ap (λ (i : ℕ). (length s - i) * suc longest) (o .at-is) in omega (arith, o .few)
+      by First = let e = ap (λ (i : ℕ). (length s - i) * suc longest) (o .at-is) in omega (arith, o .steps-is)
+      by Playing = let e = ap (λ (i : ℕ). (length s - i) * suc longest) (o .at-is) in omega (arith, o .steps-is)
       by Over = omega arith
