@@ -2,16 +2,21 @@
 -- Assumes nothing.
 use mathlib.Core.Path.{_≡_, refl, sym, ap, subst, _∙_}
 use mathlib.Core.Bool.{Bool, true, false}
-use mathlib.Core.List.{List}
-use Prim.Native.Nat.{ℕ, _-_, _≤_, _<_}
+use mathlib.Core.List.{List, _++_, append-assoc}
+use Prim.Native.Nat.{ℕ, _+_, _-_, _≤_, _<_}
 use native.Mathlib.Omega.{arith}
 use lib.Dec.{ltb}
-use lib.ListN.{length, take}
-use lib.Seq.{length-sets, length-take-le}
+use native.Mathlib.Nat.{zero-add}
+use lib.ListN.{length, take, drop, take-append-drop, length-take, length-drop}
+use lib.Seq.{sets, sets-eq, drop-append-le, drop-drop}
+use borrow.Rule.Slice.PartMut.{midOf, postOf, putMid, mid-len}
 use borrow.Author.Tests.{le-ltb}
-use Rattle.lists.specs.Tests.{case, true-false}
+use Rattle.lists.specs.Tests.{true-false}
 use Rattle.writing.specs.Answered.{pageBytes}
+use Rattle.writing.specs.Wrote.{Wrote}
+use Rattle.runner.specs.declared.Played.{Played}
 use Rattle.guarantees.specs.Premise.{opened-premise}
+use Rattle.scheduler.specs.declared.Refusal.the-variants as refusal
 use Rattle.script.specs.declared.Play.{Play}
 use Rattle.script.specs.declared.Stage.{Stage}
 use Rattle.script.specs.declared.Stage.the-variants.{First, Playing, Over}
@@ -24,33 +29,58 @@ goesOn First = true
 goesOn Playing = true
 goesOn Over = false
 
+-- A turn leaves a piece's lines in the page, from a place on.
+pub record Turned (x : Piece) (page : List ℕ) (at : ℕ) (after : List ℕ) (r : Played) : Type 0 where
+  pub play-is : r .play ≡ x .play
+  pub lines : Wrote page at (x .text) after (r .end)
+  pub few : length (x .text) ≤ pageBytes
+
+-- bytes written from the start of a part of a page are written in the page from there
+part-sets : (a k : ℕ) (page t : List ℕ) → a ≤ length page → length t ≤ length (midOf a k page) → putMid a k page (sets (midOf a k page) 0 t) ≡ sets page a t
+part-sets a k page t low h =
+    let mid = midOf a k page in
+    let rest : drop (length t) mid ++ postOf a k page ≡ drop (a + length t) page =
+    sym (drop-append-le (length t) mid (postOf a k page) h) ∙ ap (drop (length t)) (take-append-drop k (drop a page)) ∙ drop-drop (length t) a page in
+    ap (λ (z : List ℕ). take a page ++ (z ++ postOf a k page)) (sets-eq t mid 0 (omega (arith, h)))
+    ∙ ap (λ (z : List ℕ). take a page ++ z) (append-assoc t (drop (0 + length t) mid) (postOf a k page) ∙ ap (λ (z : List ℕ). t ++ z) (ap (λ (n : ℕ). drop n mid ++ postOf a k page) (zero-add (length t)) ∙ rest))
+    ∙ sym (append-assoc (take a page) t (drop (a + length t) page))
+    ∙ sym (sets-eq t page a (omega (arith, low, h, length-take k (drop a page), length-drop a page)))
+
 -- with room for `pageBytes` no step is refused
-module _ (p : Play) (x : Piece) (page after : List ℕ) (r : Step) (s : Stepped p x page r after) (room : pageBytes ≤ length page) where
-  fits : stepOf p x (length page) .play ≡ x .play
+module _ (p : Play) (x : Piece) (page after : List ℕ) (at : ℕ) (s : Step) (w : Stepped p x (midOf at (length page - at) page) s after) (room : at + pageBytes ≤ length page) where
+  abbrev part : List ℕ
+  part = midOf at (length page - at) page
+
+  size : length part ≡ length page - at
+  size = mid-len at (length page) page (omega arith)
+
+  enough : ltb (length part) (length (x .text)) ≡ false
+  enough = le-ltb (length part) (length (x .text)) (omega (arith, w .suffices, size, room))
+
+  fits : stepOf p x (length part) ≡ record { refusal = refusal.None; written = length (x .text); play = x .play }
   unfolding stepOf
-  fits = rw (le-ltb (length page) (length (x .text)) (omega (arith, s .suffices)))
+  fits = rw enough
 
-  size : stepOf p x (length page) .written ≡ length (x .text)
-  unfolding stepOf
-  size = rw (le-ltb (length page) (length (x .text)) (omega (arith, s .suffices)))
-
-  pub turn-next : r .play ≡ x .play
-  turn-next = ap (λ (t : Step). t .play) (s .step) ∙ fits
-
-  page-size : length (pageOf x page) ≡ length page
+  put : pageOf x part ≡ sets part 0 (x .text)
   unfolding pageOf
-  page-size = case (ltb (length page) (length (x .text))) (λ e. rw e) (λ e. rw e (length-sets page 0 (x .text)))
+  put = rw enough
 
-  pub turn-page : length after ≡ length page
-  turn-page = ap length (s .page) ∙ page-size
+  written : s .written ≡ length (x .text)
+  written = ap (λ (t : Step). t .written) (w .step ∙ fits)
 
-  pub turn-writes : r .written ≤ length after
-  turn-writes =
-      let e : r .written ≡ length (x .text) = ap (λ (t : Step). t .written) (s .step) ∙ size in
-      omega (arith, e, turn-page, s .suffices)
+  pub turn-inside : at + s .written ≤ length page
+  turn-inside = omega (arith, written, w .suffices, room)
 
-  pub turn-part : r .written ≡ length (take (r .written) after)
-  turn-part = sym (length-take-le (r .written) after turn-writes)
+  pub turned : Turned x page at (putMid at (length page - at) page after) (record { end = at + s .written; play = s .play })
+  turned =
+      record {
+        play-is = ap (λ (t : Step). t .play) (w .step ∙ fits);
+        lines = record {
+          place = ap (λ (n : ℕ). at + n) written;
+          left = ap (putMid at (length page - at) page) (w .page ∙ put) ∙ part-sets at (length page - at) page (x .text) (omega (arith, room)) (omega (arith, w .suffices, size, room));
+        };
+        few = w .suffices;
+      }
 
 pub begin-ready : (s : List ℕ) → Ready s beginning
 begin-ready s = record { premise = opened-premise _; inside = omega arith; few = omega arith }

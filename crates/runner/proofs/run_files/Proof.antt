@@ -5,10 +5,6 @@ use native.Mathlib.Omega.{arith}
 use borrow.Author.Needs.{needs}
 use Rattle.runner.proofs.run_files.Statement.{statement}
 use Rattle.runner.proofs.run_files.Tie as tie
-use Rattle.runner.proofs.run_files.Reads as reads
-use Rattle.runner.proofs.run_files.Lts as lts
-use Rattle.os.proofs.arg_count.Reads as arg-count-reads
-use Rattle.runner.proofs.run_file.Reads as run-file-reads
 
 abbrev Inv-loop : tie.InvT-loop
 Inv-loop count i₀ i = Unit {0}
