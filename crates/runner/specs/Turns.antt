@@ -15,14 +15,13 @@ use Rattle.lists.specs.Tests.{true-false}
 use Rattle.writing.specs.Answered.{pageBytes}
 use Rattle.writing.specs.Wrote.{Wrote}
 use Rattle.runner.specs.declared.Played.{Played}
-use Rattle.guarantees.specs.Premise.{opened-premise}
 use Rattle.scheduler.specs.declared.Refusal.the-variants as refusal
-use Rattle.script.specs.declared.Play.{Play}
-use Rattle.script.specs.declared.Stage.{Stage}
-use Rattle.script.specs.declared.Stage.the-variants.{First, Playing, Over}
-use Rattle.script.specs.declared.Step.{Step}
-use Rattle.script.specs.Pieces.{Piece, Stepped, stepOf, pageOf, beginning, pieceOf}
-use Rattle.script.specs.Ends.{Ready, weight, weightBy, next-ready, next-less}
+use Rattle.pieces.specs.declared.Play.{Play}
+use Rattle.pieces.specs.declared.Stage.{Stage}
+use Rattle.pieces.specs.declared.Stage.the-variants.{First, Playing, Over}
+use Rattle.pieces.specs.declared.Step.{Step}
+use Rattle.pieces.specs.Pieces.{Piece, Stepped, stepOf, pageOf, pieceOf}
+use Rattle.pieces.specs.Ends.{Ready, weight, weightBy, next-ready, next-less}
 
 abbrev pub goesOn : Stage → Bool
 goesOn First = true
@@ -81,9 +80,6 @@ module _ (p : Play) (x : Piece) (page after : List ℕ) (at : ℕ) (s : Step) (w
         };
         few = w .suffices;
       }
-
-pub begin-ready : (s : List ℕ) → Ready s beginning
-begin-ready s = record { premise = opened-premise _; inside = omega arith; few = omega arith }
 
 -- a script that goes on has something to play
 goes-by : (g : Stage) (s : List ℕ) (p : Play) → goesOn g ≡ true → 0 < weightBy g s p

@@ -3,12 +3,12 @@ ghost use mathlib.Core.Path.{_≡_};
 ghost use Prim.Native.Nat.{_+_, _≤_};
 ghost use lib.ListN.{length};
 ghost use Rattle.writing.specs.Answered.{pageBytes};
-ghost use Rattle.script.specs.Pieces.{pieceOf};
-ghost use Rattle.script.specs.Ends.{Ready};
+ghost use Rattle.pieces.specs.Pieces.{pieceOf};
+ghost use Rattle.pieces.specs.Ends.{Ready};
 ghost use Rattle.runner.specs.Turns.{goesOn, Turned};
 use libc::STDOUT_FILENO;
-use script::Play;
-use script::Stage;
+use pieces::Play;
+use pieces::Stage;
 
 fn goes_on(p: Play) -> bool
     ensures { λ r. ⌜ r ≡ goesOn (p .stage) ⌝ }

@@ -1,17 +1,16 @@
 -- Quiet minutes of a wait print nothing: with them passed over, a script has the same left to print.
 -- Assumes nothing.
-use Prim.Native.Nat.{ℕ, zero, suc, _+_, _-_, _*_, _≤_, _<_}
+use Prim.Native.Nat.{ℕ, zero, suc, _+_, _-_, _*_, _≤_}
 use native.Mathlib.Omega.{arith}
 use mathlib.Core.Path.{_≡_, refl, sym, ap, subst, _∙_}
-use mathlib.Core.List.{List, [], _∷_, _++_}
+use mathlib.Core.List.{List, [], _++_}
 use lib.ListN.{length, drop, replicate}
 use Rattle.scheduler.specs.declared.Kind.{Kind}
 use Rattle.scheduler.specs.declared.Refusal.the-variants as refusal
-use Rattle.scheduler.specs.declared.Scheduler.{Scheduler}
 use Rattle.scheduler.specs.Limits.{horizon, longest}
 use Rattle.scheduler.specs.Model.{Model, view}
 use Rattle.scheduler.specs.Answers.{Result, refusing}
-use Rattle.history.specs.Calls.{Call, tick, after}
+use Rattle.history.specs.Calls.{tick, after}
 use Rattle.guarantees.specs.Rules.{call}
 use Rattle.guarantees.specs.Premise.{Premise, Valid, premise-sound}
 use Rattle.guarantees.specs.Chain.{handed}
@@ -20,12 +19,12 @@ use Rattle.quiet.specs.Ticks.{passed, quiet-tick, tick-valid, quiet-next, quiet
 use Rattle.quiet.specs.Ahead.{Ahead}
 use Rattle.script_rules.specs.Lines.{linesOf}
 use Rattle.script_rules.specs.Writing.{textOf, taken, rowsOf}
-use Rattle.script_rules.specs.Printout.{printed, printedAll, played}
-use Rattle.script.specs.declared.Play.{Play}
-use Rattle.script.specs.declared.Stage.the-variants.{First, Playing, Over}
-use Rattle.script.specs.declared.Stage.{Stage}
-use Rattle.script.specs.Whole.{fromHere, leftBy, left}
-use Rattle.script.specs.Ends.{Ready, weight, weightBy}
+use Rattle.script_rules.specs.Printout.{printedAll, played}
+use Rattle.pieces.specs.declared.Play.{Play}
+use Rattle.pieces.specs.declared.Stage.the-variants.{First, Playing, Over}
+use Rattle.pieces.specs.declared.Stage.{Stage}
+use Rattle.pieces.specs.Whole.{fromHere, leftBy, left}
+use Rattle.pieces.specs.Ends.{Ready, weight, weightBy}
 
 -- r stands some quiet minutes after p, with the scheduler that as many ticks hand back: how many they are may differ from one correct
 -- program to another, and what is left to print may not

@@ -1,9 +1,9 @@
 -- The piece of each turn that the code takes is the one that the definitions give.
 -- Assumes nothing.
-use mathlib.Core.Path.{_≡_, refl, sym, ap, subst, _∙_}
-use mathlib.Core.Bool.{true, false, cond}
+use mathlib.Core.Path.{_≡_, sym, ap, subst, _∙_}
+use mathlib.Core.Bool.{true, false}
 use mathlib.Core.List.{List, []}
-use mathlib.Core.Option.{Option, none, some}
+use mathlib.Core.Option.{Option, some}
 use Prim.Native.Nat.{ℕ, _+_, _-_, _≤_, _<_}
 use lib.ListN.{length, take, drop}
 use borrow.Author.Tests.{lt-ltb, le-ltb, lt-leb, le-leb, ne-eqb}
@@ -15,11 +15,11 @@ use Rattle.scheduler.specs.declared.Outcome.{Outcome}
 use Rattle.scheduler.specs.declared.Refusal.{Refusal}
 use Rattle.scheduler.specs.declared.Scheduler.{Scheduler}
 use Rattle.scheduler.specs.Table.{tickets}
-use Rattle.scheduler.specs.Model.{Model, view, store}
+use Rattle.scheduler.specs.Model.{view, store}
 use Rattle.scheduler.specs.Opening.{openingRefusal, opened}
 use Rattle.scheduler.specs.Answers.{accepts, code, outcome}
 use Rattle.scheduler.specs.Refusals.{waitRefusal}
-use Rattle.history.specs.Calls.{Call, Request, ask, wait, tick}
+use Rattle.history.specs.Calls.{Call, Request, wait, tick}
 use Rattle.guarantees.specs.Rules.{call}
 use Rattle.guarantees.specs.Premise.{Premise, premise-sound}
 use Rattle.guarantees.specs.Named.{call-fits}
@@ -31,10 +31,10 @@ use Rattle.reading.specs.declared.FirstLine.{FirstLine}
 use Rattle.reading.specs.declared.FirstLine.the-variants as first
 use Rattle.reading.specs.declared.Asked.{Asked}
 use Rattle.reading.specs.Meaning.{opens, asks}
-use Rattle.script.specs.declared.Play.{Play}
-use Rattle.script.specs.declared.Stage.{Stage}
-use Rattle.script.specs.declared.Step.{Step}
-use Rattle.script.specs.Pieces.{Piece, piece, over, going, openingPiece, firstPiece, callPiece, requestPiece, laterBy, laterPiece, pieceBy, pieceOf, Stepped}
+use Rattle.pieces.specs.declared.Play.{Play}
+use Rattle.pieces.specs.declared.Stage.{Stage}
+use Rattle.pieces.specs.declared.Step.{Step}
+use Rattle.pieces.specs.Pieces.{Piece, piece, over, going, openingPiece, firstPiece, callPiece, requestPiece, laterBy, laterPiece, pieceBy, pieceOf, Stepped}
 
 -- a step of a piece is one of any that equals it
 pub stepped-as : {p : Play} {x y : Piece} {before : List ℕ} {r : Step} {after : List ℕ} → x ≡ y → Stepped p x before r after → Stepped p y before r after

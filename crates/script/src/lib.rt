@@ -1,127 +1,24 @@
 // A script played one call at a time, by value in its state: what each call prints goes into a lent page.
 ghost use mathlib.Core.Path.{_≡_};
-ghost use mathlib.Core.List.{[]};
 ghost use mathlib.Core.Option.{some};
-ghost use Prim.Native.Nat.{_≤_};
-ghost use Rattle.scheduler.specs.Answers.{code};
 ghost use Rattle.history.specs.Calls.{wait};
 ghost use Rattle.guarantees.specs.Premise.{Premise};
-ghost use Rattle.script_rules.specs.Writing.{noRow};
-ghost use Rattle.writing.specs.Answered.{answerText};
 ghost use Rattle.reading.specs.Meaning.{opens, asks};
-ghost use Rattle.script.specs.Pieces.{over, going, piece, openingPiece, firstPiece, requestPiece, laterPiece, pieceOf, Stepped, beginning};
-ghost use Rattle.script.specs.Ends.{Ready};
+ghost use Rattle.pieces.specs.Pieces.{openingPiece, firstPiece, requestPiece, laterPiece, pieceOf, Stepped, beginning};
+ghost use Rattle.pieces.specs.Ends.{Ready};
 ghost use Rattle.script.specs.PassOver.{PassesOver};
+use pieces::Play;
+use pieces::Stage;
+use pieces::Step;
 use reading::Asked;
 use reading::FirstLine;
-use scheduler::Answer;
 use scheduler::Kind;
 use scheduler::Opening;
 use scheduler::Refusal;
 use scheduler::Scheduler;
 
-pub enum Stage {
-    First,
-    Playing,
-    Over,
-}
-
-// Where a script stands: the place of the next line, the steps of a wait still to go, and the scheduler.
-pub struct Play {
-    pub stage: Stage,
-    pub at: usize,
-    pub steps: u32,
-    pub scheduler: Scheduler,
-}
-
-// What one call gives: how many bytes it wrote into the page, and where the script stands then.
-pub struct Step {
-    pub refusal: Refusal,
-    pub written: usize,
-    pub play: Play,
-}
-
 // A longer script is not read.
 const LONGEST: usize = 65536;
-
-fn over(p: Play) -> Play
-    ensures { λ r. ⌜ r ≡ over p ⌝ }
-{
-    let d = p.scheduler;
-    Play {
-        stage: Stage::Over,
-        at: p.at,
-        steps: p.steps,
-        scheduler: d,
-    }
-}
-
-fn going(at: usize, steps: u32, d: Scheduler) -> Play
-    ensures { λ r. ⌜ r ≡ going at steps d ⌝ }
-{
-    Play {
-        stage: Stage::Playing,
-        at: at,
-        steps: steps,
-        scheduler: d,
-    }
-}
-
-// Nothing is printed.
-fn silent(p: Play, after: Play, page: &mut [u8]) -> Step
-    ensures { λ r. ⌜ Stepped p (piece [] after) (now (page .entry)) r (now (page .exit)) ⌝ }
-{
-    Step {
-        refusal: Refusal::None,
-        written: 0,
-        play: after,
-    }
-}
-
-// The line of a refusal is printed.
-fn refused(p: Play, after: Play, reason: Refusal, page: &mut [u8]) -> Step
-    ensures { λ r. ⌜ Stepped p (piece (noRow (code reason)) after) (now (page .entry)) r (now (page .exit)) ⌝ }
-{
-    let n = writing::refusal_len(reason);
-    if page.len() < n {
-        return Step {
-            refusal: Refusal::TooShort,
-            written: 0,
-            play: p,
-        };
-    }
-    writing::put_refusal(page, reason);
-    Step {
-        refusal: Refusal::None,
-        written: n,
-        play: after,
-    }
-}
-
-// The lines of an answer are printed.
-fn answered(p: Play, after: Play, answer: Answer, page: &mut [u8]) -> Step
-    requires { ⌜ (answer .ended .count ≤ 64) × (answer .started .count ≤ 64) ⌝ }
-    ensures { λ r. ⌜ Stepped p (piece (answerText (p .scheduler .kind) (after .scheduler .clock) answer) after) (now (page .entry)) r (now (page .exit)) ⌝ }
-{
-    let d = p.scheduler;
-    let kind = d.kind;
-    let later = after.scheduler;
-    let clock = later.clock;
-    let n = writing::answer_len(kind, clock, answer);
-    if page.len() < n {
-        return Step {
-            refusal: Refusal::TooShort,
-            written: 0,
-            play: p,
-        };
-    }
-    writing::put_answer(page, kind, clock, answer);
-    Step {
-        refusal: Refusal::None,
-        written: n,
-        play: after,
-    }
-}
 
 // What a first line asks.
 fn open(p: Play, next: usize, first: FirstLine, page: &mut [u8]) -> Step
@@ -133,11 +30,11 @@ fn open(p: Play, next: usize, first: FirstLine, page: &mut [u8]) -> Step
             let reason = opened.refusal;
             if reason.is_none() {
                 let d = opened.scheduler;
-                return silent(p, going(next, 0, d), page);
+                return pieces::silent(p, pieces::going(next, 0, d), page);
             }
-            refused(p, over(p), reason, page)
+            pieces::refused(p, pieces::over(p), reason, page)
         }
-        FirstLine::Malformed => refused(p, over(p), Refusal::Malformed, page),
+        FirstLine::Malformed => pieces::refused(p, pieces::over(p), Refusal::Malformed, page),
     }
 }
 
@@ -146,11 +43,11 @@ fn first(p: Play, script: &[u8], page: &mut [u8]) -> Step
     ensures { λ r. ⌜ Stepped p (firstPiece (now (script .entry)) p) (now (page .entry)) r (now (page .exit)) ⌝ }
 {
     if LONGEST < script.len() {
-        return refused(p, over(p), Refusal::Malformed, page);
+        return pieces::refused(p, pieces::over(p), Refusal::Malformed, page);
     }
     let at = p.at;
     if script.len() <= at {
-        return silent(p, over(p), page);
+        return pieces::silent(p, pieces::over(p), page);
     }
     let line = text::next_line(script, at);
     let end = line.end;
@@ -158,7 +55,7 @@ fn first(p: Play, script: &[u8], page: &mut [u8]) -> Step
         let asked = reading::read_first(&script[at..end]);
         return open(p, end + 1, asked, page);
     }
-    refused(p, over(p), Refusal::Malformed, page)
+    pieces::refused(p, pieces::over(p), Refusal::Malformed, page)
 }
 
 // A wait that is not refused prints nothing: its steps come next.
@@ -169,9 +66,9 @@ fn wait(p: Play, next: usize, minutes: u32, page: &mut [u8]) -> Step
     let d = p.scheduler;
     let reason = calls::wait_refusal(d, minutes);
     if reason.is_none() {
-        return silent(p, going(next, minutes, d), page);
+        return pieces::silent(p, pieces::going(next, minutes, d), page);
     }
-    refused(p, going(next, 0, d), reason, page)
+    pieces::refused(p, pieces::going(next, 0, d), reason, page)
 }
 
 // What a later line asks.
@@ -185,16 +82,16 @@ fn ask(p: Play, next: usize, asked: Asked, page: &mut [u8]) -> Step
             let done = calls::submit(d, s);
             let after = done.scheduler;
             let answer = done.answer;
-            answered(p, going(next, 0, after), answer, page)
+            pieces::answered(p, pieces::going(next, 0, after), answer, page)
         }
         Asked::Complete(t) => {
             let done = calls::complete(d, t);
             let after = done.scheduler;
             let answer = done.answer;
-            answered(p, going(next, 0, after), answer, page)
+            pieces::answered(p, pieces::going(next, 0, after), answer, page)
         }
         Asked::Wait(n) => wait(p, next, n, page),
-        Asked::Malformed => refused(p, going(next, 0, d), Refusal::Malformed, page),
+        Asked::Malformed => pieces::refused(p, pieces::going(next, 0, d), Refusal::Malformed, page),
     }
 }
 
@@ -205,7 +102,7 @@ fn next_line(p: Play, script: &[u8], page: &mut [u8]) -> Step
 {
     let at = p.at;
     if script.len() <= at {
-        return silent(p, over(p), page);
+        return pieces::silent(p, pieces::over(p), page);
     }
     let line = text::next_line(script, at);
     let end = line.end;
@@ -214,7 +111,7 @@ fn next_line(p: Play, script: &[u8], page: &mut [u8]) -> Step
         return ask(p, end + 1, asked, page);
     }
     let d = p.scheduler;
-    refused(p, going(end, 0, d), Refusal::Malformed, page)
+    pieces::refused(p, pieces::going(end, 0, d), Refusal::Malformed, page)
 }
 
 // A step of a wait, or the next line.
@@ -230,7 +127,7 @@ fn later(p: Play, script: &[u8], page: &mut [u8]) -> Step
     let done = calls::tick(d);
     let after = done.scheduler;
     let answer = done.answer;
-    answered(p, going(p.at, steps - 1, after), answer, page)
+    pieces::answered(p, pieces::going(p.at, steps - 1, after), answer, page)
 }
 
 // One call of a script: a line, or one step of a wait.
@@ -242,7 +139,7 @@ pub fn advance(p: Play, script: &[u8], page: &mut [u8]) -> Step
     match stage {
         Stage::First => first(p, script, page),
         Stage::Playing => later(p, script, page),
-        Stage::Over => silent(p, p, page),
+        Stage::Over => pieces::silent(p, p, page),
     }
 }
 

@@ -7,9 +7,9 @@ use lib.ListN.{length}
 use lib.Seq.{length-take-le}
 use borrow.Author.Needs.{needs}
 use Rattle.writing.specs.Wrote.{same-size}
-use Rattle.script.specs.Ends.{Ready, weight}
+use Rattle.pieces.specs.Ends.{Ready, weight, begin-ready}
 use Rattle.script.specs.PassOver.{passes-ready, passes-no-more}
-use Rattle.runner.specs.Turns.{goesOn, begin-ready, turn-ready, turn-less}
+use Rattle.runner.specs.Turns.{goesOn, turn-ready, turn-less}
 use Rattle.runner.proofs.play.Statement.{statement}
 use Rattle.runner.proofs.play.Tie as tie
 

@@ -4,11 +4,6 @@ use Rattle.script.specs.Turns.{stepped-as, stage-as}
 use borrow.Author.Needs.{needs}
 use Rattle.script.proofs.advance.Statement.{statement}
 use Rattle.script.proofs.advance.Tie as tie
-use Rattle.script.proofs.advance.Reads as reads
-use Rattle.script.proofs.advance.Lts as lts
-use Rattle.script.proofs.first.Reads as first-reads
-use Rattle.script.proofs.later.Reads as later-reads
-use Rattle.script.proofs.silent.Reads as silent-reads
 
 -- src/lib.rt:242:42
 enum-told : tie.Need-enum-told

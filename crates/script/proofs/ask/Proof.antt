@@ -1,19 +1,11 @@
 -- `script::ask` meets its contract.
 -- Assumes nothing.
-use mathlib.Core.Path.{sym, ap, _∙_}
-use Rattle.script.specs.Pieces.{piece}
+use mathlib.Core.Path.{ap, _∙_}
+use Rattle.pieces.specs.Pieces.{piece}
 use Rattle.script.specs.Turns.{stepped-as, called, call-few, asked-as}
 use borrow.Author.Needs.{needs}
 use Rattle.script.proofs.ask.Statement.{statement}
 use Rattle.script.proofs.ask.Tie as tie
-use Rattle.script.proofs.ask.Reads as reads
-use Rattle.script.proofs.ask.Lts as lts
-use Rattle.calls.proofs.complete.Reads as complete-reads
-use Rattle.calls.proofs.submit.Reads as submit-reads
-use Rattle.script.proofs.answered.Reads as answered-reads
-use Rattle.script.proofs.going.Reads as going-reads
-use Rattle.script.proofs.refused.Reads as refused-reads
-use Rattle.script.proofs.wait.Reads as wait-reads
 
 -- src/lib.rt:179:23
 enum-known-asked : tie.Need-enum-known-asked

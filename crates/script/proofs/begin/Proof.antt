@@ -2,13 +2,10 @@
 -- Assumes nothing.
 use mathlib.Core.Path.{ap}
 use Rattle.scheduler.specs.declared.Opened.{Opened}
-use Rattle.script.specs.declared.Stage.the-variants.{First}
+use Rattle.pieces.specs.declared.Stage.the-variants.{First}
 use borrow.Author.Needs.{needs}
 use Rattle.script.proofs.begin.Statement.{statement}
 use Rattle.script.proofs.begin.Tie as tie
-use Rattle.script.proofs.begin.Reads as reads
-use Rattle.script.proofs.begin.Lts as lts
-use Rattle.scheduler.proofs.Scheduler.open.Reads as open-reads
 
 -- src/lib.rt:248:9
 open-requires : tie.Need-open-requires

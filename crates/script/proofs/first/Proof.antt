@@ -1,21 +1,13 @@
 -- `script::first` meets its contract.
 -- Assumes nothing.
-use mathlib.Core.Path.{sym, ap, _∙_}
-use Rattle.script.specs.Pieces.{piece}
+use mathlib.Core.Path.{ap, _∙_}
+use Rattle.pieces.specs.Pieces.{piece}
 use Rattle.script.specs.Turns.{stepped-as, first-long, first-none, first-closed, first-unclosed}
 use native.Mathlib.Omega.{arith}
 use Rattle.text.specs.LineLaws.{line-ends}
 use borrow.Author.Needs.{needs}
 use Rattle.script.proofs.first.Statement.{statement}
 use Rattle.script.proofs.first.Tie as tie
-use Rattle.script.proofs.first.Reads as reads
-use Rattle.script.proofs.first.Lts as lts
-use Rattle.reading.proofs.read_first.Reads as read-first-reads
-use Rattle.script.proofs.open.Reads as open-reads
-use Rattle.script.proofs.over.Reads as over-reads
-use Rattle.script.proofs.refused.Reads as refused-reads
-use Rattle.script.proofs.silent.Reads as silent-reads
-use Rattle.text.proofs.next_line.Reads as next-line-reads
 
 -- src/lib.rt:148:27
 over-requires : tie.Need-over-requires

@@ -5,12 +5,6 @@ use Rattle.script.specs.Turns.{stepped-as, called, call-few, later-step}
 use borrow.Author.Needs.{needs}
 use Rattle.script.proofs.later.Statement.{statement}
 use Rattle.script.proofs.later.Tie as tie
-use Rattle.script.proofs.later.Reads as reads
-use Rattle.script.proofs.later.Lts as lts
-use Rattle.calls.proofs.tick.Reads as tick-reads
-use Rattle.script.proofs.answered.Reads as answered-reads
-use Rattle.script.proofs.going.Reads as going-reads
-use Rattle.script.proofs.next_line.Reads as next-line-reads
 
 -- src/lib.rt:226:9
 next-line-requires : tie.Need-next-line-requires

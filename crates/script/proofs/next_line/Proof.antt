@@ -1,22 +1,13 @@
 -- `script::next_line` meets its contract.
 -- Assumes nothing.
-use mathlib.Core.Path.{sym, ap, _∙_}
-use Rattle.script.specs.Pieces.{piece}
+use mathlib.Core.Path.{ap, _∙_}
+use Rattle.pieces.specs.Pieces.{piece}
 use Rattle.script.specs.Turns.{stepped-as, later-none, later-closed, later-unclosed}
 use native.Mathlib.Omega.{arith}
 use Rattle.text.specs.LineLaws.{line-ends}
 use borrow.Author.Needs.{needs}
 use Rattle.script.proofs.next_line.Statement.{statement}
 use Rattle.script.proofs.next_line.Tie as tie
-use Rattle.script.proofs.next_line.Reads as reads
-use Rattle.script.proofs.next_line.Lts as lts
-use Rattle.reading.proofs.read_later.Reads as read-later-reads
-use Rattle.script.proofs.ask.Reads as ask-reads
-use Rattle.script.proofs.going.Reads as going-reads
-use Rattle.script.proofs.over.Reads as over-reads
-use Rattle.script.proofs.refused.Reads as refused-reads
-use Rattle.script.proofs.silent.Reads as silent-reads
-use Rattle.text.proofs.next_line.Reads as next-line-reads
 
 -- src/lib.rt:207:26
 over-requires : tie.Need-over-requires

@@ -1,19 +1,10 @@
 -- `script::open` meets its contract.
 -- Assumes nothing.
-use mathlib.Core.Path.{sym, ap, _∙_}
-use Rattle.script.specs.Pieces.{piece}
+use mathlib.Core.Path.{sym, _∙_}
 use Rattle.script.specs.Turns.{stepped-as, opening-takes, opening-refuses, opening-lacks}
 use borrow.Author.Needs.{needs}
 use Rattle.script.proofs.open.Statement.{statement}
 use Rattle.script.proofs.open.Tie as tie
-use Rattle.script.proofs.open.Reads as reads
-use Rattle.script.proofs.open.Lts as lts
-use Rattle.scheduler.proofs.Refusal.is_none.Reads as is-none-reads
-use Rattle.scheduler.proofs.Scheduler.open.Reads as open-reads
-use Rattle.script.proofs.going.Reads as going-reads
-use Rattle.script.proofs.over.Reads as over-reads
-use Rattle.script.proofs.refused.Reads as refused-reads
-use Rattle.script.proofs.silent.Reads as silent-reads
 
 -- src/lib.rt:130:26
 enum-known-first : tie.Need-enum-known-first

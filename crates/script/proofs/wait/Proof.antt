@@ -1,18 +1,11 @@
 -- `script::wait` meets its contract.
 -- Assumes nothing.
 use mathlib.Core.Path.{sym, ap, _∙_}
-use Rattle.script.specs.Pieces.{piece}
+use Rattle.pieces.specs.Pieces.{piece}
 use Rattle.script.specs.Turns.{stepped-as, wait-takes, wait-refuses}
 use borrow.Author.Needs.{needs}
 use Rattle.script.proofs.wait.Statement.{statement}
 use Rattle.script.proofs.wait.Tie as tie
-use Rattle.script.proofs.wait.Reads as reads
-use Rattle.script.proofs.wait.Lts as lts
-use Rattle.calls.proofs.wait_refusal.Reads as wait-refusal-reads
-use Rattle.scheduler.proofs.Refusal.is_none.Reads as is-none-reads
-use Rattle.script.proofs.going.Reads as going-reads
-use Rattle.script.proofs.refused.Reads as refused-reads
-use Rattle.script.proofs.silent.Reads as silent-reads
 
 -- src/lib.rt:165:9
 wait-refusal-requires : tie.Need-wait-refusal-requires

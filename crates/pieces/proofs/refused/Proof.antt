@@ -1,13 +1,9 @@
--- `script::refused` meets its contract.
+-- `pieces::refused` meets its contract.
 -- Assumes nothing.
-use Rattle.script.specs.Steps.{step-short, step-fits}
+use Rattle.pieces.specs.Steps.{step-short, step-fits}
 use borrow.Author.Needs.{needs}
-use Rattle.script.proofs.refused.Statement.{statement}
-use Rattle.script.proofs.refused.Tie as tie
-use Rattle.script.proofs.refused.Reads as reads
-use Rattle.script.proofs.refused.Lts as lts
-use Rattle.writing.proofs.put_refusal.Reads as put-refusal-reads
-use Rattle.writing.proofs.refusal_len.Reads as refusal-len-reads
+use Rattle.pieces.proofs.refused.Statement.{statement}
+use Rattle.pieces.proofs.refused.Tie as tie
 
 -- src/lib.rt:80:9
 refusal-len-requires : tie.Need-refusal-len-requires

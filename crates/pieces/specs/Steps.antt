@@ -1,6 +1,6 @@
 -- What a step gives: it prints nothing, its text fits the page, or the page is too short.
 -- Assumes nothing.
-use mathlib.Core.Path.{_≡_, refl, sym, ap}
+use mathlib.Core.Path.{_≡_, refl}
 use mathlib.Core.List.{List, []}
 use Prim.Native.Nat.{ℕ, _≤_, _<_}
 use native.Mathlib.Omega.{arith}
@@ -9,9 +9,8 @@ use lib.Seq.{sets}
 use borrow.Author.Tests.{lt-ltb, le-ltb}
 use Rattle.scheduler.specs.declared.Refusal.the-variants as refusal
 use Rattle.writing.specs.Answered.{pageBytes}
-use Rattle.script.specs.declared.Play.{Play}
-use Rattle.script.specs.declared.Step.{Step}
-use Rattle.script.specs.Pieces.{Piece, piece, stepOf, pageOf, Stepped}
+use Rattle.pieces.specs.declared.Play.{Play}
+use Rattle.pieces.specs.Pieces.{piece, stepOf, pageOf, Stepped}
 
 -- a text t of n bytes
 module _ (p : Play) (t : List ℕ) (after : Play) (page : List ℕ) (n : ℕ) (size : n ≡ length t) (few : n ≤ pageBytes) where

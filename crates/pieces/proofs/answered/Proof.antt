@@ -1,13 +1,9 @@
--- `script::answered` meets its contract.
+-- `pieces::answered` meets its contract.
 -- Assumes nothing.
-use Rattle.script.specs.Steps.{step-short, step-fits}
+use Rattle.pieces.specs.Steps.{step-short, step-fits}
 use borrow.Author.Needs.{needs}
-use Rattle.script.proofs.answered.Statement.{statement}
-use Rattle.script.proofs.answered.Tie as tie
-use Rattle.script.proofs.answered.Reads as reads
-use Rattle.script.proofs.answered.Lts as lts
-use Rattle.writing.proofs.answer_len.Reads as answer-len-reads
-use Rattle.writing.proofs.put_answer.Reads as put-answer-reads
+use Rattle.pieces.proofs.answered.Statement.{statement}
+use Rattle.pieces.proofs.answered.Tie as tie
 
 -- src/lib.rt:105:9
 answer-len-requires : tie.Need-answer-len-requires

@@ -1,7 +1,7 @@
 -- What one call of a script prints, and where the script stands after it: a line, or one single step of a wait.
 -- Assumes nothing.
-use mathlib.Core.Bool.{Bool, cond}
-use mathlib.Core.List.{List, [], _∷_, _++_}
+use mathlib.Core.Bool.{cond}
+use mathlib.Core.List.{List, []}
 use mathlib.Core.Option.{Option, none, some}
 use mathlib.Core.Path.{_≡_}
 use Prim.Native.Nat.{ℕ, _+_, _-_, _≤_}
@@ -13,7 +13,7 @@ use Rattle.scheduler.specs.declared.Kind.the-variants.{Conservative}
 use Rattle.scheduler.specs.declared.Opening.{Opening}
 use Rattle.scheduler.specs.declared.Refusal.the-variants as refusal
 use Rattle.scheduler.specs.declared.Scheduler.{Scheduler}
-use Rattle.scheduler.specs.Model.{Model, view}
+use Rattle.scheduler.specs.Model.{view}
 use Rattle.scheduler.specs.Opening.{openingRefusal, opened}
 use Rattle.scheduler.specs.Answers.{accepts, code, outcome}
 use Rattle.scheduler.specs.Refusals.{waitRefusal}
@@ -24,10 +24,10 @@ use Rattle.script_rules.specs.Reading.{openingOf, requestOf}
 use Rattle.script_rules.specs.Writing.{noRow}
 use Rattle.script_rules.specs.Printout.{malformed, printed, longestScript}
 use Rattle.writing.specs.Answered.{pageBytes}
-use Rattle.script.specs.declared.Play.{Play}
-use Rattle.script.specs.declared.Stage.the-variants.{First, Playing, Over}
-use Rattle.script.specs.declared.Stage.{Stage}
-use Rattle.script.specs.declared.Step.{Step}
+use Rattle.pieces.specs.declared.Play.{Play}
+use Rattle.pieces.specs.declared.Stage.the-variants.{First, Playing, Over}
+use Rattle.pieces.specs.declared.Stage.{Stage}
+use Rattle.pieces.specs.declared.Step.{Step}
 
 pub record Piece : Type 0 where
   pub text : List ℕ

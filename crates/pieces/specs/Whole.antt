@@ -1,17 +1,17 @@
 -- Played to the end, the pieces are the printout of the whole script.
 -- Assumes nothing.
-use mathlib.Core.Path.{_≡_, refl, sym, ap, subst, _∙_}
-use mathlib.Core.Bool.{Bool, true, false, cond}
+use mathlib.Core.Path.{_≡_, refl, sym, ap, _∙_}
+use mathlib.Core.Bool.{true, false, cond}
 use mathlib.Core.List.{List, [], _∷_, _++_, append-nil, append-assoc}
 use mathlib.Core.Option.{Option, none, some}
-use Prim.Native.Nat.{ℕ, zero, suc, _+_, _-_, _*_, _≤_, _<_}
+use Prim.Native.Nat.{ℕ, zero, suc, _+_, _-_, _≤_, _<_}
 use native.Mathlib.Omega.{arith}
-use lib.Dec.{eqb, leb, ltb}
+use lib.Dec.{leb, ltb}
 use lib.ListN.{length, take, drop, drop-of-length-le, length-drop, replicate}
 use lib.Seq.{drop-drop}
 use borrow.Author.Tests.{ne-eqb, leb-true, leb-false, ltb-true, ltb-false}
 use Rattle.lists.specs.Tests.{case}
-use Rattle.text.specs.Upto.{upto, upto-take, upto-le}
+use Rattle.text.specs.Upto.{upto, upto-take}
 use Rattle.text.specs.Lines.{lineAt}
 use Rattle.scheduler.specs.declared.Kind.{Kind}
 use Rattle.scheduler.specs.declared.Kind.the-variants.{Conservative, Easy}
@@ -26,16 +26,16 @@ use Rattle.history.specs.Calls.{Call, Request, ask, wait, tick, refusedWait, af
 use Rattle.conservative_rules.specs.Conservative as conservative
 use Rattle.easy_rules.specs.Easy as easy
 use Rattle.guarantees.specs.Rules.{rulesOf, call}
-use Rattle.guarantees.specs.Premise.{Premise, Valid, valid-view, call-valid, call-premise, opening-valid, opened-premise}
-use Rattle.script_rules.specs.Lines.{Line, linesOf}
+use Rattle.guarantees.specs.Premise.{Premise, Valid, valid-view, call-valid, opening-valid}
+use Rattle.script_rules.specs.Lines.{linesOf}
 use Rattle.script_rules.specs.LineLaws.{lines-closed, lines-unclosed}
 use Rattle.script_rules.specs.Reading.{openingOf, requestOf}
 use Rattle.script_rules.specs.Writing.{noRow, textOf}
-use Rattle.script_rules.specs.Printout.{malformed, printed, printedAll, calledBy, printedBy, played, openedBy, fromFirst, longestScript, printout}
-use Rattle.script.specs.declared.Play.{Play}
-use Rattle.script.specs.declared.Stage.the-variants.{First, Playing, Over}
-use Rattle.script.specs.declared.Stage.{Stage}
-use Rattle.script.specs.Pieces.{Piece, lineOf, past, over, going, openingPiece, firstPiece, callPiece, requestPiece, laterBy, laterPiece, pieceBy, pieceOf}
+use Rattle.script_rules.specs.Printout.{malformed, printed, printedAll, calledBy, printedBy, played, openedBy, fromFirst, longestScript}
+use Rattle.pieces.specs.declared.Play.{Play}
+use Rattle.pieces.specs.declared.Stage.the-variants.{First, Playing, Over}
+use Rattle.pieces.specs.declared.Stage.{Stage}
+use Rattle.pieces.specs.Pieces.{lineOf, past, openingPiece, firstPiece, callPiece, requestPiece, laterBy, laterPiece, pieceBy, pieceOf}
 
 -- what a script has still to print
 abbrev pub fromHere : List ℕ → ℕ → ℕ → Model → List ℕ

@@ -1,14 +1,14 @@
 -- Every script comes to its end: each piece leaves less to play.
 -- Assumes nothing.
 use mathlib.Core.Path.{_≡_, refl, sym, ap, subst, _∙_}
-use mathlib.Core.Bool.{Bool, true, false, cond}
-use mathlib.Core.List.{List, [], _∷_, _++_}
+use mathlib.Core.Bool.{true, cond}
+use mathlib.Core.List.{List, [], _++_}
 use mathlib.Core.Option.{Option, none, some}
 use Prim.Native.Nat.{ℕ, zero, suc, _+_, _-_, _*_, _≤_, _<_}
 use native.Mathlib.Omega.{arith}
 use lib.Dec.{eqb, leb, ltb}
 use lib.ListN.{length, drop, length-drop}
-use borrow.Author.Tests.{eqb-true, eqb-false, leb-false, ltb-true, ltb-false}
+use borrow.Author.Tests.{eqb-false, leb-false, ltb-true, ltb-false}
 use Rattle.lists.specs.Tests.{case, neither}
 use Rattle.text.specs.Upto.{upto, upto-le}
 use Rattle.text.specs.Lines.{lineAt}
@@ -21,22 +21,25 @@ use Rattle.scheduler.specs.Opening.{openingRefusal}
 use Rattle.scheduler.specs.Answers.{accepts}
 use Rattle.scheduler.specs.Refusals.{waitRefusal}
 use Rattle.jobs.specs.Sound.{passed}
-use Rattle.history.specs.Calls.{Call, Request, ask, wait, tick}
+use Rattle.history.specs.Calls.{Request, ask, wait, tick}
 use Rattle.guarantees.specs.Premise.{Premise, call-premise, opened-premise}
 use Rattle.script_rules.specs.Lines.{linesOf}
 use Rattle.script_rules.specs.Reading.{openingOf, requestOf}
 use Rattle.script_rules.specs.Printout.{malformed, fromFirst, longestScript, printout}
-use Rattle.script.specs.declared.Play.{Play}
-use Rattle.script.specs.declared.Stage.the-variants.{First, Playing, Over}
-use Rattle.script.specs.declared.Stage.{Stage}
-use Rattle.script.specs.Pieces.{Piece, lineOf, past, over, going, openingPiece, firstPiece, callPiece, requestPiece, laterBy, laterPiece, pieceBy, pieceOf}
-use Rattle.script.specs.Whole.{left, leftBy, next-piece}
+use Rattle.pieces.specs.declared.Play.{Play}
+use Rattle.pieces.specs.declared.Stage.the-variants.{First, Playing, Over}
+use Rattle.pieces.specs.declared.Stage.{Stage}
+use Rattle.pieces.specs.Pieces.{beginning, lineOf, past, over, going, openingPiece, firstPiece, requestPiece, laterPiece, pieceBy, pieceOf}
+use Rattle.pieces.specs.Whole.{left, leftBy, next-piece}
 
 -- what holds of a script that is being played
 pub record Ready (s : List ℕ) (p : Play) : Type 0 where
   pub premise : Premise (p .scheduler)
   pub inside : p .at ≤ length s
   pub few : p .steps ≤ longest
+
+pub begin-ready : (s : List ℕ) → Ready s beginning
+begin-ready s = record { premise = opened-premise _; inside = omega arith; few = omega arith }
 
 -- what there is still to play, at most: more for each byte than the steps of a wait
 abbrev pub weightBy : Stage → List ℕ → Play → ℕ

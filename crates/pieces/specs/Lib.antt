@@ -1,0 +1,4 @@
+pub mod Pieces
+pub mod Whole
+pub mod Ends
+pub mod Steps
