@@ -3,13 +3,13 @@
 -- Assumes nothing.
 use Prim.Native.Nat.{ℕ, _+_, _≤_, _<_}
 use native.Mathlib.Omega.{arith}
-use mathlib.Core.Path.{_≡_, refl, ap, _∙_}
+use mathlib.Core.Path.{_≡_, refl, _∙_}
 use mathlib.Core.List.{List}
 use mathlib.Core.Logic.{_⊎_, inl, inr}
 use lib.ListN.{getD}
 use Rattle.lists.specs.Tests.{le-or}
 use Rattle.plan.specs.declared.Span.{Span}
-use Rattle.plan.specs.Spans.{free, earliest, Fits, Earliest}
+use Rattle.plan.specs.Spans.{free, earliest, Fits}
 use Rattle.plan.specs.Earliest.{earliest-is, earliest-unique}
 use Rattle.scheduler.specs.Limits.{horizon, longest}
 use Rattle.availability.specs.Lists.{rows}

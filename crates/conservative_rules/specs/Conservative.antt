@@ -1,11 +1,11 @@
 -- Conservative backfilling: what each call gives (document 01: "Promise Desk", "When a desk says no").
 -- Assumes nothing.
-use mathlib.Core.Bool.{Bool, true, false, not, _&&_, cond}
+use mathlib.Core.Bool.{_&&_, cond}
 use mathlib.Core.List.{List, [], _∷_, _++_, map}
 use mathlib.Core.Option.{none}
 use Prim.Native.Nat.{ℕ, suc, _+_}
-use lib.Dec.{leb, ltb, eqb}
-use lib.ListN.{length, drop}
+use lib.Dec.{ltb, eqb}
+use lib.ListN.{length}
 use Rattle.lists.specs.Lists.{keep}
 use Rattle.plan.specs.declared.Span.{Span}
 use Rattle.plan.specs.declared.Point.{Point}
@@ -21,9 +21,9 @@ use Rattle.scheduler.specs.Jobs.{isWaiting, isRunning, picks}
 use Rattle.scheduler.specs.Settings.{Settings, horizon, holdTime, until}
 use Rattle.scheduler.specs.Table.{ticketsOf, staying}
 use Rattle.scheduler.specs.Model.{Model, joined}
-use Rattle.scheduler.specs.Answers.{Reply, Result, verdict, refuse}
+use Rattle.scheduler.specs.Answers.{Result, verdict, refuse}
 use Rattle.scheduler.specs.Refusals.{judged, submitTests, completeRefusal, tickRefusal}
-use Rattle.history.specs.Calls.{Call, Rules, submit, complete, tick, profile as profileCall, refusedWait}
+use Rattle.history.specs.Calls.{Rules, submit, complete, tick, profile as profileCall, refusedWait}
 
 -- a running job holds its nodes from its start, a waiting one from its planned start on, until they are free again
 abbrev pub span : Settings → Job → Span

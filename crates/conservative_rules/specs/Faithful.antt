@@ -28,7 +28,7 @@ use Rattle.scheduler.specs.Jobs.{isWaiting, isRunning, waiting?, running?, live
 use Rattle.scheduler.specs.Settings.{Settings, horizon, holdTime, until}
 use Rattle.scheduler.specs.Table.{ticketsOf, staying}
 use Rattle.scheduler.specs.Model.{Model}
-use Rattle.scheduler.specs.Answers.{Reply, Result, verdict, accepts, refuse}
+use Rattle.scheduler.specs.Answers.{Result, verdict, accepts, refuse}
 use Rattle.scheduler.specs.Refusals.{judged, submitTests, completeRefusal, tickRefusal}
 use Rattle.jobs.specs.Order.{Asc, asc-keep, asc-one}
 use Rattle.jobs.specs.Sound.{SoundJob}

@@ -30,7 +30,7 @@ use Rattle.scheduler.specs.Settings.{Settings, horizon, holdTime, until}
 use Rattle.scheduler.specs.Table.{nodesHeld, ticketsOf, staying}
 use Rattle.scheduler.specs.Model.{Model, empty, without}
 use Rattle.scheduler.specs.Answers.{Result, accepts, refuse, refusing}
-use Rattle.scheduler.specs.Refusals.{judged, completeRefusal, tickRefusal}
+use Rattle.scheduler.specs.Refusals.{completeRefusal, tickRefusal}
 use Rattle.scheduler.specs.Opening.{openingRefusal, opening}
 use Rattle.jobs.specs.Order.{asc-same}
 use Rattle.jobs.specs.Judged.{judged-by}

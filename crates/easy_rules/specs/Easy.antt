@@ -1,7 +1,7 @@
 -- EASY backfilling: what each call gives (document 01: "Loose Desk", "When a desk says no").
 -- Assumes nothing.
-use mathlib.Core.Bool.{Bool, true, false, not, _&&_, _||_, cond}
-use mathlib.Core.List.{List, [], _∷_, _++_, map, head?}
+use mathlib.Core.Bool.{Bool, false, _&&_, _||_, cond}
+use mathlib.Core.List.{List, [], _∷_, map, head?}
 use mathlib.Core.Option.{Option, none, some}
 use Prim.Native.Nat.{ℕ, zero, suc, _+_, _-_, _*_}
 use lib.Dec.{leb, ltb, eqb}
@@ -9,20 +9,19 @@ use lib.ListN.{length}
 use Rattle.lists.specs.Tests.{on}
 use Rattle.lists.specs.Lists.{keep, first, sum}
 use Rattle.lists.specs.Least.{least}
-use Rattle.scheduler.specs.declared.State.{State}
 use Rattle.scheduler.specs.declared.State.the-variants.{Waiting, Running}
 use Rattle.scheduler.specs.declared.Job.{Job}
 use Rattle.scheduler.specs.declared.Refusal.{Refusal}
 use Rattle.scheduler.specs.declared.Refusal.the-variants as refusal
 use Rattle.scheduler.specs.declared.Select.{Select}
 use Rattle.scheduler.specs.declared.Select.the-variants as select
-use Rattle.scheduler.specs.Jobs.{isWaiting, isRunning, picks, held}
+use Rattle.scheduler.specs.Jobs.{isWaiting, isRunning, picks}
 use Rattle.scheduler.specs.Settings.{Settings, horizon, holdTime, unit, until}
 use Rattle.scheduler.specs.Table.{nodesHeld, ticketsOf}
 use Rattle.scheduler.specs.Model.{Model, joined, without}
-use Rattle.scheduler.specs.Answers.{Reply, Result, Forecast, verdict, refuse}
+use Rattle.scheduler.specs.Answers.{Result, Forecast, verdict, refuse}
 use Rattle.scheduler.specs.Refusals.{judged, submitTests, completeRefusal, tickRefusal}
-use Rattle.history.specs.Calls.{Call, Rules, submit, complete, tick, profile, refusedWait}
+use Rattle.history.specs.Calls.{Rules, submit, complete, tick, profile, refusedWait}
 
 -- ## The queue and the nodes
 

@@ -24,7 +24,7 @@ use Rattle.scheduler.specs.Settings.{horizon, slots, longest, holdTime, until}
 use Rattle.scheduler.specs.Table.{ticketOf, ticketsOf}
 use Rattle.scheduler.specs.Model.{Model, joined}
 use Rattle.scheduler.specs.Answers.{Result, verdict, accepts, refusing, refuse}
-use Rattle.scheduler.specs.Refusals.{judged, completeRefusal, tickRefusal}
+use Rattle.scheduler.specs.Refusals.{completeRefusal, tickRefusal}
 use Rattle.jobs.specs.Judged.{judged-accepted, judged-refusal, judged-refused}
 use Rattle.jobs.specs.Order.{Asc}
 use Rattle.jobs.specs.Sound.{Sound, Fit}

@@ -1,7 +1,7 @@
 -- Calls of the code, one after another, are a list of calls of the definitions: so what is proved of lists holds of the code.
 -- Document 01: "Each call, taken or refused, gets the desk that the last one handed back".
 -- Assumes nothing.
-use mathlib.Core.Path.{_≡_, refl, sym, ap, _∙_}
+use mathlib.Core.Path.{_≡_, refl, ap, _∙_}
 use mathlib.Core.List.{List, [], _∷_, map}
 use Rattle.scheduler.specs.declared.Answer.{Answer}
 use Rattle.scheduler.specs.declared.Outcome.{Outcome}

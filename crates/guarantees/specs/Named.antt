@@ -1,7 +1,7 @@
 -- How many tickets an answer names: never more than there are slots, so that the lists of an answer hold them all.
 -- Assumes nothing.
 use mathlib.Core.Path.{_≡_, refl}
-use mathlib.Core.Bool.{true, false, not, cond, _&&_}
+use mathlib.Core.Bool.{not, _&&_}
 use mathlib.Core.List.{List, [], _∷_}
 use mathlib.Core.Option.{Option, none, some}
 use Prim.Native.Nat.{ℕ, zero, suc, _≤_}
@@ -19,8 +19,8 @@ use Rattle.scheduler.specs.Jobs.{picks, isWaiting, isRunning}
 use Rattle.scheduler.specs.Table.{ticketOf, ticketsOf, staying}
 use Rattle.scheduler.specs.Model.{Model, joined, without}
 use Rattle.scheduler.specs.declared.Refusal.{Refusal}
-use Rattle.scheduler.specs.Answers.{Reply, Result, refuse}
-use Rattle.scheduler.specs.Refusals.{judged, completeRefusal, tickRefusal}
+use Rattle.scheduler.specs.Answers.{Result, refuse}
+use Rattle.scheduler.specs.Refusals.{completeRefusal, tickRefusal}
 use Rattle.jobs.specs.Sound.{submit-fit}
 use Rattle.jobs.specs.Judged.{judged-by}
 use Rattle.history.specs.Calls.{Call, submit, complete, tick, profile, refusedWait}

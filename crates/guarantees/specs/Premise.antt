@@ -15,7 +15,6 @@ use Rattle.scheduler.specs.Opening.{opening, opened}
 use Rattle.jobs.specs.Sound.{Sound}
 use Rattle.jobs.specs.Premise.{Holds, store-holds}
 use Rattle.history.specs.Calls.{Call}
-use Rattle.history.specs.Lawful.{Lawful}
 use Rattle.conservative_rules.specs.Valid as conservative
 use Rattle.conservative_rules.specs.Lawful.{conservative-lawful}
 use Rattle.easy_rules.specs.Valid as easy

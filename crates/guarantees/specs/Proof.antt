@@ -1,16 +1,16 @@
 -- The guarantees hold, of both kinds: the theorem.
 -- Assumes nothing.
-use mathlib.Core.Path.{_≡_, refl, sym, ap, subst}
+use mathlib.Core.Path.{_≡_, refl}
 use mathlib.Core.Bool.{Bool, true, false, cond}
-use mathlib.Core.List.{List, []}
+use mathlib.Core.List.{[]}
 use lib.ListN.{take}
 use Rattle.scheduler.specs.declared.Kind.{Kind}
 use Rattle.scheduler.specs.declared.Kind.the-variants.{Conservative, Easy}
 use Rattle.scheduler.specs.declared.Opening.{Opening}
-use Rattle.scheduler.specs.Model.{Model, empty}
+use Rattle.scheduler.specs.Model.{empty}
 use Rattle.scheduler.specs.Answers.{accepts}
 use Rattle.scheduler.specs.Opening.{openingRefusal, opening}
-use Rattle.history.specs.Calls.{Call, allCalls}
+use Rattle.history.specs.Calls.{allCalls}
 use Rattle.history.specs.Guarantee.{Guarantee}
 use Rattle.conservative_rules.specs.Valid as conservative
 use Rattle.conservative_rules.specs.Lawful.{conservative-lawful}

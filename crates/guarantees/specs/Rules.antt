@@ -2,8 +2,7 @@
 -- Assumes nothing.
 use Rattle.scheduler.specs.declared.Kind.{Kind}
 use Rattle.scheduler.specs.declared.Kind.the-variants.{Conservative, Easy}
-use Rattle.scheduler.specs.Model.{Model}
-use Rattle.history.specs.Calls.{Call, Rules}
+use Rattle.history.specs.Calls.{Rules}
 use Rattle.conservative_rules.specs.Conservative as conservative
 use Rattle.easy_rules.specs.Easy as easy
 

@@ -1,7 +1,7 @@
 -- The guarantees of both kinds of scheduler (document 01: "demand 3", "a single claim about the whole list"): the statement, and
 -- from what a kind owes of each call, its proof.
 -- Assumes nothing.
-use mathlib.Core.Path.{_≡_, refl, sym, ap, subst, _∙_}
+use mathlib.Core.Path.{_≡_, refl, ap, subst}
 use mathlib.Core.List.{List, [], _∷_}
 use Prim.Native.Nat.{ℕ}
 use lib.ListN.{take}
@@ -11,11 +11,11 @@ use Rattle.scheduler.specs.declared.Opening.{Opening}
 use Rattle.scheduler.specs.Settings.{Settings, unit}
 use Rattle.scheduler.specs.Model.{Model}
 use Rattle.scheduler.specs.Opening.{opening}
-use Rattle.history.specs.Calls.{Call, Request, Rules, Event, after, events, allCalls}
+use Rattle.history.specs.Calls.{Call, Request, Event, events, allCalls}
 use Rattle.history.specs.Book.{Book, enterAll}
 use Rattle.history.specs.Guarantee.{Guarantee}
 use Rattle.history.specs.Lawful.{Lawful}
-use Rattle.history.specs.Proof.{Agrees, Follows, guaranteed, settings-after}
+use Rattle.history.specs.Proof.{Agrees, guaranteed, settings-after}
 use Rattle.guarantees.specs.Rules.{rulesOf, call}
 
 -- "It starts from the desk that an opening hands back": nothing has been taken in

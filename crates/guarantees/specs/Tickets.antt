@@ -1,8 +1,8 @@
 -- Over every list of calls of either kind, tickets are given upward by one from the first, so never twice, and a refused submission uses
 -- none.
 -- Assumes nothing.
-use mathlib.Core.Path.{_≡_, refl, sym, subst, _∙_}
-use mathlib.Core.Bool.{true, false}
+use mathlib.Core.Path.{_≡_, refl, sym, subst}
+use mathlib.Core.Bool.{true}
 use mathlib.Core.List.{List, [], _∷_}
 use Prim.Native.Nat.{ℕ, suc}
 use Rattle.lists.specs.Tests.{case}

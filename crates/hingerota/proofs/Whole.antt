@@ -1,7 +1,6 @@
 -- A desk that a function is handed has 64 records.
 -- Assumes nothing.
 use mathlib.Core.Path.{_≡_}
-use Prim.Native.Nat.{ℕ}
 use lib.ListN.{length}
 use denote.Laws.{Is}
 use denote.Struct.Declared.{row}

@@ -1,11 +1,11 @@
 -- Laws of a loop that puts f of each element of a list into a table of the same length, in the order of the index.
 -- Assumes nothing.
-use mathlib.Core.Path.{_≡_, ap, sym, _∙_}
+use mathlib.Core.Path.{_≡_, _∙_}
 use mathlib.Core.List.{List, [], _∷_, _++_, map, map-append, append-nil}
 use Prim.Native.Nat.{ℕ, _+_, _-_, _≤_, _<_}
 use native.Mathlib.Numerals.{add-one}
 use native.Mathlib.Omega.{arith}
-use lib.ListN.{length, getD, take, set, replicate, length-map}
+use lib.ListN.{length, getD, take, set, length-map}
 use lib.Seq.{take-suc, take-all, length-take-le}
 use Rattle.lists.specs.Pads.{pad, pad-push}
 

@@ -1,7 +1,7 @@
 -- A scheduler, what it answers and what an opening gives, in numbers: what a host program holds. A function that is exported can hold no
 -- enum, so a kind, a state and a refusal are numbers there. Document 01: "A record has ticket, nodes, estimate, state, start and promise".
 -- Assumes nothing.
-use mathlib.Core.Path.{_≡_, refl, ap}
+use mathlib.Core.Path.{_≡_, refl}
 use mathlib.Core.List.{List, [], _∷_, map}
 use mathlib.Core.Bool.{cond}
 use Prim.Native.Nat.{ℕ}

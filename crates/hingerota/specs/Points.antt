@@ -2,7 +2,7 @@
 -- and the free nodes from it on"; "Places past the last point .. keep what they held"; "A refusal gives .. any lent list unchanged".
 -- Assumes nothing.
 use mathlib.Core.Path.{_≡_, refl, sym, ap, subst, _∙_}
-use mathlib.Core.Bool.{Bool, false}
+use mathlib.Core.Bool.{false}
 use mathlib.Core.List.{List, [], _∷_, _++_, map}
 use Prim.Native.Nat.{ℕ, _≤_, _-_}
 use lib.Dec.{eqb}
@@ -11,7 +11,7 @@ use Rattle.lists.specs.Pads.{pad}
 use Rattle.plan.specs.declared.Point as plan-point
 use Rattle.scheduler.specs.declared.Scheduler.{Scheduler}
 use Rattle.scheduler.specs.Model.{view}
-use Rattle.scheduler.specs.Answers.{code, accepts}
+use Rattle.scheduler.specs.Answers.{code}
 use Rattle.profile.specs.Stored.{places, noPoint, stored}
 use Rattle.calls.specs.declared.Shown as calls-shown
 use Rattle.calls.specs.declared.ProfileOutcome as calls-profile

@@ -4,15 +4,15 @@ use mathlib.Core.Path.{_≡_, refl, ap, subst, _∙_}
 use mathlib.Core.Bool.{true}
 use mathlib.Core.List.{List, [], _∷_}
 use mathlib.Core.Option.{Option, none, some}
-use Prim.Native.Nat.{ℕ, zero, suc, _+_, _≤_}
+use Prim.Native.Nat.{ℕ, zero, suc, _+_}
 use native.Mathlib.Omega.{arith}
 use lib.ListN.{replicate}
 use Rattle.lists.specs.Lists.{here}
 use Rattle.scheduler.specs.declared.Kind.the-variants.{Conservative, Easy}
 use Rattle.scheduler.specs.declared.Refusal.the-variants as refusal
-use Rattle.scheduler.specs.Answers.{Reply, Forecast}
-use Rattle.history.specs.Calls.{Call, submit, tick, Event}
-use Rattle.history.specs.Book.{Book, Entry, Fate, waiting, enter, enterAll}
+use Rattle.scheduler.specs.Answers.{Forecast}
+use Rattle.history.specs.Calls.{submit, tick, Event}
+use Rattle.history.specs.Book.{Book, Entry, waiting, enter, enterAll}
 use Rattle.history.specs.Guarantee.{StartedBy, Guarantee}
 
 -- a submission accepted under a ticket, with a promise, the tickets that start and a forecast

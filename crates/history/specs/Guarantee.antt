@@ -2,14 +2,13 @@
 -- Assumes nothing.
 use mathlib.Core.Path.{_≡_}
 use mathlib.Core.Bool.{true}
-use mathlib.Core.Option.{Option, none, some}
-use mathlib.Core.List.{List, []}
+use mathlib.Core.Option.{some}
 use Prim.Native.Nat.{ℕ, _≤_}
 use Rattle.lists.specs.Tests.{on}
 use Rattle.lists.specs.Lists.{sum, In}
 use Rattle.scheduler.specs.declared.Kind.{Kind}
 use Rattle.scheduler.specs.declared.Kind.the-variants.{Conservative, Easy}
-use Rattle.history.specs.Book.{Entry, Book, Fate, runs, start, isWaiting, headOf}
+use Rattle.history.specs.Book.{Entry, Book, runs, start, isWaiting, headOf}
 
 -- it has started, no later than b
 pub record StartedBy (x : Entry) (b : ℕ) : Type 0 where

@@ -1,10 +1,9 @@
 -- The answer names exactly the jobs that leave: those not named are the jobs that stay.
 -- Assumes nothing.
 use mathlib.Core.Path.{_≡_, refl, sym, ap, _∙_}
-use mathlib.Core.Bool.{Bool, true, false, not, cond}
+use mathlib.Core.Bool.{Bool, true, false, not}
 use mathlib.Core.List.{List, [], _∷_, _++_, map, map-append}
 use Prim.Native.Nat.{ℕ}
-use native.Mathlib.Omega.{arith}
 use Rattle.lists.specs.Tests.{case, true-false}
 use Rattle.lists.specs.Lists.{keep, elem, In, here, there, keep-append}
 use Rattle.scheduler.specs.declared.State.{State}
@@ -15,7 +14,7 @@ use Rattle.scheduler.specs.Table.{ticketsOf}
 use Rattle.scheduler.specs.Answers.{Reply}
 use Rattle.jobs.specs.Order.{Asc, elem-picked}
 use Rattle.history.specs.Calls.{Call}
-use Rattle.history.specs.Book.{Fate, waiting, running, ended, fateAfter}
+use Rattle.history.specs.Book.{running, ended, fateAfter}
 use Rattle.history.specs.Lawful.{Shown, shown, fateBy, live, isLive, remark, shownAfter, comers}
 
 -- a waiting job stays live, and a running one if its ticket is not among those ended

@@ -7,7 +7,7 @@ use mathlib.Core.Bool.{Bool, true, false, not, _&&_, cond}
 use mathlib.Core.List.{List, [], _∷_, _++_, map, map-append}
 use mathlib.Core.Logic.{_⊎_, inl, inr}
 use mathlib.Core.Option.{Option, none, some}
-use Prim.Native.Nat.{ℕ, suc, _+_, _*_, _≤_, _<_}
+use Prim.Native.Nat.{ℕ, _+_, _*_, _≤_}
 use native.Mathlib.Omega.{arith}
 use lib.Dec.{eqb}
 use lib.ListN.{length, length-map}
@@ -21,14 +21,14 @@ use Rattle.scheduler.specs.declared.State.the-variants.{Unused, Waiting, Runnin
 use Rattle.scheduler.specs.declared.Job.{Job}
 use Rattle.scheduler.specs.Jobs as jobs
 use Rattle.scheduler.specs.Jobs.{live?, waiting?, running?}
-use Rattle.scheduler.specs.Settings.{Settings, unit}
+use Rattle.scheduler.specs.Settings.{unit}
 use Rattle.scheduler.specs.Table.{nodesHeld, ticketOf, ticketsOf}
 use Rattle.scheduler.specs.Model.{Model, Live}
 use Rattle.scheduler.specs.Answers.{Reply, Forecast, accepts}
-use Rattle.history.specs.Calls.{Call, submit, complete, tick, profile, refusedWait, Rules, Event, after, events}
-use Rattle.history.specs.Book.{Fate, waiting, running, ended, Entry, Book, waits, runs, start, isWaiting, clockAfter, rank, entry, newcomers, fateAfter, marked, lowest, entryTicket, headOf, is, given, hearing, heard, told, enter, enterAll}
+use Rattle.history.specs.Calls.{Call, submit, complete, tick, profile, refusedWait, Rules, after, events}
+use Rattle.history.specs.Book.{Fate, waiting, running, ended, Entry, Book, waits, runs, start, isWaiting, clockAfter, rank, entry, newcomers, fateAfter, marked, lowest, entryTicket, headOf, is, given, hearing, heard, enter, enterAll}
 use Rattle.history.specs.Guarantee.{StartedBy, running-nodes, Guarantee}
-use Rattle.history.specs.Lawful.{Shown, fateBy, shown, live, isLive, remark, shownAfter, comers, deadline, boundAt, lowestWaiting, Kept, Lawful}
+use Rattle.history.specs.Lawful.{Shown, fateBy, shown, live, isLive, remark, comers, deadline, boundAt, lowestWaiting, Kept, Lawful}
 
 -- ## What an entry shows
 

@@ -4,12 +4,12 @@ use Prim.Native.Nat.{ℕ, suc, _+_, _≤_, _<_}
 use native.Mathlib.Omega.{arith}
 use mathlib.Core.Path.{_≡_, refl, sym, ap, _∙_}
 use mathlib.Core.Bool.{Bool, true, false, _||_}
-use mathlib.Core.List.{List, [], _∷_, _++_, map}
+use mathlib.Core.List.{List, [], _∷_, _++_}
 use mathlib.Core.Logic.{_⊎_, inl, inr}
 use lib.Dec.{eqb}
-use borrow.Author.Tests.{eqb-true, eq-eqb, ne-eqb}
+use borrow.Author.Tests.{eqb-true, eq-eqb}
 use Rattle.lists.specs.Tests.{case, true-false, either}
-use Rattle.lists.specs.Lists.{keep, any, elem, In, here, there, in-nil, in-cons, keep-in, in-keep}
+use Rattle.lists.specs.Lists.{keep, elem, In, here, there, in-nil, in-cons, keep-in, in-keep}
 use Rattle.scheduler.specs.declared.Job.{Job}
 use Rattle.scheduler.specs.Table.{ticketOf, ticketsOf}
 

@@ -1,6 +1,6 @@
 -- The one premise of a call: "a desk came from an opening or from a call here". The scheduler holds a model, and the model is valid.
 -- Assumes nothing.
-use mathlib.Core.Path.{_≡_, sym, ap, subst, _∙_}
+use mathlib.Core.Path.{_≡_, sym, ap, subst}
 use Rattle.lists.specs.Lists.{All}
 use Rattle.scheduler.specs.declared.Scheduler.{Scheduler}
 use Rattle.scheduler.specs.declared.Refusal.{Refusal}

@@ -2,15 +2,15 @@
 -- Assumes nothing.
 use Prim.Native.Nat.{ℕ, suc, _+_, _≤_, _<_}
 use native.Mathlib.Omega.{arith}
-use mathlib.Core.Path.{_≡_, refl, sym, ap, _∙_}
-use mathlib.Core.Bool.{Bool, true, false, not, cond, _||_}
-use mathlib.Core.List.{List, [], _∷_, _++_}
+use mathlib.Core.Path.{_≡_, refl, ap}
+use mathlib.Core.Bool.{Bool, true, false, not, _||_}
+use mathlib.Core.List.{List, [], _∷_}
 use mathlib.Core.Logic.{_⊎_, inl, inr}
-use lib.Dec.{leb, ltb, eqb}
+use lib.Dec.{leb, ltb}
 use lib.ListN.{length, length-append}
 use borrow.Author.Tests.{leb-false, ltb-false, eqb-false, not-true}
-use Rattle.lists.specs.Tests.{case, true-false, neither, on}
-use Rattle.lists.specs.Lists.{keep, sum, All, In, all-of, in-append, in-cons, in-nil, keep-in, length-keep-le, sum-append, sum-keep}
+use Rattle.lists.specs.Tests.{case, true-false, neither}
+use Rattle.lists.specs.Lists.{All, In, all-of, in-append, in-cons, in-nil, keep-in, length-keep-le, sum-append, sum-keep}
 use Rattle.scheduler.specs.declared.Job.{Job}
 use Rattle.scheduler.specs.declared.Refusal.{Refusal}
 use Rattle.scheduler.specs.declared.Refusal.the-variants as refusal
@@ -19,7 +19,7 @@ use Rattle.scheduler.specs.declared.Select.{Select}
 use Rattle.scheduler.specs.declared.Select.the-variants as select
 use Rattle.scheduler.specs.Limits.{maxNodes, lastTicket, outside}
 use Rattle.scheduler.specs.Jobs.{isLive, isRunning, held, picks}
-use Rattle.scheduler.specs.Settings.{Settings, horizon, slots, longest, holdTime, until}
+use Rattle.scheduler.specs.Settings.{Settings, horizon, slots, longest, until}
 use Rattle.scheduler.specs.Table.{nodesHeld}
 use Rattle.scheduler.specs.Model.{Model, Live, empty, joined, without}
 use Rattle.scheduler.specs.Answers.{verdict, accepts}

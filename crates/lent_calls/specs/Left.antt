@@ -1,7 +1,7 @@
 -- What a call on a lent scheduler answers, and leaves there. Document 01: "A rack lends its desk to each call and finds it changed there
 -- afterwards"; "A refusal gives its number, no tickets, and the desk and any lent list unchanged".
 -- Assumes nothing.
-use mathlib.Core.Path.{_≡_, refl, sym, ap, subst, _∙_}
+use mathlib.Core.Path.{_≡_, sym, ap, subst, _∙_}
 use mathlib.Core.Bool.{false}
 use Rattle.scheduler.specs.declared.Kind.{Kind}
 use Rattle.scheduler.specs.declared.Kind.the-variants.{Conservative, Easy}

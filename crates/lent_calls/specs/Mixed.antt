@@ -15,7 +15,7 @@ use Rattle.scheduler.specs.declared.Outcome.{Outcome}
 use Rattle.scheduler.specs.declared.Refusal.{Refusal}
 use Rattle.scheduler.specs.declared.Scheduler.{Scheduler}
 use Rattle.scheduler.specs.Model.{Model, store, view}
-use Rattle.scheduler.specs.Answers.{Result, refuse, refusedAnswer, outcome}
+use Rattle.scheduler.specs.Answers.{refuse, refusedAnswer, outcome}
 use Rattle.scheduler.specs.Opening.{opening, opened}
 use Rattle.history.specs.Calls.{Call, profile, after, events}
 use Rattle.history.specs.Guarantee.{Guarantee}

@@ -1,25 +1,22 @@
 -- The points of a table: place after place a point is put down, unless nothing differs from the last.
 -- Assumes nothing.
-use Prim.Native.Nat.{ℕ, suc, _+_, _-_, _*_, _≤_, _<_}
+use Prim.Native.Nat.{ℕ, suc, _+_, _-_, _≤_, _<_}
 use native.Mathlib.Omega.{arith}
 use mathlib.Core.Path.{_≡_, refl, sym, ap, _∙_}
 use mathlib.Core.Bool.{Bool, true, false, not, _||_}
 use mathlib.Core.List.{List, [], _∷_, _++_}
-use mathlib.Core.Logic.{_⊎_, inl, inr}
 use lib.Dec.{eqb}
 use lib.ListN.{length, getD, set, length-append}
 use lib.Seq.{getD-at}
-use Rattle.lists.specs.Tests.{le-or}
 use Rattle.lists.specs.Pads.{pad, pad-push}
 use Rattle.plan.specs.declared.Span.{Span}
 use Rattle.plan.specs.declared.Point.{Point}
-use Rattle.plan.specs.Spans.{free, lastEnd, point, points, profile}
+use Rattle.plan.specs.Spans.{free, lastEnd, points, profile}
 use Rattle.plan.specs.Profile.{points-still, points-length, profile-to}
 use Rattle.plan.specs.Emit.{emit, points-emit}
 use Rattle.scheduler.specs.Limits.{slots}
 use Rattle.availability.specs.Lists.{rows}
 use Rattle.availability.specs.Table.{Table, table-rise}
-use Rattle.profile.specs.declared.Profile.{Profile}
 use Rattle.profile.specs.Stored.{places, noPoint, stored}
 
 -- the lists are a table of the free nodes that these spans leave

@@ -3,23 +3,20 @@
 use Prim.Native.Nat.{ℕ, _+_, _≤_, _<_}
 use native.Mathlib.Omega.{arith}
 use native.Mathlib.Numerals.{add-one}
-use mathlib.Core.Path.{_≡_, refl, sym, ap, subst, _∙_}
-use mathlib.Core.Bool.{true, false, _&&_}
-use mathlib.Core.List.{List, [], _∷_, _++_}
-use lib.Dec.{eqb}
+use mathlib.Core.Path.{_≡_, subst}
+use mathlib.Core.List.{[], _∷_}
 use lib.ListN.{length, getD, take}
 use lib.Seq.{take-suc, take-all}
 use borrow.Author.Tests.{ne-eqb}
 use mathlib.Core.Logic.{_⊎_, inl, inr}
 use Rattle.lists.specs.Tests.{le-or}
-use Rattle.lists.specs.Lists.{All, In, all-of, all-in, all-append, keep-in}
-use Rattle.scheduler.specs.declared.State.{State}
+use Rattle.lists.specs.Lists.{All, all-of, all-in, all-append, keep-in}
 use Rattle.scheduler.specs.declared.State.the-variants.{Unused, Waiting, Running}
 use Rattle.scheduler.specs.declared.Job.{Job}
 use Rattle.scheduler.specs.declared.Scheduler.{Scheduler}
 use Rattle.scheduler.specs.Limits.{horizon, slots}
 use Rattle.scheduler.specs.Jobs.{unused, isLive}
-use Rattle.scheduler.specs.Model.{Model, view}
+use Rattle.scheduler.specs.Model.{view}
 use Rattle.walltime.specs.WallTime.{wallTime}
 use Rattle.quiet.specs.Due.{QuietFor, Quiet, Until}
 

@@ -1,10 +1,10 @@
 -- Quiet minutes can be passed over, on either kind: a tick at which nothing is due answers nothing and moves only the clock, and what is
 -- valid stays valid.
 -- Assumes nothing.
-use Prim.Native.Nat.{ℕ, zero, suc, _+_, _≤_, _<_}
+use Prim.Native.Nat.{ℕ, zero, suc, _+_, _≤_}
 use native.Mathlib.Omega.{arith}
 use mathlib.Core.Path.{_≡_, refl, sym, ap, subst, _∙_}
-use mathlib.Core.Bool.{Bool, true, false, _||_}
+use mathlib.Core.Bool.{Bool, false}
 use mathlib.Core.List.{List, [], _∷_}
 use lib.ListN.{replicate}
 use Rattle.lists.specs.Tests.{neither}
@@ -19,7 +19,6 @@ use Rattle.scheduler.specs.Jobs.{picks, endsAt}
 use Rattle.scheduler.specs.Limits.{horizon}
 use Rattle.scheduler.specs.Model.{Model, store, view}
 use Rattle.scheduler.specs.Answers.{Result, refusing}
-use Rattle.jobs.specs.Premise.{Holds}
 use Rattle.history.specs.Calls.{tick, after}
 use Rattle.conservative_rules.specs.Faithful.{startsAt}
 use Rattle.guarantees.specs.Rules.{rulesOf, call}

@@ -1,5 +1,4 @@
 // Minutes in which nothing is due: ticks of them only move the clock, so that they can be passed over.
-ghost use mathlib.Core.Path.{_≡_};
 ghost use Prim.Native.Nat.{_≤_};
 ghost use Rattle.scheduler.specs.Limits.{horizon};
 ghost use Rattle.guarantees.specs.Premise.{Premise};

@@ -1,8 +1,8 @@
 -- The model of a scheduler: its settings, clock, next ticket and the list of its live jobs. `store` writes it into the 64 slots,
 -- `view` reads it off them. Document 01: "holds its 64 records as one value, in ticket order, unused ones all zero".
 -- Assumes nothing.
-use mathlib.Core.Path.{_≡_, refl, ap, _∙_}
-use mathlib.Core.Bool.{Bool, true, false}
+use mathlib.Core.Path.{_≡_, refl, _∙_}
+use mathlib.Core.Bool.{true}
 use mathlib.Core.List.{List, [], _∷_, _++_}
 use Prim.Native.Nat.{ℕ, suc, _≤_}
 use lib.ListN.{length}

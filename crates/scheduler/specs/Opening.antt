@@ -1,8 +1,8 @@
 -- Opening. Document 01: "A desk is opened with nodes, first minute and first ticket"; "A refused opening hands back an empty desk
 -- of its kind with 1 node, minute 0 and ticket 1"; order 1, 3.
 -- Assumes nothing.
-use mathlib.Core.Bool.{Bool, _||_, cond}
-use mathlib.Core.List.{List, [], _∷_}
+use mathlib.Core.Bool.{_||_, cond}
+use mathlib.Core.List.{[], _∷_}
 use lib.Dec.{ltb}
 use Rattle.scheduler.specs.declared.Refusal.{Refusal}
 use Rattle.scheduler.specs.declared.Refusal.the-variants as refusal

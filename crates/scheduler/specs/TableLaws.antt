@@ -1,7 +1,7 @@
 -- What an operation on the slots of a stored model means for the model.
 -- Assumes nothing.
 use mathlib.Core.Path.{_≡_, refl, ap, sym, _∙_}
-use mathlib.Core.Bool.{Bool, true, false, not, cond, _&&_}
+use mathlib.Core.Bool.{Bool, false, not, cond, _&&_}
 use lib.Dec.{leb, ltb, eqb}
 use mathlib.Core.List.{List, [], _∷_, _++_, append-assoc, append-nil}
 use Prim.Native.Nat.{ℕ, zero, suc, _+_, _-_, _≤_, _<_}
@@ -10,15 +10,13 @@ use lib.ListN.{length, set, take, drop, getD, replicate, replicate-append-replic
 use lib.Seq.{drop-cons, set-at, take-append-seam}
 use native.Mathlib.Numerals.{add-one}
 use Rattle.lists.specs.Tests.{case, on, on-le}
-use Rattle.lists.specs.Lists.{keep, sum, All, all-in, length-keep, keep-all}
+use Rattle.lists.specs.Lists.{keep, All, all-in, length-keep, keep-all}
 use Rattle.lists.specs.Pads.{pad, sum-pad, keep-pad, pad-keep, pad-push, pad-set}
-use Rattle.lists.specs.Loops.{position, position-pad}
+use Rattle.lists.specs.Loops.{position-pad}
 use Rattle.walltime.specs.WallTime.{wallTime}
 use Rattle.scheduler.specs.declared.State.{State}
 use Rattle.scheduler.specs.declared.State.the-variants.{Unused, Waiting, Running}
 use Rattle.scheduler.specs.declared.Job.{Job}
-use Rattle.scheduler.specs.declared.Scheduler.{Scheduler}
-use Rattle.scheduler.specs.declared.Removed.{Removed}
 use Rattle.scheduler.specs.declared.Select.{Select}
 use Rattle.scheduler.specs.declared.Select.the-variants as select
 use Rattle.scheduler.specs.declared.Refusal.{Refusal}

@@ -1,16 +1,15 @@
 -- The lines of a script, from a place on.
 -- Assumes nothing.
-use mathlib.Core.Path.{_≡_, refl, sym, ap, subst, _∙_}
-use mathlib.Core.Bool.{Bool, true, false, cond}
+use mathlib.Core.Path.{_≡_}
+use mathlib.Core.Bool.{true, false}
 use mathlib.Core.List.{List, [], _∷_}
-use Prim.Native.Nat.{ℕ, suc, _+_, _-_, _≤_, _<_}
-use native.Mathlib.Numerals.{add-one}
+use Prim.Native.Nat.{ℕ, suc, _≤_, _<_}
 use native.Mathlib.Omega.{arith}
 use lib.Dec.{eqb}
 use lib.ListN.{length, drop}
 use Rattle.lists.specs.Tests.{case}
 use Rattle.text.specs.Upto.{upto}
-use Rattle.script_rules.specs.Lines.{Line, inLine, linesOf}
+use Rattle.script_rules.specs.Lines.{linesOf}
 
 -- the first line, closed
 pub lines-closed : (t : List ℕ) → length (upto 10 t) < length t

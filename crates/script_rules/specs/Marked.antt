@@ -12,7 +12,7 @@ use Rattle.plan.specs.Spans as plan
 use Rattle.walltime.specs.WallTime.{wallTime}
 use Rattle.scheduler.specs.declared.Kind.{Kind}
 use Rattle.scheduler.specs.declared.Kind.the-variants.{Conservative, Easy}
-use Rattle.scheduler.specs.Answers.{Reply, Forecast, code, verdict}
+use Rattle.scheduler.specs.Answers.{Forecast, code, verdict}
 use Rattle.scheduler.specs.Refusals as refusals
 use Rattle.scheduler.specs.Model.{Model}
 use Rattle.scheduler.specs.Opening as opening

@@ -3,14 +3,12 @@
 -- Assumes nothing.
 use mathlib.Core.Bool.{cond}
 use mathlib.Core.List.{List, [], _∷_, _++_}
-use mathlib.Core.Option.{Option, none, some}
 use Prim.Native.Nat.{ℕ}
 use lib.Dec.{eqb}
 use Rattle.text.specs.Numbers.{decimalOf}
 use Rattle.scheduler.specs.declared.Kind.{Kind}
 use Rattle.scheduler.specs.declared.Kind.the-variants.{Conservative, Easy}
-use Rattle.scheduler.specs.declared.Refusal.{Refusal}
-use Rattle.scheduler.specs.Answers.{Reply, Forecast, accepts, code, headTicket, headMinute}
+use Rattle.scheduler.specs.Answers.{Reply, accepts, code, headTicket, headMinute}
 
 abbrev pub noWord : List ℕ
 noWord = 110 ∷ 111 ∷ []

@@ -2,7 +2,6 @@
 -- Assumes nothing.
 use native.Mathlib.Omega.{arith}
 use Rattle.availability.specs.Laid.{end-ascends, lay-adjustable, laid-at}
-use borrow.Author.Needs.{needs}
 use Rattle.availability.proofs.lay_at.Statement.{statement}
 use Rattle.availability.proofs.lay_at.Tie as tie
 

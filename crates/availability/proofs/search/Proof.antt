@@ -1,9 +1,9 @@
 -- `availability::search` meets its contract: at each place the anchor is the first minute that may still do.
 -- Assumes nothing.
-use Prim.Native.Nat.{ℕ, _-_, _≤_, _<_}
+use Prim.Native.Nat.{_-_}
 use native.Mathlib.Omega.{arith}
 use mathlib.Core.Logic.{⊎-elim}
-use Rattle.availability.specs.Search.{Seeks, Pass, pass-begin, pass-end, pass-found, pass-stay, pass-move}
+use Rattle.availability.specs.Search.{Pass, pass-begin, pass-end, pass-found, pass-stay, pass-move}
 use borrow.Author.Needs.{needs}
 use Rattle.availability.proofs.search.Statement.{statement}
 use Rattle.availability.proofs.search.Tie as tie

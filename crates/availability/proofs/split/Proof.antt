@@ -1,7 +1,7 @@
 -- `availability::split` meets its contract: the minute is there already, or is put in after the one that it follows.
 -- Assumes nothing.
 use native.Mathlib.Omega.{arith}
-use Rattle.availability.specs.Table.{Split, split-found, split-new}
+use Rattle.availability.specs.Table.{split-found, split-new}
 use borrow.Author.Needs.{needs}
 use Rattle.availability.proofs.split.Statement.{statement}
 use Rattle.availability.proofs.split.Tie as tie

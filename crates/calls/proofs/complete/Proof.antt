@@ -1,18 +1,13 @@
 -- `calls::complete` meets its contract: each kind meets its own.
 -- Assumes nothing.
-use mathlib.Core.Path.{_≡_, sym, ap, _∙_}
+use mathlib.Core.Path.{sym, ap, _∙_}
 use Rattle.scheduler.specs.declared.Kind.the-variants.{Conservative, Easy}
-use Rattle.scheduler.specs.Model.{view}
 use Rattle.scheduler.specs.Answers.{outcome}
 use Rattle.history.specs.Calls as calls
 use Rattle.guarantees.specs.Premise.{premise-of, rules-of}
 use borrow.Author.Needs.{needs}
 use Rattle.calls.proofs.complete.Statement.{statement}
 use Rattle.calls.proofs.complete.Tie as tie
-use Rattle.calls.proofs.complete.Reads as reads
-use Rattle.calls.proofs.complete.Lts as lts
-use Rattle.conservative.proofs.complete.Reads as complete-reads
-use Rattle.easy.proofs.complete.Reads as complete-reads′
 
 enum-told : tie.Need-enum-told
 enum-told c = search needs

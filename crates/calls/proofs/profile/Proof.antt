@@ -1,7 +1,7 @@
 -- `calls::profile` meets its contract.
 -- Assumes nothing.
 use mathlib.Core.Path.{ap, _∙_}
-use Rattle.scheduler.specs.declared.Kind.the-variants.{Conservative, Easy}
+use Rattle.scheduler.specs.declared.Kind.the-variants.{Conservative}
 use Rattle.jobs.specs.Premise.{holds-as}
 use Rattle.profile.specs.declared.Profile.{Profile}
 use Rattle.conservative.specs.Slots.{valid-planned}
@@ -10,11 +10,6 @@ use Rattle.calls.specs.Show.{showIn, show-conservative, show-easy}
 use borrow.Author.Needs.{needs}
 use Rattle.calls.proofs.profile.Statement.{statement}
 use Rattle.calls.proofs.profile.Tie as tie
-use Rattle.calls.proofs.profile.Reads as reads
-use Rattle.calls.proofs.profile.Lts as lts
-use Rattle.calls.proofs.no_points.Reads as no-points-reads
-use Rattle.calls.proofs.show.Reads as show-reads
-use Rattle.conservative.proofs.profile_of.Reads as profile-of-reads
 
 enum-told : tie.Need-enum-told
 enum-told c = search needs

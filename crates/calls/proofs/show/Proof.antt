@@ -6,9 +6,6 @@ use Rattle.calls.specs.Show.{no-room, all-shown}
 use borrow.Author.Needs.{needs}
 use Rattle.calls.proofs.show.Statement.{statement}
 use Rattle.calls.proofs.show.Tie as tie
-use Rattle.calls.proofs.show.Reads as reads
-use Rattle.calls.proofs.show.Lts as lts
-use Rattle.calls.proofs.no_points.Reads as no-points-reads
 
 no-points-requires : tie.Need-no-points-requires
 no-points-requires c κs = search needs

@@ -1,18 +1,13 @@
 -- `calls::submit` meets its contract: each kind meets its own.
 -- Assumes nothing.
-use mathlib.Core.Path.{_≡_, sym, ap, _∙_}
+use mathlib.Core.Path.{sym, ap, _∙_}
 use Rattle.scheduler.specs.declared.Kind.the-variants.{Conservative, Easy}
-use Rattle.scheduler.specs.Model.{view}
 use Rattle.scheduler.specs.Answers.{outcome}
 use Rattle.history.specs.Calls as calls
 use Rattle.guarantees.specs.Premise.{premise-of, rules-of}
 use borrow.Author.Needs.{needs}
 use Rattle.calls.proofs.submit.Statement.{statement}
 use Rattle.calls.proofs.submit.Tie as tie
-use Rattle.calls.proofs.submit.Reads as reads
-use Rattle.calls.proofs.submit.Lts as lts
-use Rattle.conservative.proofs.submit.Reads as submit-reads
-use Rattle.easy.proofs.submit.Reads as submit-reads′
 
 enum-told : tie.Need-enum-told
 enum-told c = search needs

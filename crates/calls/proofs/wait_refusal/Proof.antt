@@ -13,9 +13,6 @@ use mathlib.Core.Path.{_≡_, sym, _∙_}
 use borrow.Author.Needs.{needs}
 use Rattle.calls.proofs.wait_refusal.Statement.{statement}
 use Rattle.calls.proofs.wait_refusal.Tie as tie
-use Rattle.calls.proofs.wait_refusal.Reads as reads
-use Rattle.calls.proofs.wait_refusal.Lts as lts
-use Rattle.scheduler.proofs.outside_range.Reads as outside-range-reads
 
 outside-range-requires : tie.Need-outside-range-requires
 outside-range-requires c κs = search needs

@@ -1,21 +1,16 @@
-use mathlib.Core.Path.{_≡_, refl, ap, sym, _∙_}
+use mathlib.Core.Path.{_≡_, ap, _∙_}
 use mathlib.Core.List.{List}
-use Prim.Native.Nat.{_-_, _≤_, _<_}
+use Prim.Native.Nat.{_-_, _≤_}
 use native.Mathlib.Omega.{arith}
 use lib.ListN.{set}
 use Rattle.lists.specs.Pads.{pad}
 use borrow.Author.Needs.{needs}
 use Rattle.scheduler.specs.Jobs.{unused}
 use Rattle.scheduler.proofs.Whole.{whole}
-use Rattle.hingerota.specs.Mirror.{noRecord, mirrorJob, readRecord, read, mirror}
+use Rattle.hingerota.specs.Mirror.{noRecord, mirrorJob, mirror}
 use Rattle.hingerota.specs.Copied.{copied, copied-more, copied-all}
 use Rattle.hingerota.proofs.mirror.Statement.{statement}
 use Rattle.hingerota.proofs.mirror.Tie as tie
-use Rattle.hingerota.proofs.mirror.Reads as reads
-use Rattle.hingerota.proofs.mirror.Lts as lts
-use Rattle.hingerota.proofs.kind_number.Reads as kind-number-reads
-use Rattle.hingerota.proofs.mirror_job.Reads as mirror-job-reads
-use Rattle.scheduler.proofs.Job.unused.Reads as unused-reads
 
 abbrev Inv-loop : tie.InvT-loop
 Inv-loop s jobs₀ i₀ jobs i = (i ≤ 64) × (jobs ≡ copied mirrorJob unused noRecord 64 (s .jobs) i)
@@ -23,48 +18,37 @@ Inv-loop s jobs₀ i₀ jobs i = (i ≤ 64) × (jobs ≡ copied mirrorJob unused
 abbrev μ-loop : tie.MeasureT-loop
 μ-loop s jobs₀ i₀ jobs i = 64 - i
 
--- src/lib.rt:155:27
 unused-requires : tie.Need-unused-requires Inv-loop μ-loop
 unused-requires c κs = search needs
 
--- src/lib.rt:155:9
 mirror-job-requires : tie.Need-mirror-job-requires Inv-loop μ-loop
 mirror-job-requires c κs = search needs
 
--- src/lib.rt:158:5
 loop-holds : tie.Need-loop-holds Inv-loop μ-loop
 unfolding pad
 loop-holds c = (search needs, rw (c .mirror-job .ensures, c .before .unused .ensures))
 
--- src/lib.rt:159:17
 mul-j : tie.Need-mul-j Inv-loop μ-loop
 mul-j c = search needs
 
--- src/lib.rt:159:17
 element-copy-out-j : tie.Need-element-copy-out-j Inv-loop μ-loop
 element-copy-out-j c = search needs
 
--- src/lib.rt:160:19
 mirror-job-requires-2 : tie.Need-mirror-job-requires-2 Inv-loop μ-loop
 mirror-job-requires-2 c κs = search needs
 
--- src/lib.rt:160:9
 mul-jobs : tie.Need-mul-jobs Inv-loop μ-loop
 mul-jobs c = search needs
 
--- src/lib.rt:160:9
 array-set-from-jobs : tie.Need-array-set-from-jobs Inv-loop μ-loop
 array-set-from-jobs c = search needs
 
--- src/lib.rt:161:9
 add-i : tie.Need-add-i Inv-loop μ-loop
 add-i c = search needs
 
--- src/lib.rt:158:5
 loop-less : tie.Need-loop-less Inv-loop μ-loop
 loop-less c = search needs
 
--- src/lib.rt:158:5
 loop-again : tie.Need-loop-again Inv-loop μ-loop
 loop-again c =
     let l = c .before .before .before .loop in
@@ -73,11 +57,9 @@ loop-again c =
     let len = whole (s .args .t1) (s .good .0) in
     (omega arith, ap (λ (js : List _). set js (l .i) (c .mirror-job2 .result)) (l .inv .1) ∙ copied-more mirrorJob unused noRecord 64 xs (l .i) (c .mirror-job2 .result) len (omega arith) (c .mirror-job2 .ensures))
 
--- src/lib.rt:165:15
 kind-number-requires : tie.Need-kind-number-requires Inv-loop μ-loop
 kind-number-requires c κs = search needs
 
--- src/lib.rt:152:1
 returns : tie.Need-returns Inv-loop μ-loop
 unfolding mirror
 returns c =

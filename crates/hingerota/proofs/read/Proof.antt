@@ -1,21 +1,16 @@
-use mathlib.Core.Path.{_≡_, refl, ap, sym, _∙_}
+use mathlib.Core.Path.{_≡_, ap, _∙_}
 use mathlib.Core.List.{List}
-use Prim.Native.Nat.{_-_, _≤_, _<_}
+use Prim.Native.Nat.{_-_, _≤_}
 use native.Mathlib.Omega.{arith}
 use lib.ListN.{set}
 use Rattle.lists.specs.Pads.{pad}
 use borrow.Author.Needs.{needs}
 use Rattle.scheduler.specs.Jobs.{unused}
 use Rattle.hingerota.proofs.Whole.{whole}
-use Rattle.hingerota.specs.Mirror.{noRecord, mirrorJob, readRecord, read, mirror}
+use Rattle.hingerota.specs.Mirror.{noRecord, readRecord, read}
 use Rattle.hingerota.specs.Copied.{copied, copied-more, copied-all}
 use Rattle.hingerota.proofs.read.Statement.{statement}
 use Rattle.hingerota.proofs.read.Tie as tie
-use Rattle.hingerota.proofs.read.Reads as reads
-use Rattle.hingerota.proofs.read.Lts as lts
-use Rattle.hingerota.proofs.kind_of.Reads as kind-of-reads
-use Rattle.hingerota.proofs.read_record.Reads as read-record-reads
-use Rattle.scheduler.proofs.Job.unused.Reads as unused-reads
 
 abbrev Inv-loop : tie.InvT-loop
 Inv-loop d jobs₀ i₀ jobs i = (i ≤ 64) × (jobs ≡ copied readRecord noRecord unused 64 (d .jobs) i)
@@ -23,44 +18,34 @@ Inv-loop d jobs₀ i₀ jobs i = (i ≤ 64) × (jobs ≡ copied readRecord noRec
 abbrev μ-loop : tie.MeasureT-loop
 μ-loop d jobs₀ i₀ jobs i = 64 - i
 
--- src/lib.rt:134:9
 unused-requires : tie.Need-unused-requires Inv-loop μ-loop
 unused-requires c κs = search needs
 
--- src/lib.rt:137:5
 loop-holds : tie.Need-loop-holds Inv-loop μ-loop
 unfolding pad
 loop-holds c = (search needs, rw (c .unused .ensures))
 
--- src/lib.rt:138:17
 mul-r : tie.Need-mul-r Inv-loop μ-loop
 mul-r c = search needs
 
--- src/lib.rt:138:17
 element-copy-out-r : tie.Need-element-copy-out-r Inv-loop μ-loop
 element-copy-out-r c = search needs
 
--- src/lib.rt:139:19
 read-record-requires : tie.Need-read-record-requires Inv-loop μ-loop
 read-record-requires c κs = search needs
 
--- src/lib.rt:139:9
 mul-jobs : tie.Need-mul-jobs Inv-loop μ-loop
 mul-jobs c = search needs
 
--- src/lib.rt:139:9
 array-set-from-jobs : tie.Need-array-set-from-jobs Inv-loop μ-loop
 array-set-from-jobs c = search needs
 
--- src/lib.rt:140:9
 add-i : tie.Need-add-i Inv-loop μ-loop
 add-i c = search needs
 
--- src/lib.rt:137:5
 loop-less : tie.Need-loop-less Inv-loop μ-loop
 loop-less c = search needs
 
--- src/lib.rt:137:5
 loop-again : tie.Need-loop-again Inv-loop μ-loop
 loop-again c =
     let l = c .before .before .before .loop in
@@ -69,11 +54,9 @@ loop-again c =
     let len = whole (s .args .t1) (s .good .0) in
     (omega arith, ap (λ (js : List _). set js (l .i) (c .read-record .result)) (l .inv .1) ∙ copied-more readRecord noRecord unused 64 xs (l .i) (c .read-record .result) len (omega arith) (c .read-record .ensures))
 
--- src/lib.rt:142:9
 kind-of-requires : tie.Need-kind-of-requires Inv-loop μ-loop
 kind-of-requires c κs = search needs
 
--- src/lib.rt:131:1
 returns : tie.Need-returns Inv-loop μ-loop
 unfolding read
 returns c =

@@ -4,9 +4,6 @@ use Rattle.guarantees.specs.Premise.{opened-held}
 use borrow.Author.Needs.{needs}
 use Rattle.lent_run.proofs.open.Statement.{statement}
 use Rattle.lent_run.proofs.open.Tie as tie
-use Rattle.lent_run.proofs.open.Reads as reads
-use Rattle.lent_run.proofs.open.Lts as lts
-use Rattle.scheduler.proofs.Scheduler.open.Reads as open-reads
 
 open-requires : tie.Need-open-requires
 open-requires c κs = search needs

@@ -5,25 +5,20 @@ use borrow.Author.Needs.{needs}
 use Rattle.pieces.proofs.refused.Statement.{statement}
 use Rattle.pieces.proofs.refused.Tie as tie
 
--- src/lib.rt:80:9
 refusal-len-requires : tie.Need-refusal-len-requires
 refusal-len-requires c κs = search needs
 
--- src/lib.rt:82:9
 returns : tie.Need-returns
 returns c =
     let r = c .before .refusal-len .ensures in
     step-short _ _ _ _ _ (r .0) (r .1) (c .if1 .taken)
 
--- src/lib.rt:88:5
 put-refusal-requires : tie.Need-put-refusal-requires
 put-refusal-requires c κs = search needs
 
--- src/lib.rt:77:1
 same-length : tie.Need-same-length
 same-length c = search needs
 
--- src/lib.rt:77:1
 returns-2 : tie.Need-returns-2
 returns-2 c =
     let r = c .before .before .before .before .before .refusal-len .ensures in

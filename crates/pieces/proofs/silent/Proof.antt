@@ -4,7 +4,6 @@ use Rattle.pieces.specs.Steps.{step-silent}
 use Rattle.pieces.proofs.silent.Statement.{statement}
 use Rattle.pieces.proofs.silent.Tie as tie
 
--- src/lib.rt:66:1
 returns : tie.Need-returns
 returns c = step-silent _ _ _
 

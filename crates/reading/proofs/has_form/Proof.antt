@@ -3,7 +3,7 @@
 use Rattle.text.specs.Fields.{fieldsOf}
 use lib.ListN.{length}
 use native.Mathlib.Omega.{arith}
-use mathlib.Core.Path.{sym, ap, _∙_}
+use mathlib.Core.Path.{ap, _∙_}
 use borrow.Author.Tests.{eq-eqb, ne-eqb}
 use Rattle.text.specs.Words.{isWord}
 use Rattle.script_rules.specs.Reading.{hasForm}

@@ -6,27 +6,21 @@ use borrow.Author.Needs.{needs}
 use Rattle.runner.proofs.make_room.Statement.{statement}
 use Rattle.runner.proofs.make_room.Tie as tie
 
--- src/lib.rt:48:8
 sub-if1 : tie.Need-sub-if1
 sub-if1 c = search needs
 
--- src/lib.rt:48:26
 page-len-requires : tie.Need-page-len-requires
 page-len-requires c κs = search needs
 
--- src/lib.rt:49:27
 slice-aggregate-write-all : tie.Need-slice-aggregate-write-all
 slice-aggregate-write-all c = sym (length-take-le _ _ (c .before .before .before .before .pre .0))
 
--- src/lib.rt:49:9
 write-all-requires : tie.Need-write-all-requires
 write-all-requires c κs = search needs
 
--- src/lib.rt:50:9
 returns : tie.Need-returns
 returns c = search needs
 
--- src/lib.rt:44:1
 returns-2 : tie.Need-returns-2
 returns-2 c = search needs
 

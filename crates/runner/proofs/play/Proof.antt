@@ -19,31 +19,24 @@ Inv-loop script to page₀ at₀ p₀ page at p = Ready script p × (length page
 abbrev μ-loop : tie.MeasureT-loop
 μ-loop script to page₀ at₀ p₀ page at p = weight script p
 
--- src/lib.rt:60:9
 begin-requires : tie.Need-begin-requires Inv-loop μ-loop
 begin-requires c κs = search needs
 
--- src/lib.rt:61:5
 loop-holds : tie.Need-loop-holds Inv-loop μ-loop
 loop-holds c = (subst (Ready (c .before .before .before .args .script .now)) (sym (c .begin .ensures)) (begin-ready (c .before .before .before .args .script .now)), refl, omega arith)
 
--- src/lib.rt:61:11
 goes-on-requires : tie.Need-goes-on-requires Inv-loop μ-loop
 goes-on-requires c κs = search needs
 
--- src/lib.rt:62:13
 pass-over-requires : tie.Need-pass-over-requires Inv-loop μ-loop
 pass-over-requires c κs = c .before .before .loop .inv .0 .premise
 
--- src/lib.rt:63:13
 make-room-requires : tie.Need-make-room-requires Inv-loop μ-loop
 make-room-requires c κs = (c .before .before .before .before .loop .inv .2, omega (arith, c .before .before .before .before .loop .inv .1, c .before .before .before .before .before .before .before .before .pre))
 
--- src/lib.rt:64:13
 turn-requires : tie.Need-turn-requires Inv-loop μ-loop
 turn-requires c κs = (passes-ready _ _ _ (c .before .before .before .pass-over .ensures) (c .before .before .before .before .before .before .loop .inv .0), c .before .make-room .ensures)
 
--- src/lib.rt:61:5
 loop-less : tie.Need-loop-less Inv-loop μ-loop
 loop-less c =
     let l = c .before .before .before .before .before .before .before .before .before .before .loop in
@@ -53,7 +46,6 @@ loop-less c =
     let q = c .before .before .before .before .before .before .before .pass-over .result in
     omega (arith, passes-no-more s (l .p) q o, turn-less s q (c .before .before .before .turn .result .play) (passes-ready _ _ _ o (l .inv .0)) (c .before .before .before .turn .ensures .play-is) (ap goesOn (o .stage-is) ∙ g))
 
--- src/lib.rt:61:5
 loop-again : tie.Need-loop-again Inv-loop μ-loop
 loop-again c =
     let l = c .before .before .before .before .before .before .before .before .before .before .loop in
@@ -61,23 +53,18 @@ loop-again c =
     let room = c .before .before .before .before .before .make-room .ensures in
     (turn-ready _ _ _ (passes-ready _ _ _ (c .before .before .before .before .before .before .before .pass-over .ensures) (l .inv .0)) (t .play-is), omega (arith, same-size (t .lines), l .inv .1), omega (arith, same-size (t .lines), t .lines .place, t .few, room))
 
--- src/lib.rt:68:23
 slice-reshare-prefix-write-all : tie.Need-slice-reshare-prefix-write-all Inv-loop μ-loop
 slice-reshare-prefix-write-all c = c .before .before .loop .inv .2
 
--- src/lib.rt:68:23
 slice-aggregate-write-all : tie.Need-slice-aggregate-write-all Inv-loop μ-loop
 slice-aggregate-write-all c = sym (length-take-le _ _ (c .before .before .before .loop .inv .2))
 
--- src/lib.rt:68:5
 write-all-requires : tie.Need-write-all-requires Inv-loop μ-loop
 write-all-requires c κs = search needs
 
--- src/lib.rt:56:1
 same-length : tie.Need-same-length Inv-loop μ-loop
 same-length c = c .before .before .before .before .loop .inv .1
 
--- src/lib.rt:56:1
 returns : tie.Need-returns Inv-loop μ-loop
 returns c = search needs
 

@@ -5,51 +5,39 @@ use borrow.Author.Needs.{needs}
 use Rattle.script.proofs.advance.Statement.{statement}
 use Rattle.script.proofs.advance.Tie as tie
 
--- src/lib.rt:242:42
 enum-told : tie.Need-enum-told
 enum-told c = search needs
 
--- src/lib.rt:242:25
 first-requires : tie.Need-first-requires
 first-requires c κs = search needs
 
--- src/lib.rt:243:44
 enum-told-2 : tie.Need-enum-told-2
 enum-told-2 c = search needs
 
--- src/lib.rt:243:27
 later-requires : tie.Need-later-requires
 later-requires c κs = search needs
 
--- src/lib.rt:244:37
 enum-told-3 : tie.Need-enum-told-3
 enum-told-3 c = search needs
 
--- src/lib.rt:244:24
 silent-requires : tie.Need-silent-requires
 silent-requires c κs = search needs
 
--- src/lib.rt:236:1
 same-length : tie.Need-same-length
 same-length c = search needs
 
--- src/lib.rt:236:1
 returns : tie.Need-returns
 returns c = stepped-as (stage-as _ _ _ (c .before .before .before .before .enum-told .given .1)) (c .before .before .first .ensures)
 
--- src/lib.rt:236:1
 same-length-2 : tie.Need-same-length-2
 same-length-2 c = search needs
 
--- src/lib.rt:236:1
 returns-2 : tie.Need-returns-2
 returns-2 c = stepped-as (stage-as _ _ _ (c .before .before .before .before .enum-told2 .given .1)) (c .before .before .later .ensures)
 
--- src/lib.rt:236:1
 same-length-3 : tie.Need-same-length-3
 same-length-3 c = search needs
 
--- src/lib.rt:236:1
 returns-3 : tie.Need-returns-3
 returns-3 c = stepped-as (stage-as _ _ _ (c .before .before .before .before .enum-told3 .given .1)) (c .before .before .silent .ensures)
 

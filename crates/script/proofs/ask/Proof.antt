@@ -7,87 +7,66 @@ use borrow.Author.Needs.{needs}
 use Rattle.script.proofs.ask.Statement.{statement}
 use Rattle.script.proofs.ask.Tie as tie
 
--- src/lib.rt:179:23
 enum-known-asked : tie.Need-enum-known-asked
 enum-known-asked c = search needs
 
--- src/lib.rt:180:17
 submit-requires : tie.Need-submit-requires
 submit-requires c κs = search needs
 
--- src/lib.rt:183:25
 going-requires : tie.Need-going-requires
 going-requires c κs = search needs
 
--- src/lib.rt:183:13
 answered-requires : tie.Need-answered-requires
 answered-requires c κs = call-few _ _ _ (c .before .before .before .before .submit .ensures) (c .before .before .before .before .before .before .before .before .before .before .pre)
 
--- src/lib.rt:185:25
 enum-known-asked-2 : tie.Need-enum-known-asked-2
 enum-known-asked-2 c = search needs
 
--- src/lib.rt:186:17
 complete-requires : tie.Need-complete-requires
 complete-requires c κs = search needs
 
--- src/lib.rt:189:25
 going-requires-2 : tie.Need-going-requires-2
 going-requires-2 c κs = search needs
 
--- src/lib.rt:189:13
 answered-requires-2 : tie.Need-answered-requires-2
 answered-requires-2 c κs = call-few _ _ _ (c .before .before .before .before .complete .ensures) (c .before .before .before .before .before .before .before .before .before .before .pre)
 
--- src/lib.rt:191:21
 enum-known-asked-3 : tie.Need-enum-known-asked-3
 enum-known-asked-3 c = search needs
 
--- src/lib.rt:191:27
 wait-requires : tie.Need-wait-requires
 wait-requires c κs = search needs
 
--- src/lib.rt:192:40
 enum-told : tie.Need-enum-told
 enum-told c = search needs
 
--- src/lib.rt:192:40
 going-requires-3 : tie.Need-going-requires-3
 going-requires-3 c κs = search needs
 
--- src/lib.rt:192:29
 refused-requires : tie.Need-refused-requires
 refused-requires c κs = search needs
 
--- src/lib.rt:173:1
 same-length : tie.Need-same-length
 same-length c = search needs
 
--- src/lib.rt:173:1
 returns : tie.Need-returns
 returns c = stepped-as (called _ _ _ (c .before .before .before .before .before .before .before .submit .ensures) _ _ _ (c .before .before .before .before .going .ensures) ∙ asked-as _ _ _ _ (c .before .before .before .before .before .before .before .before .before .asked .given .1)) (c .before .before .answered .ensures)
 
--- src/lib.rt:173:1
 same-length-2 : tie.Need-same-length-2
 same-length-2 c = search needs
 
--- src/lib.rt:173:1
 returns-2 : tie.Need-returns-2
 returns-2 c = stepped-as (called _ _ _ (c .before .before .before .before .before .before .before .complete .ensures) _ _ _ (c .before .before .before .before .going2 .ensures) ∙ asked-as _ _ _ _ (c .before .before .before .before .before .before .before .before .before .asked2 .given .1)) (c .before .before .answered2 .ensures)
 
--- src/lib.rt:173:1
 same-length-3 : tie.Need-same-length-3
 same-length-3 c = search needs
 
--- src/lib.rt:173:1
 returns-3 : tie.Need-returns-3
 returns-3 c = stepped-as (asked-as _ _ _ _ (c .before .before .before .before .before .asked3 .given .1)) (c .before .before .wait .ensures)
 
--- src/lib.rt:173:1
 same-length-4 : tie.Need-same-length-4
 same-length-4 c = search needs
 
--- src/lib.rt:173:1
 returns-4 : tie.Need-returns-4
 returns-4 c = stepped-as (ap (piece _) (c .before .before .before .before .going3 .ensures) ∙ asked-as _ _ _ _ (c .before .before .before .before .before .enum-told .given .1)) (c .before .before .refused .ensures)
 

@@ -7,11 +7,9 @@ use borrow.Author.Needs.{needs}
 use Rattle.script.proofs.begin.Statement.{statement}
 use Rattle.script.proofs.begin.Tie as tie
 
--- src/lib.rt:248:9
 open-requires : tie.Need-open-requires
 open-requires c κs = search needs
 
--- src/lib.rt:245:1
 returns : tie.Need-returns
 returns c = ap (λ (x : Opened). record { stage = First; at = 0; steps = 0; scheduler = x .scheduler }) (c .before .«open» .ensures)
 

@@ -9,71 +9,54 @@ use borrow.Author.Needs.{needs}
 use Rattle.script.proofs.next_line.Statement.{statement}
 use Rattle.script.proofs.next_line.Tie as tie
 
--- src/lib.rt:207:26
 over-requires : tie.Need-over-requires
 over-requires c κs = search needs
 
--- src/lib.rt:207:9
 silent-requires : tie.Need-silent-requires
 silent-requires c κs = search needs
 
--- src/lib.rt:207:9
 same-length : tie.Need-same-length
 same-length c = search needs
 
--- src/lib.rt:207:9
 returns : tie.Need-returns
 returns c = stepped-as (ap (piece _) (c .before .before .before .before .over .ensures) ∙ later-none _ _ (c .before .before .before .before .before .before .before .before .pre .1) (c .before .before .before .before .before .if1 .taken)) (c .before .before .silent .ensures)
 
--- src/lib.rt:209:9
 next-line-requires : tie.Need-next-line-requires
 next-line-requires c κs = search needs
 
--- src/lib.rt:212:41
 sub-read-later : tie.Need-sub-read-later
 sub-read-later c = line-ends _ _ _ (c .before .next-line .ensures) (omega (arith, c .before .before .if1 .left)) .after
 
--- src/lib.rt:212:41
 part-read-later-start : tie.Need-part-read-later-start
 part-read-later-start c = omega (arith, line-ends _ _ _ (c .before .next-line .ensures) (omega (arith, c .before .before .if1 .left)) .after, line-ends _ _ _ (c .before .next-line .ensures) (omega (arith, c .before .before .if1 .left)) .within)
 
--- src/lib.rt:212:41
 part-read-later-end : tie.Need-part-read-later-end
 part-read-later-end c = omega (arith, line-ends _ _ _ (c .before .next-line .ensures) (omega (arith, c .before .before .if1 .left)) .within)
 
--- src/lib.rt:212:13
 read-later-requires : tie.Need-read-later-requires
 read-later-requires c κs = search needs
 
--- src/lib.rt:213:23
 add-ask : tie.Need-add-ask
 add-ask c = omega (arith, line-ends _ _ _ (c .before .before .before .next-line .ensures) (omega (arith, c .before .before .before .before .if1 .left)) .within)
 
--- src/lib.rt:213:9
 ask-requires : tie.Need-ask-requires
 ask-requires c κs = search needs
 
--- src/lib.rt:213:9
 same-length-2 : tie.Need-same-length-2
 same-length-2 c = search needs
 
--- src/lib.rt:213:9
 returns-2 : tie.Need-returns-2
 returns-2 c = stepped-as (later-closed _ _ (c .before .before .before .before .before .before .before .before .before .before .before .pre .1) (c .before .before .before .before .before .before .before .before .if1 .left) _ (c .before .before .before .before .before .before .before .next-line .ensures) (c .before .before .before .before .before .before .if2 .taken) _ (c .before .before .before .before .read-later .ensures)) (c .before .before .ask .ensures)
 
--- src/lib.rt:216:16
 going-requires : tie.Need-going-requires
 going-requires c κs = search needs
 
--- src/lib.rt:216:5
 refused-requires : tie.Need-refused-requires
 refused-requires c κs = search needs
 
--- src/lib.rt:201:1
 same-length-3 : tie.Need-same-length-3
 same-length-3 c = search needs
 
--- src/lib.rt:201:1
 returns-3 : tie.Need-returns-3
 returns-3 c = stepped-as (ap (piece _) (c .before .before .before .before .going .ensures) ∙ later-unclosed _ _ (c .before .before .before .before .before .before .before .before .before .before .before .pre .1) (c .before .before .before .before .before .before .before .before .if1 .left) _ (c .before .before .before .before .before .before .before .next-line .ensures) (c .before .before .before .before .before .before .if2 .left)) (c .before .before .refused .ensures)
 

@@ -6,69 +6,53 @@ use borrow.Author.Needs.{needs}
 use Rattle.script.proofs.open.Statement.{statement}
 use Rattle.script.proofs.open.Tie as tie
 
--- src/lib.rt:130:26
 enum-known-first : tie.Need-enum-known-first
 enum-known-first c = search needs
 
--- src/lib.rt:131:17
 open-requires : tie.Need-open-requires
 open-requires c κs = search needs
 
--- src/lib.rt:133:16
 is-none-requires : tie.Need-is-none-requires
 is-none-requires c κs = search needs
 
--- src/lib.rt:135:34
 going-requires : tie.Need-going-requires
 going-requires c κs = search needs
 
--- src/lib.rt:135:17
 silent-requires : tie.Need-silent-requires
 silent-requires c κs = search needs
 
--- src/lib.rt:135:17
 same-length : tie.Need-same-length
 same-length c = search needs
 
--- src/lib.rt:135:17
 returns : tie.Need-returns
 returns c =
     stepped-as (opening-takes _ _ _ _ _ _ (c .before .before .before .before .before .before .before .before .before .before .first .given .1) (c .before .before .before .before .before .before .before .before .«open» .ensures) (sym (c .before .before .before .before .before .before .before .is-none .ensures) ∙ c .before .before .before .before .before .before .if1 .taken) (c .before .before .before .before .going .ensures)) (c .before .before .silent .ensures)
 
--- src/lib.rt:137:24
 over-requires : tie.Need-over-requires
 over-requires c κs = search needs
 
--- src/lib.rt:137:13
 refused-requires : tie.Need-refused-requires
 refused-requires c κs = search needs
 
--- src/lib.rt:139:44
 enum-told : tie.Need-enum-told
 enum-told c = search needs
 
--- src/lib.rt:139:44
 over-requires-2 : tie.Need-over-requires-2
 over-requires-2 c κs = search needs
 
--- src/lib.rt:139:33
 refused-requires-2 : tie.Need-refused-requires-2
 refused-requires-2 c κs = search needs
 
--- src/lib.rt:126:1
 same-length-2 : tie.Need-same-length-2
 same-length-2 c = search needs
 
--- src/lib.rt:126:1
 returns-2 : tie.Need-returns-2
 returns-2 c =
     stepped-as (opening-refuses _ _ _ _ _ _ (c .before .before .before .before .before .before .before .before .before .first .given .1) (c .before .before .before .before .before .before .before .«open» .ensures) (sym (c .before .before .before .before .before .before .is-none .ensures) ∙ c .before .before .before .before .before .if1 .left) (c .before .before .before .before .over .ensures)) (c .before .before .refused .ensures)
 
--- src/lib.rt:126:1
 same-length-3 : tie.Need-same-length-3
 same-length-3 c = search needs
 
--- src/lib.rt:126:1
 returns-3 : tie.Need-returns-3
 returns-3 c =
     stepped-as (opening-lacks _ _ _ _ (c .before .before .before .before .before .enum-told .given .1) (c .before .before .before .before .over2 .ensures)) (c .before .before .refused2 .ensures)

@@ -1,6 +1,6 @@
 use Rattle.walltime.specs.WallTime.{wallTime}
 use mathlib.Core.Path.{_≡_, sym, _∙_}
-use mathlib.Core.Bool.{true, false}
+use mathlib.Core.Bool.{false}
 use native.Mathlib.Omega.{arith}
 use Prim.Native.Nat.{_+_, _-_}
 use lib.Dec.{leb}

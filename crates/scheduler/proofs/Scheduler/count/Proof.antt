@@ -4,7 +4,7 @@ use native.Mathlib.Omega.{arith}
 use Rattle.scheduler.specs.declared.Job.{Job}
 use Rattle.lists.specs.Tests.{on}
 use mathlib.Core.Logic.{⊎-elim}
-use mathlib.Core.Path.{_≡_, refl, sym, _∙_}
+use mathlib.Core.Path.{_≡_, sym, _∙_}
 use Prim.Native.Nat.{ℕ, _+_, _-_, _≤_, _<_}
 use lib.ListN.{length, getD, drop}
 use Rattle.lists.specs.Loops.{sum-drop}

@@ -1,13 +1,12 @@
 use native.Mathlib.Omega.{arith}
 use Rattle.scheduler.specs.Table.{slot}
 use mathlib.Core.Path.{ap}
-use mathlib.Core.Path.{_≡_, refl, sym, _∙_}
-use Prim.Native.Nat.{ℕ, _+_, _-_, _≤_, _<_}
-use lib.ListN.{length, getD, drop}
+use mathlib.Core.Path.{_≡_, sym, _∙_}
+use Prim.Native.Nat.{_-_, _≤_, _<_}
+use lib.ListN.{length, drop}
 use Rattle.lists.specs.Loops.{positionFrom, position, position-hit, position-miss, position-end}
 use Rattle.scheduler.proofs.Whole.{whole}
-use Rattle.scheduler.specs.Jobs.{unused, picks, held}
-use Rattle.scheduler.specs.Table.{counted, nodesHeld}
+use Rattle.scheduler.specs.Jobs.{unused, picks}
 use borrow.Author.Needs.{needs}
 use Rattle.scheduler.proofs.Scheduler.locate.Statement.{statement}
 use Rattle.scheduler.proofs.Scheduler.locate.Tie as tie

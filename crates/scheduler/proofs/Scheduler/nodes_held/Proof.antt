@@ -1,11 +1,11 @@
 use native.Mathlib.Omega.{arith}
-use mathlib.Core.Path.{_≡_, refl, sym, _∙_}
-use Prim.Native.Nat.{ℕ, _+_, _-_, _≤_, _<_}
-use lib.ListN.{length, getD, drop}
+use mathlib.Core.Path.{_≡_}
+use Prim.Native.Nat.{_+_, _-_, _≤_}
+use lib.ListN.{drop}
 use Rattle.lists.specs.Loops.{sum-drop, sum-done}
 use Rattle.scheduler.proofs.Whole.{whole}
-use Rattle.scheduler.specs.Jobs.{unused, picks, held}
-use Rattle.scheduler.specs.Table.{counted, nodesHeld}
+use Rattle.scheduler.specs.Jobs.{unused, held}
+use Rattle.scheduler.specs.Table.{nodesHeld}
 use borrow.Author.Needs.{needs}
 use Rattle.scheduler.proofs.Scheduler.nodes_held.Statement.{statement}
 use Rattle.scheduler.proofs.Scheduler.nodes_held.Tie as tie

@@ -1,5 +1,5 @@
 use borrow.Author.Tests.{lt-ltb, le-ltb}
-use Rattle.scheduler.specs.Limits.{outside, maxNodes, horizon, lastTicket}
+use Rattle.scheduler.specs.Limits.{outside, maxNodes, lastTicket}
 use mathlib.Core.Bool.{true, false}
 use mathlib.Core.Path.{_≡_, sym, _∙_}
 use Rattle.scheduler.specs.Answers.{verdict}

@@ -1,12 +1,12 @@
 -- `Scheduler::remove` meets its contract. The invariant says of the slots passed what `removed` says of all.
 -- Assumes nothing.
 use mathlib.Core.Path.{_≡_, refl, ap, sym, _∙_}
-use mathlib.Core.Bool.{Bool, true, false, not}
-use mathlib.Core.List.{List, [], _∷_, _++_, map, map-append}
+use mathlib.Core.Bool.{true, false, not}
+use mathlib.Core.List.{List, _++_, map-append}
 use mathlib.Core.Logic.{⊎-elim}
 use Prim.Native.Nat.{ℕ, _+_, _-_, _≤_, _<_}
 use native.Mathlib.Omega.{arith}
-use lib.ListN.{length, getD, take, drop, set, length-append, length-map}
+use lib.ListN.{length, getD, take, drop, set, length-append}
 use lib.Seq.{take-all}
 use Rattle.lists.specs.Lists.{keep}
 use Rattle.lists.specs.Loops.{keep-take-yes, keep-take-no}
@@ -15,7 +15,7 @@ use Rattle.scheduler.specs.declared.Job.{Job}
 use Rattle.scheduler.specs.declared.Scheduler.{Scheduler}
 use Rattle.scheduler.specs.declared.Select.{Select}
 use Rattle.scheduler.specs.Jobs.{unused, picks}
-use Rattle.scheduler.specs.Table.{withJobs, ticketOf, ticketsOf, tickets, staying, removed}
+use Rattle.scheduler.specs.Table.{withJobs, ticketsOf, tickets, staying, removed}
 use Rattle.scheduler.specs.TableLaws.{overwrite, take-written}
 use Rattle.scheduler.proofs.Whole.{whole}
 use borrow.Author.Needs.{needs}
