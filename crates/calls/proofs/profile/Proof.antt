@@ -4,7 +4,7 @@ use mathlib.Core.Path.{ap, _∙_}
 use Rattle.scheduler.specs.declared.Kind.the-variants.{Conservative, Easy}
 use Rattle.jobs.specs.Premise.{holds-as}
 use Rattle.profile.specs.declared.Profile.{Profile}
-use Rattle.conservative.specs.Slots.{valid-planned}
+use Rattle.planning.specs.Slots.{valid-planned}
 use Rattle.guarantees.specs.Premise.{premise-of}
 use Rattle.calls.specs.Show.{showIn, show-conservative, show-easy}
 use borrow.Author.Needs.{needs}
@@ -14,7 +14,7 @@ use Rattle.calls.proofs.profile.Reads as reads
 use Rattle.calls.proofs.profile.Lts as lts
 use Rattle.calls.proofs.no_points.Reads as no-points-reads
 use Rattle.calls.proofs.show.Reads as show-reads
-use Rattle.conservative.proofs.profile_of.Reads as profile-of-reads
+use Rattle.planning.proofs.profile_of.Reads as profile-of-reads
 
 enum-told : tie.Need-enum-told
 enum-told c = search needs
