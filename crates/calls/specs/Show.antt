@@ -25,7 +25,7 @@ use Rattle.conservative_rules.specs.Conservative as conservative
 use Rattle.easy_rules.specs.Easy as easy
 use Rattle.guarantees.specs.Rules.{rulesOf, call}
 use Rattle.guarantees.specs.Premise.{Premise, premise-of}
-use Rattle.conservative.specs.Submit.{points-fit}
+use Rattle.planning.specs.Slots.{points-fit}
 use Rattle.calls.specs.declared.Shown.{Shown}
 use Rattle.calls.specs.declared.ProfileOutcome.{ProfileOutcome}
 

@@ -112,7 +112,7 @@ pub fn profile(d: Scheduler, room: usize) -> ProfileOutcome
 {
     let kind = d.kind;
     match kind {
-        Kind::Conservative => show(conservative::profile_of(d), room),
+        Kind::Conservative => show(planning::profile_of(d), room),
         Kind::Easy => no_points(Refusal::None),
     }
 }

@@ -1,24 +1,21 @@
 -- What the code of an early completion computes on a stored model is the definition's.
 -- Assumes nothing.
 use mathlib.Core.Path.{_≡_, refl, sym, ap, _∙_}
-use mathlib.Core.Bool.{Bool, true, false, not, _&&_, cond}
-use mathlib.Core.List.{List, [], _∷_, _++_, append-nil}
-use Prim.Native.Nat.{ℕ, zero, suc, _+_, _-_, _≤_, _<_}
-use native.Mathlib.Numerals.{add-one}
+use mathlib.Core.Bool.{Bool, true, false, not}
+use mathlib.Core.List.{List, [], _∷_}
+use Prim.Native.Nat.{ℕ}
 use native.Mathlib.Omega.{arith}
-use lib.ListN.{length, getD, take, replicate, length-map}
+use lib.ListN.{length, length-map}
 use Rattle.lists.specs.Tests.{case}
 use Rattle.lists.specs.Lists.{keep, any, keep-in}
-use Rattle.lists.specs.Pads.{pad}
 use Rattle.scheduler.specs.declared.Job.{Job}
 use Rattle.scheduler.specs.declared.Outcome.{Outcome}
 use Rattle.scheduler.specs.declared.Refusal.the-variants as refusal
 use Rattle.scheduler.specs.declared.Removed.{Removed}
 use Rattle.scheduler.specs.declared.Scheduler.{Scheduler}
 use Rattle.scheduler.specs.declared.Select.the-variants as select
-use Rattle.scheduler.specs.Limits.{slots}
-use Rattle.scheduler.specs.Jobs.{unused, isWaiting, isRunning, picks}
-use Rattle.scheduler.specs.Table.{oneIf, withJobs, ticketOf, ticketsOf, tickets, removed}
+use Rattle.scheduler.specs.Jobs.{picks}
+use Rattle.scheduler.specs.Table.{withJobs, ticketOf, ticketsOf, tickets, removed}
 use Rattle.scheduler.specs.TableLaws.{removed-stored}
 use Rattle.scheduler.specs.Model.{Model, store, view, view-store, without, withModelJobs}
 use Rattle.scheduler.specs.Answers.{outcome, verdict, refusedOutcome}
@@ -26,10 +23,10 @@ use Rattle.scheduler.specs.Refusals.{completeRefusal}
 use Rattle.jobs.specs.Sound.{Sound, sound-leave, early, all-live}
 use Rattle.jobs.specs.Premise.{Holds, store-holds, refused-held}
 use Rattle.history.specs.Calls.{complete}
-use Rattle.conservative_rules.specs.Conservative.{begun, pass, call, completed, advanced}
+use Rattle.conservative_rules.specs.Conservative.{pass, call, completed}
 use Rattle.conservative_rules.specs.Valid.{Valid, used-staying}
 use Rattle.conservative.specs.Advance.{advancedBy, advanced-stored}
-use Rattle.conservative.specs.Pass.{Replannable, pass-stored, pass-length}
+use Rattle.planning.specs.Pass.{Replannable, pass-stored, pass-length}
 
 -- a test that picks somebody
 any-some : (p : Job → Bool) (js : List Job) → (length (keep p js) ≡ 0 → ⊥) → any p js ≡ true

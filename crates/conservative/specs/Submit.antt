@@ -2,13 +2,12 @@
 -- Assumes nothing.
 use mathlib.Core.Path.{_≡_, refl, sym, ap, _∙_}
 use mathlib.Core.Bool.{Bool, true, false, cond}
-use mathlib.Core.List.{List, [], _∷_, _++_}
-use mathlib.Core.Option.{none}
+use mathlib.Core.List.{List, [], _∷_}
 use Prim.Native.Nat.{ℕ, suc, _+_, _-_, _≤_, _<_}
 use native.Mathlib.Numerals.{add-one}
 use native.Mathlib.Omega.{arith}
 use lib.Dec.{eqb, ltb}
-use lib.ListN.{length, getD, length-map}
+use lib.ListN.{length}
 use borrow.Author.Tests.{lt-ltb, le-ltb}
 use Rattle.lists.specs.Lists.{All, In, here, there}
 use Rattle.scheduler.specs.declared.Job.{Job}
@@ -21,26 +20,23 @@ use Rattle.scheduler.specs.Settings.{horizon, slots, holdTime, until}
 use Rattle.scheduler.specs.Table.{tickets, oneIf, appended, counted}
 use Rattle.scheduler.specs.TableLaws.{appended-stored, live-stored, checked-stored, checked-more}
 use Rattle.scheduler.specs.Model.{Model, Live, store, view, joined}
-use Rattle.scheduler.specs.Answers.{answer, outcome, refuse, verdict, accepts}
+use Rattle.scheduler.specs.Answers.{answer, outcome, refuse, verdict, accepts, refusedOutcome}
 use Rattle.scheduler.specs.Refusals.{submitTests, checked}
 use Rattle.history.specs.Calls.{submit}
-use Rattle.conservative_rules.specs.Conservative.{span, spans, points, call, newJob, placed, planned, submitRefusal, submitted}
+use Rattle.conservative_rules.specs.Conservative.{spans, call, newJob, placed, planned, submitRefusal, submitted}
 use Rattle.lists.specs.Least.{least-to}
 use Rattle.walltime.specs.WallTime.{wallTime}
 use Rattle.walltime.specs.Laws.{wallTime-pos, wallTime-le}
 use Rattle.plan.specs.Spans.{free, lastEnd, fits, earliest}
-use Rattle.plan.specs.Used.{last-le, used-last}
-use Rattle.plan.specs.Profile.{profile-length}
+use Rattle.plan.specs.Used.{last-le}
 use Rattle.plan.specs.declared.Span.{Span}
-use Rattle.scheduler.specs.Limits.{longest}
 use Rattle.scheduler.specs.declared.Select.the-variants.{Live as Live-select}
-use Rattle.scheduler.specs.Answers.{refusedOutcome}
 use Rattle.jobs.specs.Sound.{Fit, submit-fit, all-live}
 use Rattle.jobs.specs.Premise.{Holds, holds-as, refused-held}
-use Rattle.availability.specs.Search.{Seeks, found}
 use Rattle.conservative_rules.specs.Valid.{Valid}
 use Rattle.conservative_rules.specs.Faithful.{eight-never}
-use Rattle.conservative.specs.Slots.{Planned, Tabulated, used-held, valid-planned}
+use Rattle.planning.specs.Slots.{Planned, valid-planned}
+use Rattle.planning.specs.Earliest.{startFor, Askable}
 
 -- the next ticket is one more
 abbrev raised : Scheduler → Scheduler
@@ -103,53 +99,6 @@ module _ (m : Model) (n e : ℕ) where
   submit-taken a h = rw (refusal-is, a, le-ltb (horizon (m .settings)) (planned m n e + holdTime (m .settings) e) h)
 
 -- ## What the code computes, on a scheduler that holds a valid model
-
--- the profile fits its array
-pub points-fit : (d : Scheduler) → Holds Valid d → length (points (view d)) ≤ 129
-points-fit d h =
-    omega (arith, profile-length (view d .settings .nodes) (spans (view d .settings) (view d .jobs)) (view d .clock), h .holds .sound .few, length-map (view d .jobs) (span (view d .settings)))
-
--- the earliest start of n nodes for h minutes
-abbrev pub startFor : Model → ℕ → ℕ → ℕ
-startFor m n h = earliest (m .settings .nodes) (spans (m .settings) (m .jobs)) (m .clock) n h
-
-pub record Askable (d : Scheduler) (n h : ℕ) : Type 0 where
-  pub planned : Holds Planned d
-  pub nodes-to : n ≤ view d .settings .nodes
-  pub hold-from : 1 ≤ h
-  pub hold-to : h ≤ longest
-
-module _ {d : Scheduler} {n h : ℕ} (a : Askable d n h) {k : ℕ} {ms fs : List ℕ} (t : Tabulated d k ms fs) where
-  -- from the last place on all nodes are free
-  pub seeks-last : Seeks ms fs (k - 1) n h
-  unfolding view
-  seeks-last = record {
-    nodes = view d .settings .nodes;
-    before = spans (view d .settings) (d .jobs);
-    others = spans (view d .settings) (view d .jobs);
-    now = d .clock;
-    count = k;
-    table = t .table;
-    inside = inside;
-    fit = omega (arith, t .most);
-    enough = a .nodes-to;
-    some = a .hold-from;
-    early = λ r l b. omega (arith, used-held d (a .planned) r);
-    late = λ r l b.
-        let xs = spans (view d .settings) (d .jobs) in
-        omega (arith, used-held d (a .planned) r, value r l, value (r + lastEnd xs) (omega arith), used-last (r + lastEnd xs) xs (omega arith), a .nodes-to);
-    hold-to = a .hold-to;
-  }
-    where
-      inside : k - 1 < k
-      inside = omega (arith, t .table .some)
-
-      value : (r : ℕ) → getD ms (k - 1) 0 ≤ r → free (view d .settings .nodes) (spans (view d .settings) (d .jobs)) r ≡ getD fs (k - 1) 0
-      value r l = t .table .value (k - 1) r inside l (λ z. absurd (omega arith))
-
-  pub last-found : {s : ℕ} → ((q : Seeks ms fs (k - 1) n h) → s ≡ found q) → s ≡ startFor (view d) n h
-  unfolding seeks-last view
-  last-found f = f seeks-last
 
 module _ (d : Scheduler) (n e : ℕ) (h : Holds Valid d) where
   abbrev m : Model

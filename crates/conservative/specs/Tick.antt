@@ -1,27 +1,49 @@
 -- What the code of a tick computes on a stored model is the definition's tick.
 -- Assumes nothing.
 use mathlib.Core.Path.{_≡_, refl, sym, ap, _∙_}
-use mathlib.Core.Bool.{true, false}
-use Prim.Native.Nat.{ℕ, suc, _+_, _≤_, _<_}
+use mathlib.Core.List.{List, _∷_, map, map-append}
+use Prim.Native.Nat.{ℕ, zero, suc, _+_, _-_, _≤_, _<_}
 use native.Mathlib.Numerals.{add-one}
 use native.Mathlib.Omega.{arith}
-use mathlib.Core.List.{map}
-use lib.ListN.{length, length-map}
+use lib.ListN.{length, replicate, length-map}
 use borrow.Author.Tests.{le-ltb, lt-ltb}
+use Rattle.lists.specs.Pads.{pad}
+use Rattle.scheduler.specs.declared.Job.{Job}
 use Rattle.scheduler.specs.declared.Refusal.the-variants as refusal
 use Rattle.scheduler.specs.declared.Scheduler.{Scheduler}
 use Rattle.scheduler.specs.declared.Select.the-variants as select
 use Rattle.scheduler.specs.declared.Outcome.{Outcome}
+use Rattle.scheduler.specs.Limits as limit
+use Rattle.scheduler.specs.Jobs.{unused}
 use Rattle.scheduler.specs.Settings.{horizon, slots}
 use Rattle.scheduler.specs.Table.{withJobs, removed}
 use Rattle.scheduler.specs.TableLaws.{removed-stored}
-use Rattle.scheduler.specs.Model.{Model, store, without}
+use Rattle.scheduler.specs.Model.{Model, store, without, withModelJobs}
 use Rattle.scheduler.specs.Answers.{outcome, refuse, verdict}
 use Rattle.scheduler.specs.Refusals.{tickRefusal}
 use Rattle.history.specs.Calls.{tick}
 use Rattle.conservative_rules.specs.Conservative.{call, ticked, turned}
-use Rattle.conservative.specs.Turn.{turned-stored}
 use Rattle.conservative.specs.Advance.{advancedBy, advanced-stored}
+
+-- ## The starts, on the slots of the table and on the model
+
+-- unused slots stay unused
+turned-same : (now k : ℕ) → map (turned now) (replicate k unused) ≡ replicate k unused
+turned-same now zero = refl
+turned-same now (suc k) = ap (λ (l : List Job). unused ∷ l) (turned-same now k)
+
+turned-pad : (now : ℕ) (js : List Job) → map (turned now) (pad limit.slots unused js) ≡ pad limit.slots unused (map (turned now) js)
+unfolding pad
+turned-pad now js =
+    map-append (turned now) js (replicate (limit.slots - length js) unused)
+    ∙ rw (turned-same now (limit.slots - length js), length-map js (turned now))
+
+-- the slots of a stored model
+turned-stored : (now : ℕ) (m : Model) → withJobs (store m) (map (turned now) (store m .jobs)) ≡ store (withModelJobs m (map (turned now) (m .jobs)))
+unfolding store
+turned-stored now m = ap (withJobs (store m)) (turned-pad now (m .jobs))
+
+-- ## The tick
 
 abbrev later : Scheduler → Scheduler
 later d = record { kind = d .kind; nodes = d .nodes; clock = d .clock + 1; next = d .next; jobs = d .jobs }

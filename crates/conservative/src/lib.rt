@@ -1,26 +1,18 @@
-// Conservative backfilling (document 01: "Promise Desk"), by value: submission, early completion, tick and profile.
+// Conservative backfilling (document 01: "Promise Desk"), by value: submission, early completion and tick. Where jobs are placed, and the
+// profile, are in `planning`.
 ghost use mathlib.Core.Path.{_≡_};
+ghost use mathlib.Core.List.{map};
+ghost use Prim.Native.Nat.{_≤_, _<_};
+ghost use Rattle.scheduler.specs.Table.{counted, withJobs, tickets};
 ghost use Rattle.scheduler.specs.Model.{view};
 ghost use Rattle.scheduler.specs.Answers.{outcome};
 ghost use Rattle.jobs.specs.Premise.{Holds};
 ghost use Rattle.history.specs.Calls as calls;
-ghost use Rattle.conservative_rules.specs.Conservative.{call, placed, points, pass, begun, turned};
+ghost use Rattle.conservative_rules.specs.Conservative.{call, begun, turned};
 ghost use Rattle.conservative_rules.specs.Valid.{Valid};
-ghost use Prim.Native.Nat.{_≤_, _<_};
-ghost use Rattle.scheduler.specs.Table.{counted, withJobs, tickets};
-ghost use mathlib.Core.List.{[], map};
-ghost use lib.ListN.{length};
-ghost use Rattle.profile.specs.Stored.{stored};
-ghost use Rattle.walltime.specs.WallTime.{wallTime};
-ghost use Rattle.conservative.specs.Slots.{spanAt, Planned, Tabulated, HoldsTo};
-ghost use Rattle.conservative.specs.Replan.{Replans, Turned};
-ghost use Rattle.conservative.specs.Pass.{Replannable};
-ghost use Rattle.availability.specs.Lists.{rows};
-ghost use Rattle.scheduler.specs.Limits.{longest, slots};
-ghost use Rattle.conservative.specs.Advance.{began, advancedBy};
-ghost use Rattle.conservative.specs.Submit.{accepted, Askable, startFor};
 ghost use Rattle.conservative_rules.specs.Faithful.{startsAt};
-use profile::Profile;
+ghost use Rattle.conservative.specs.Advance.{began, advancedBy};
+ghost use Rattle.conservative.specs.Submit.{accepted};
 use scheduler::Answer;
 use scheduler::Job;
 use scheduler::Outcome;
@@ -30,162 +22,6 @@ use scheduler::Select;
 use scheduler::State;
 use scheduler::Submission;
 use scheduler::Tickets;
-
-// So many nodes, from a minute on for so long.
-fn span(nodes: u32, from: u32, hold: u32) -> plan::Span
-    requires { ⌜ (from ≤ 1000000) × (hold ≤ longest) ⌝ }
-    ensures { λ r. ⌜ r ≡ spanAt nodes from hold ⌝ }
-{
-    plan::Span {
-        from: from,
-        until: from + hold,
-        nodes: nodes,
-    }
-}
-
-// The free nodes from now on, as a table: each live job's span is laid over the idle machine's. Their wall times are kept for later.
-fn tabulate(
-    d: Scheduler,
-    minutes: &mut [u32; 385],
-    free: &mut [u32; 385],
-    holds: &mut [u32; 64],
-) -> usize
-    requires { ⌜ Holds Planned d × (length (now minutes) ≡ rows) × (length (now free) ≡ rows) × (length (now holds) ≡ slots) ⌝ }
-    ensures { λ r. ⌜ Tabulated d r (now (minutes .exit)) (now (free .exit)) × HoldsTo (d .jobs) slots (now (holds .exit)) ⌝ }
-{
-    availability::idle(minutes, free, d.nodes, d.clock);
-    let mut count: usize = 1;
-    let mut i: usize = 0;
-    while i < Scheduler::LIVE {
-        let j = d.jobs[i];
-        if j.is_live() {
-            let hold = walltime::wall_time(j.estimate);
-            holds[i] = hold;
-            count = availability::lay(minutes, free, count, span(j.nodes, j.start, hold), false);
-        }
-        i += 1;
-    }
-    count
-}
-
-// The profile: the points of the table.
-pub fn profile_of(d: Scheduler) -> Profile
-    requires { ⌜ Holds Planned d ⌝ }
-    ensures { λ r. ⌜ r ≡ stored (points (view d)) ⌝ }
-{
-    let mut minutes = [0u32; 385];
-    let mut free = [0u32; 385];
-    let mut holds = [0u32; 64];
-    let count = tabulate(d, &mut minutes, &mut free, &mut holds);
-    Profile::of(&minutes, &free, count)
-}
-
-// The earliest minute, now or later, from which on so many nodes are free for so long.
-fn earliest(d: Scheduler, nodes: u32, hold: u32) -> u32
-    requires { ⌜ Askable d nodes hold ⌝ }
-    ensures { λ r. ⌜ r ≡ startFor (view d) nodes hold ⌝ }
-{
-    let mut minutes = [0u32; 385];
-    let mut free = [0u32; 385];
-    let mut holds = [0u32; 64];
-    let count = tabulate(d, &mut minutes, &mut free, &mut holds);
-    availability::search(&minutes, &free, count - 1, nodes, hold)
-}
-
-// A job at its place, and how many places the table with it there has.
-pub struct Replanned {
-    pub job: Job,
-    pub count: usize,
-}
-
-// Whether it waits and its planned start is this minute.
-fn starts_at(job: Job, now: u32) -> bool
-    ensures { λ r. ⌜ r ≡ startsAt now job ⌝ }
-{
-    let s = job.state;
-    match s {
-        State::Unused => false,
-        State::Waiting => job.start == now,
-        State::Running => false,
-    }
-}
-
-// The job with the planned start s; it runs if that is now.
-fn place(job: Job, now: u32, s: u32) -> Job
-    ensures { λ r. ⌜ r ≡ placed now s job ⌝ }
-{
-    if s == now {
-        return Job {
-            ticket: job.ticket,
-            nodes: job.nodes,
-            estimate: job.estimate,
-            state: State::Running,
-            start: s,
-            promise: job.promise,
-        };
-    }
-    Job {
-        ticket: job.ticket,
-        nodes: job.nodes,
-        estimate: job.estimate,
-        state: State::Waiting,
-        start: s,
-        promise: job.promise,
-    }
-}
-
-// A waiting job is taken out of the plan and put in again at its smallest minute, if that is another.
-fn replan(
-    job: Job,
-    hold: u32,
-    clock: u32,
-    minutes: &mut [u32; 385],
-    free: &mut [u32; 385],
-    count: usize,
-) -> Replanned
-    requires { ⌜ Replans (now minutes) (now free) count job clock × (hold ≡ wallTime (job .estimate)) ⌝ }
-    ensures { λ r. ⌜ ((q : Replans (now (minutes .entry)) (now (free .entry)) count job clock) → Turned q r (now (minutes .exit)) (now (free .exit))) ⌝ }
-{
-    let own = availability::split(minutes, free, count, job.start);
-    let start = availability::search(minutes, free, own.at, job.nodes, hold);
-    if start == job.start {
-        return Replanned {
-            job: job,
-            count: own.count,
-        };
-    }
-    let out = availability::lay_at(minutes, free, own, span(job.nodes, job.start, hold), true);
-    let back = availability::lay(minutes, free, out, span(job.nodes, start, hold), false);
-    Replanned {
-        job: place(job, clock, start),
-        count: back,
-    }
-}
-
-// Each waiting job, once, in ticket order, is taken out of the plan and put in again, the others staying at their places.
-fn replan_all(d: Scheduler) -> Scheduler
-    requires { ⌜ Holds Replannable d ⌝ }
-    ensures { λ r. ⌜ r ≡ withJobs d (pass (view d .settings) (d .clock) [] (d .jobs)) ⌝ }
-{
-    let clock = d.clock;
-    let mut minutes = [0u32; 385];
-    let mut free = [0u32; 385];
-    let mut holds = [0u32; 64];
-    let mut count = tabulate(d, &mut minutes, &mut free, &mut holds);
-    let mut e = d;
-    let mut i: usize = 0;
-    while i < Scheduler::LIVE {
-        let j = d.jobs[i];
-        if j.is_waiting() {
-            let t = replan(j, holds[i], clock, &mut minutes, &mut free, count);
-            let k = t.job;
-            e.jobs[i] = k;
-            count = t.count;
-        }
-        i += 1;
-    }
-    e
-}
 
 // The tickets of the jobs that wait before and run after, slot by slot.
 fn newly_running(before: Scheduler, after: Scheduler) -> Tickets
@@ -251,7 +87,7 @@ pub fn complete(d: Scheduler, ticket: u32) -> Outcome
         return d.refused(Refusal::NotRunning);
     }
     let rest = left.scheduler;
-    advance(ended, rest, replan_all(rest))
+    advance(ended, rest, planning::replan_all(rest))
 }
 
 // The outcome of a submission that is taken in with the planned start: that start is its promise.
@@ -269,7 +105,7 @@ fn accept(d: Scheduler, s: Submission, start: u32) -> Outcome
         start: start,
         promise: start,
     };
-    let job = place(order, now, start);
+    let job = planning::place(order, now, start);
     let mut later = d;
     later.next = ticket + 1;
     let scheduler = later.append(job);
@@ -297,13 +133,25 @@ pub fn submit(d: Scheduler, s: Submission) -> Outcome
     let refusal = d.check(s);
     if refusal.is_none() {
         let hold = walltime::wall_time(s.estimate);
-        let start = earliest(d, s.nodes, hold);
+        let start = planning::earliest(d, s.nodes, hold);
         if Scheduler::HORIZON < start + hold {
             return d.refused(Refusal::PastHorizon);
         }
         return accept(d, s, start);
     }
     d.refused(refusal)
+}
+
+// Whether it waits and its planned start is this minute.
+fn starts_at(job: Job, now: u32) -> bool
+    ensures { λ r. ⌜ r ≡ startsAt now job ⌝ }
+{
+    let s = job.state;
+    match s {
+        State::Unused => false,
+        State::Waiting => job.start == now,
+        State::Running => false,
+    }
 }
 
 // The waiting jobs whose planned start is now start.
@@ -315,7 +163,7 @@ fn start_due(d: Scheduler, now: u32) -> Scheduler
     while i < Scheduler::LIVE {
         let j = d.jobs[i];
         if starts_at(j, now) {
-            e.jobs[i] = place(j, now, now);
+            e.jobs[i] = planning::place(j, now, now);
         }
         i += 1;
     }

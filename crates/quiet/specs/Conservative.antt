@@ -19,7 +19,7 @@ use Rattle.scheduler.specs.Refusals.{tickRefusal}
 use Rattle.history.specs.Calls.{tick}
 use Rattle.conservative_rules.specs.Conservative.{call, ticked, advanced, begun, turned}
 use Rattle.conservative_rules.specs.Faithful.{startsAt, begun-turned}
-use Rattle.conservative.specs.Turn.{turned-other}
+use Rattle.planning.specs.Turn.{turned-other}
 use Rattle.easy.specs.Quiet.{later}
 
 module _ (m : Model) (l : suc (m .clock) ≤ horizon (m .settings))

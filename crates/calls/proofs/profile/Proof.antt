@@ -4,7 +4,7 @@ use mathlib.Core.Path.{ap, _∙_}
 use Rattle.scheduler.specs.declared.Kind.the-variants.{Conservative}
 use Rattle.jobs.specs.Premise.{holds-as}
 use Rattle.profile.specs.declared.Profile.{Profile}
-use Rattle.conservative.specs.Slots.{valid-planned}
+use Rattle.planning.specs.Slots.{valid-planned}
 use Rattle.guarantees.specs.Premise.{premise-of}
 use Rattle.calls.specs.Show.{showIn, show-conservative, show-easy}
 use borrow.Author.Needs.{needs}

@@ -5,9 +5,6 @@ use mathlib.Core.Path.{sym, ap, _∙_}
 use borrow.Author.Needs.{needs}
 use Rattle.conservative.proofs.began.Statement.{statement}
 use Rattle.conservative.proofs.began.Tie as tie
-use Rattle.conservative.proofs.began.Reads as reads
-use Rattle.conservative.proofs.began.Lts as lts
-use Rattle.scheduler.proofs.Job.is_waiting.Reads as is-waiting-reads
 
 enum-told : tie.Need-enum-told
 enum-told c = search needs

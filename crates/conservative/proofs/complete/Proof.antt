@@ -8,12 +8,6 @@ use Rattle.conservative.specs.Complete.{left-is, rest-held, taken-held, 
 use borrow.Author.Needs.{needs}
 use Rattle.conservative.proofs.complete.Statement.{statement}
 use Rattle.conservative.proofs.complete.Tie as tie
-use Rattle.conservative.proofs.complete.Reads as reads
-use Rattle.conservative.proofs.complete.Lts as lts
-use Rattle.conservative.proofs.advance.Reads as advance-reads
-use Rattle.conservative.proofs.replan_all.Reads as replan-all-reads
-use Rattle.scheduler.proofs.Scheduler.refused.Reads as refused-reads
-use Rattle.scheduler.proofs.Scheduler.remove.Reads as remove-reads
 
 remove-requires : tie.Need-remove-requires
 remove-requires c κs = search needs

@@ -1,6 +1,6 @@
 use mathlib.Core.Path.{_≡_, refl, sym, ap, _∙_}
 use mathlib.Core.Bool.{true, false}
-use mathlib.Core.List.{List, [], _∷_, _++_}
+use mathlib.Core.List.{List}
 use mathlib.Core.Logic.{⊎-elim}
 use Prim.Native.Nat.{ℕ, _+_, _-_, _≤_, _<_}
 use native.Mathlib.Omega.{arith}
@@ -17,9 +17,6 @@ use Rattle.conservative.specs.Advance.{began, begun-yes, begun-no}
 use borrow.Author.Needs.{needs}
 use Rattle.conservative.proofs.newly_running.Statement.{statement}
 use Rattle.conservative.proofs.newly_running.Tie as tie
-use Rattle.conservative.proofs.newly_running.Reads as reads
-use Rattle.conservative.proofs.newly_running.Lts as lts
-use Rattle.conservative.proofs.began.Reads as began-reads
 
 record Inv (before after : Scheduler) (list : List ℕ) (n i : ℕ) : Type 0 where
   low : i ≤ 64

@@ -2,7 +2,6 @@
 -- Assumes nothing.
 use mathlib.Core.Path.{_≡_, sym, ap, _∙_}
 use mathlib.Core.Bool.{true, false}
-use Prim.Native.Nat.{ℕ, _+_, _≤_, _<_}
 use native.Mathlib.Omega.{arith}
 use Rattle.walltime.specs.WallTime.{wallTime}
 use Rattle.walltime.specs.Laws.{wallTime-le}
@@ -10,7 +9,8 @@ use Rattle.scheduler.specs.Model.{view}
 use Rattle.scheduler.specs.Answers.{accepts, refusedOutcome}
 use Rattle.scheduler.specs.Refusals.{checked}
 use Rattle.conservative_rules.specs.Conservative.{planned}
-use Rattle.conservative.specs.Submit.{accepted, startFor, planned-low, askable, start-held, room-held, taken-held, past-held, checked-held}
+use Rattle.planning.specs.Earliest.{startFor}
+use Rattle.conservative.specs.Submit.{accepted, planned-low, askable, start-held, room-held, taken-held, past-held, checked-held}
 use borrow.Author.Needs.{needs}
 use Rattle.conservative.proofs.submit.Statement.{statement}
 use Rattle.conservative.proofs.submit.Tie as tie

@@ -10,12 +10,6 @@ use Rattle.conservative.specs.Tick.{ticks, ticks-stored, tick-refused}
 use borrow.Author.Needs.{needs}
 use Rattle.conservative.proofs.tick.Statement.{statement}
 use Rattle.conservative.proofs.tick.Tie as tie
-use Rattle.conservative.proofs.tick.Reads as reads
-use Rattle.conservative.proofs.tick.Lts as lts
-use Rattle.conservative.proofs.advance.Reads as advance-reads
-use Rattle.conservative.proofs.start_due.Reads as start-due-reads
-use Rattle.scheduler.proofs.Scheduler.refused.Reads as refused-reads
-use Rattle.scheduler.proofs.Scheduler.remove.Reads as remove-reads
 
 refused-requires : tie.Need-refused-requires
 refused-requires c κs = search needs

@@ -1,9 +1,9 @@
--- `conservative::profile_of` meets its contract: the points of the table are the profile.
+-- `planning::profile_of` meets its contract: the points of the table are the profile.
 -- Assumes nothing.
-use Rattle.conservative.specs.Slots.{tabled, tabled-points}
+use Rattle.planning.specs.Slots.{tabled, tabled-points}
 use borrow.Author.Needs.{needs}
-use Rattle.conservative.proofs.profile_of.Statement.{statement}
-use Rattle.conservative.proofs.profile_of.Tie as tie
+use Rattle.planning.proofs.profile_of.Statement.{statement}
+use Rattle.planning.proofs.profile_of.Tie as tie
 
 tabulate-requires : tie.Need-tabulate-requires
 tabulate-requires c κs = search needs

@@ -1,17 +1,17 @@
--- `conservative::tabulate` meets its contract: the slots passed are laid over the idle machine.
+-- `planning::tabulate` meets its contract: the slots passed are laid over the idle machine.
 -- Assumes nothing.
-use mathlib.Core.Path.{_≡_, sym, ap, _∙_}
+use mathlib.Core.Path.{_≡_, sym, _∙_}
 use mathlib.Core.Logic.{⊎-elim}
-use Prim.Native.Nat.{ℕ, _+_, _-_, _≤_, _<_}
+use Prim.Native.Nat.{_-_, _≤_, _<_}
 use native.Mathlib.Omega.{arith}
 use lib.ListN.{getD}
 use Rattle.walltime.specs.Laws.{wallTime-le}
 use Rattle.scheduler.specs.Jobs.{unused}
 use Rattle.scheduler.specs.Model.{view}
-use Rattle.conservative.specs.Slots.{Laying, HoldsTo, held-slots, start-low, laying-begin, holds-none, holds-more, holds-skip, lay, laid-more, laid-unused, laid-all}
+use Rattle.planning.specs.Slots.{Laying, HoldsTo, held-slots, start-low, laying-begin, holds-none, holds-more, holds-skip, lay, laid-more, laid-unused, laid-all}
 use borrow.Author.Needs.{needs}
-use Rattle.conservative.proofs.tabulate.Statement.{statement}
-use Rattle.conservative.proofs.tabulate.Tie as tie
+use Rattle.planning.proofs.tabulate.Statement.{statement}
+use Rattle.planning.proofs.tabulate.Tie as tie
 
 abbrev Inv-loop : tie.InvT-loop
 Inv-loop minutes₀ free₀ holds₀ d count₀ i₀ minutes free holds count i = (i ≤ 64) × Laying (view d .settings) (d .clock) (d .jobs) i count minutes free × HoldsTo (d .jobs) i holds

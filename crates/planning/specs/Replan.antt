@@ -1,35 +1,32 @@
 -- One turn of the pass after an early end: a waiting job is taken out of the plan and put in again at its smallest minute.
 -- Assumes nothing.
 use mathlib.Core.Path.{_≡_, refl, sym, ap, subst, _∙_}
-use mathlib.Core.Bool.{Bool, true, false, cond, _&&_}
-use mathlib.Core.List.{List, [], _∷_, _++_, map, map-append}
+use mathlib.Core.Bool.{true, false}
+use mathlib.Core.List.{List, [], _∷_, _++_, map-append}
 use Prim.Native.Nat.{ℕ, _+_, _≤_, _<_}
 use native.Mathlib.Omega.{arith}
 use lib.Dec.{eqb}
-use lib.ListN.{length, length-append, length-map}
+use lib.ListN.{length-append}
 use borrow.Author.Tests.{ne-eqb}
 use Rattle.lists.specs.Tests.{case, true-false}
-use Rattle.lists.specs.Lists.{All, In, here, all-append, all-in, in-left, in-right, sum-append}
-use Rattle.plan.specs.declared.Span.{Span}
-use Rattle.plan.specs.Spans.{takes, used, free, earliest, profile, Earliest}
+use Rattle.lists.specs.Lists.{All, here, all-in, in-right}
+use Rattle.plan.specs.Spans.{takes, used, free, earliest}
 use Rattle.plan.specs.Used.{used-among, takes-before, takes-in, free-less, free-more}
-use Rattle.plan.specs.Earliest.{earliest-is}
-use Rattle.plan.specs.Profile.{profile-same}
 use Rattle.walltime.specs.WallTime.{wallTime}
 use Rattle.walltime.specs.Laws.{wallTime-le}
 use Rattle.scheduler.specs.declared.Job.{Job}
 use Rattle.scheduler.specs.Jobs.{isWaiting, isLive}
-use Rattle.scheduler.specs.Settings.{Settings, horizon, holdTime, until}
+use Rattle.scheduler.specs.Settings.{Settings, horizon, until}
 use Rattle.availability.specs.declared.Row.{Row}
 use Rattle.availability.specs.Lists.{rows}
 use Rattle.availability.specs.Table.{Table, Ascends, Split}
 use Rattle.availability.specs.Laid.{LaysAt, LaidAt, Lays, Laid}
 use Rattle.availability.specs.Search.{Seeks, found}
 use Rattle.conservative_rules.specs.Conservative.{span, spans, placed, moved}
-use Rattle.conservative_rules.specs.Valid.{Follows, follows-start, moved-follows, used-append}
-use Rattle.conservative.specs.declared.Replanned.{Replanned}
-use Rattle.conservative.specs.Slots.{spanAt, Slots}
-use Rattle.conservative.specs.Turn.{turned-other}
+use Rattle.conservative_rules.specs.Valid.{Follows, follows-start, moved-follows}
+use Rattle.planning.specs.declared.Replanned.{Replanned}
+use Rattle.planning.specs.Slots.{spanAt, Slots}
+use Rattle.planning.specs.Turn.{turned-other}
 
 -- the lists are a table of the slots xs, j and ys, and j waits
 pub record Replans (ms fs : List ℕ) (n : ℕ) (j : Job) (now : ℕ) : Type 0 where

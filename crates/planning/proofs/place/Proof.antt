@@ -1,6 +1,6 @@
 use borrow.Author.Tests.{eq-eqb, ne-eqb}
-use Rattle.conservative.proofs.place.Statement.{statement}
-use Rattle.conservative.proofs.place.Tie as tie
+use Rattle.planning.proofs.place.Statement.{statement}
+use Rattle.planning.proofs.place.Tie as tie
 
 returns : tie.Need-returns
 returns c = rw (eq-eqb _ _ (c .if1 .taken))

@@ -1,21 +1,21 @@
 -- The plan on the 64 slots of the table: an unused slot takes nothing, so the slots plan as the model's jobs do.
 -- Assumes nothing.
 use mathlib.Core.Path.{_≡_, refl, sym, ap, subst, _∙_}
-use mathlib.Core.Bool.{Bool, true, false}
-use mathlib.Core.List.{List, [], _∷_, _++_, map, map-append}
+use mathlib.Core.Bool.{true, false}
+use mathlib.Core.List.{List, [], _∷_, map-append}
 use mathlib.Core.Logic.{_⊎_, inl, inr}
-use Prim.Native.Nat.{ℕ, zero, suc, _+_, _-_, _*_, _≤_, _<_}
+use Prim.Native.Nat.{ℕ, _+_, _*_, _≤_, _<_}
 use native.Mathlib.Numerals.{add-one}
 use native.Mathlib.Omega.{arith}
-use lib.ListN.{length, getD, take, drop, set, replicate, length-map, length-take, length-set, take-append-drop}
+use lib.ListN.{length, getD, take, drop, set, length-map, length-set, take-append-drop}
 use lib.Seq.{take-suc, take-all, getD-set-same, getD-set-other}
 use Rattle.lists.specs.Tests.{true-false, le-or}
-use Rattle.lists.specs.Lists.{sum, All, In, here, all-of, all-at, sum-append, sum-map}
+use Rattle.lists.specs.Lists.{All, all-of, all-at, sum-append, sum-map}
 use Rattle.lists.specs.Pads.{pad, sum-pad, length-pad, all-pad}
 use Rattle.plan.specs.declared.Span.{Span}
 use Rattle.plan.specs.Spans.{takes, used, free, profile}
 use Rattle.plan.specs.Used.{takes-le, free-less}
-use Rattle.plan.specs.Profile.{profile-same}
+use Rattle.plan.specs.Profile.{profile-same, profile-length}
 use Rattle.walltime.specs.WallTime.{wallTime}
 use Rattle.scheduler.specs.declared.Job.{Job}
 use Rattle.scheduler.specs.declared.Scheduler.{Scheduler}
@@ -25,7 +25,7 @@ use Rattle.scheduler.specs.declared.State.the-variants.{Unused, Waiting, Runnin
 use Rattle.scheduler.specs.Jobs.{unused, isLive, isWaiting, live?, waiting?}
 use Rattle.scheduler.specs.Settings.{Settings, horizon, until}
 use Rattle.scheduler.specs.Model.{Model, store, view}
-use Rattle.jobs.specs.Sound.{Sound, SoundJob}
+use Rattle.jobs.specs.Sound.{Sound}
 use Rattle.jobs.specs.Premise.{Holds}
 use Rattle.profile.specs.declared.Profile.{Profile}
 use Rattle.profile.specs.Stored.{stored}
@@ -207,3 +207,8 @@ unfolding tabled view
 tabled-points d h t f =
     f (tabled d h t)
     ∙ ap stored (profile-same (view d .settings .nodes) (spans (view d .settings) (d .jobs)) (spans (view d .settings) (view d .jobs)) (d .clock) (λ t l. used-held d h t))
+
+-- the profile fits its array
+pub points-fit : (d : Scheduler) → Holds Valid d → length (points (view d)) ≤ 129
+points-fit d h =
+    omega (arith, profile-length (view d .settings .nodes) (spans (view d .settings) (view d .jobs)) (view d .clock), h .holds .sound .few, length-map (view d .jobs) (span (view d .settings)))

@@ -1,22 +1,15 @@
--- A tick's starts on the slots of the table, and on the model.
+-- One job at a minute: it starts if it waits and is planned for then, and stays as it is otherwise.
 -- Assumes nothing.
-use mathlib.Core.Path.{_≡_, refl, sym, ap, _∙_}
+use mathlib.Core.Path.{_≡_, refl, ap}
 use mathlib.Core.Bool.{Bool, true, false, _&&_, cond}
-use mathlib.Core.List.{List, [], _∷_, _++_, map, map-append}
-use Prim.Native.Nat.{ℕ, zero, suc, _-_}
+use Prim.Native.Nat.{ℕ}
 use lib.Dec.{eqb}
-use lib.ListN.{length, replicate, length-map}
 use borrow.Author.Tests.{eqb-true}
 use Rattle.lists.specs.Tests.{true-false}
-use Rattle.lists.specs.Pads.{pad}
 use Rattle.scheduler.specs.declared.State.{State}
 use Rattle.scheduler.specs.declared.State.the-variants.{Unused, Waiting, Running}
 use Rattle.scheduler.specs.declared.Job.{Job}
-use Rattle.scheduler.specs.declared.Scheduler.{Scheduler}
-use Rattle.scheduler.specs.Limits.{slots}
-use Rattle.scheduler.specs.Jobs.{unused, waiting?}
-use Rattle.scheduler.specs.Table.{withJobs}
-use Rattle.scheduler.specs.Model.{Model, store, withModelJobs}
+use Rattle.scheduler.specs.Jobs.{waiting?}
 use Rattle.conservative_rules.specs.Conservative.{placed, turned}
 use Rattle.conservative_rules.specs.Faithful.{startsAt}
 
@@ -41,19 +34,3 @@ turned-other now j e = go (j .state) e
     go Unused q = refl
     go Waiting q = ap (λ (t : Bool). job (cond t Running Waiting) (j .start) j) q
     go Running q = refl
-
--- unused slots stay unused
-turned-same : (now k : ℕ) → map (turned now) (replicate k unused) ≡ replicate k unused
-turned-same now zero = refl
-turned-same now (suc k) = ap (λ (l : List Job). unused ∷ l) (turned-same now k)
-
-pub turned-pad : (now : ℕ) (js : List Job) → map (turned now) (pad slots unused js) ≡ pad slots unused (map (turned now) js)
-unfolding pad
-turned-pad now js =
-    map-append (turned now) js (replicate (slots - length js) unused)
-    ∙ rw (turned-same now (slots - length js), length-map js (turned now))
-
--- the slots of a stored model
-pub turned-stored : (now : ℕ) (m : Model) → withJobs (store m) (map (turned now) (store m .jobs)) ≡ store (withModelJobs m (map (turned now) (m .jobs)))
-unfolding store
-turned-stored now m = ap (withJobs (store m)) (turned-pad now (m .jobs))

@@ -1,10 +1,9 @@
--- `conservative::earliest` meets its contract: from the last place of the table on all nodes are free.
+-- `planning::earliest` meets its contract: from the last place of the table on all nodes are free.
 -- Assumes nothing.
-use native.Mathlib.Omega.{arith}
-use Rattle.conservative.specs.Submit.{seeks-last, last-found}
+use Rattle.planning.specs.Earliest.{seeks-last, last-found}
 use borrow.Author.Needs.{needs}
-use Rattle.conservative.proofs.earliest.Statement.{statement}
-use Rattle.conservative.proofs.earliest.Tie as tie
+use Rattle.planning.proofs.earliest.Statement.{statement}
+use Rattle.planning.proofs.earliest.Tie as tie
 
 tabulate-requires : tie.Need-tabulate-requires
 tabulate-requires c κs = search needs

@@ -1,17 +1,17 @@
 -- The pass after an early end, over the slots of the table: each waiting job has its turn, once, in ticket order.
 -- Assumes nothing.
 use mathlib.Core.Path.{_≡_, refl, sym, ap, subst, _∙_}
-use mathlib.Core.Bool.{Bool, true, false, cond}
-use mathlib.Core.List.{List, [], _∷_, _++_, append-nil}
+use mathlib.Core.Bool.{true, false}
+use mathlib.Core.List.{List, [], _∷_, _++_}
 use Prim.Native.Nat.{ℕ, zero, suc, _+_, _-_, _*_, _≤_, _<_}
 use native.Mathlib.Numerals.{add-one}
 use native.Mathlib.Nat.{add-zero}
 use native.Mathlib.Omega.{arith}
-use lib.ListN.{length, getD, take, drop, set, replicate, take-append-drop, length-drop}
-use lib.Seq.{set-split, set-getD, split-at, drop-set-lt, drop-drop, getD-drop, drop-cons}
+use lib.ListN.{length, getD, take, drop, set, replicate}
+use lib.Seq.{set-split, set-getD, split-at, drop-set-lt, drop-drop, getD-drop}
 use Rattle.lists.specs.Tests.{true-false}
 use Rattle.lists.specs.Lists.{All, In, all-of, all-in, all-at}
-use Rattle.lists.specs.Pads.{pad, all-pad, length-pad}
+use Rattle.lists.specs.Pads.{pad, all-pad}
 use Rattle.plan.specs.Spans.{used, free}
 use Rattle.walltime.specs.WallTime.{wallTime}
 use Rattle.walltime.specs.Laws.{wallTime-pos}
@@ -24,12 +24,12 @@ use Rattle.scheduler.specs.Table.{withJobs}
 use Rattle.scheduler.specs.Model.{Model, store, view, withModelJobs}
 use Rattle.jobs.specs.Premise.{Holds}
 use Rattle.availability.specs.Table.{Table}
-use Rattle.conservative_rules.specs.Conservative.{spans, moved, pass, points}
+use Rattle.conservative_rules.specs.Conservative.{spans, moved, pass}
 use Rattle.conservative_rules.specs.Valid.{used-append}
-use Rattle.conservative_rules.specs.Loops.{Same, moved-same, turn, loop, pass-as-loop}
-use Rattle.conservative.specs.declared.Replanned.{Replanned}
-use Rattle.conservative.specs.Slots.{Planned, Slots, Tabulated, planned-slots, takes-unused}
-use Rattle.conservative.specs.Replan.{Replans, Turned, movedTo, fits-after}
+use Rattle.conservative_rules.specs.Loops.{moved-same, loop, pass-as-loop}
+use Rattle.planning.specs.declared.Replanned.{Replanned}
+use Rattle.planning.specs.Slots.{Planned, Slots, Tabulated, planned-slots, takes-unused}
+use Rattle.planning.specs.Replan.{Replans, Turned, movedTo, fits-after}
 
 -- a model whose waiting jobs are planned for later than now
 pub record Replannable (m : Model) : Type 0 where

@@ -1,14 +1,14 @@
--- `conservative::replan` meets its contract.
+-- `planning::replan` meets its contract.
 -- Assumes nothing.
 use mathlib.Core.Path.{_≡_, sym, ap, _∙_}
 use Prim.Native.Nat.{ℕ}
 use native.Mathlib.Omega.{arith}
 use Rattle.walltime.specs.Laws.{wallTime-le}
-use Rattle.conservative_rules.specs.Conservative.{span, placed}
-use Rattle.conservative.specs.Replan.{movedTo, start-of, ascends, seeks, startAt, start-is, moved-is, moved-low, moved-span, take-out, back, turned-stays, turned-moves}
+use Rattle.conservative_rules.specs.Conservative.{placed}
+use Rattle.planning.specs.Replan.{movedTo, start-of, ascends, seeks, startAt, start-is, moved-is, moved-low, moved-span, take-out, back, turned-stays, turned-moves}
 use borrow.Author.Needs.{needs}
-use Rattle.conservative.proofs.replan.Statement.{statement}
-use Rattle.conservative.proofs.replan.Tie as tie
+use Rattle.planning.proofs.replan.Statement.{statement}
+use Rattle.planning.proofs.replan.Tie as tie
 
 split-requires : tie.Need-split-requires
 split-requires c κs = (ascends (c .before .before .pre .0), c .before .before .pre .0 .table .free-long, omega (arith, c .before .before .pre .0 .room-left))

@@ -1,21 +1,21 @@
--- `conservative::replan_all` meets its contract: so many turns are over, and the table is that of the slots.
+-- `planning::replan_all` meets its contract: so many turns are over, and the table is that of the slots.
 -- Assumes nothing.
 use mathlib.Core.Path.{_≡_, refl, sym, ap, _∙_}
 use mathlib.Core.List.{List}
 use mathlib.Core.Logic.{⊎-elim}
-use Prim.Native.Nat.{ℕ, _+_, _-_, _≤_, _<_}
+use Prim.Native.Nat.{ℕ, _-_, _<_}
 use native.Mathlib.Omega.{arith}
 use lib.ListN.{set, getD}
 use Rattle.scheduler.specs.Jobs.{unused}
 use Rattle.scheduler.specs.declared.Scheduler.{Scheduler}
-use Rattle.scheduler.specs.Model.{Model, view}
+use Rattle.scheduler.specs.Model.{view}
 use Rattle.scheduler.specs.Table.{withJobs}
-use Rattle.jobs.specs.Premise.{Holds, holds-as}
-use Rattle.conservative.specs.Slots.{Planned, waiting-live}
-use Rattle.conservative.specs.Pass.{Replannable, Passing, held-before, pass-begins, replans, turn-taken, turn-passed, pass-ends}
+use Rattle.jobs.specs.Premise.{holds-as}
+use Rattle.planning.specs.Slots.{Planned, waiting-live}
+use Rattle.planning.specs.Pass.{Replannable, Passing, held-before, pass-begins, replans, turn-taken, turn-passed, pass-ends}
 use borrow.Author.Needs.{needs}
-use Rattle.conservative.proofs.replan_all.Statement.{statement}
-use Rattle.conservative.proofs.replan_all.Tie as tie
+use Rattle.planning.proofs.replan_all.Statement.{statement}
+use Rattle.planning.proofs.replan_all.Tie as tie
 
 record Inv (d e : Scheduler) (i n : ℕ) (ms fs : List ℕ) : Type 0 where
   scheduler-is : e ≡ withJobs d (e .jobs)

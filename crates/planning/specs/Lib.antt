@@ -1,0 +1,5 @@
+pub mod Slots
+pub mod Earliest
+pub mod Turn
+pub mod Replan
+pub mod Pass
