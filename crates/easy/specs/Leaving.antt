@@ -27,8 +27,8 @@ use Rattle.scheduler.specs.TableLaws.{located-stored}
 use Rattle.jobs.specs.Order.{Asc, asc-in}
 use Rattle.jobs.specs.Sound.{Sound}
 use Rattle.jobs.specs.Premise.{Holds}
-use Rattle.easy.specs.Slots.{slots-are}
-use Rattle.easy.specs.Choosing.{slot-at}
+use Rattle.backfill.specs.Slots.{slots-are}
+use Rattle.backfill.specs.Choosing.{slot-at}
 
 -- without the element at n
 abbrev pub cut : ℕ → List Job → List Job
