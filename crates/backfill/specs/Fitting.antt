@@ -4,10 +4,9 @@ use Prim.Native.Nat.{ℕ, zero, suc, _+_, _≤_, _<_}
 use native.Mathlib.Omega.{arith}
 use native.Mathlib.Numerals.{add-one}
 use mathlib.Core.Path.{_≡_, refl, sym, ap, _∙_}
-use mathlib.Core.Bool.{Bool, true, false, _&&_, _||_}
+use mathlib.Core.Bool.{Bool, true, false}
 use mathlib.Core.Option.{Option, none}
 use mathlib.Core.List.{List, [], _∷_}
-use lib.Dec.{leb}
 use lib.ListN.{length, getD, drop, drop-of-length-le}
 use lib.Seq.{drop-cons}
 use borrow.Author.Tests.{leb-false}
@@ -27,7 +26,7 @@ use Rattle.jobs.specs.Premise.{Holds}
 use Rattle.easy_rules.specs.Easy.{free, choice}
 use Rattle.backfill.specs.declared.Window.{Window}
 use Rattle.backfill.specs.Choice.{jobAt, window, admits, fits}
-use Rattle.backfill.specs.Choosing.{slot-at, none-chosen, head-low, forward-chosen}
+use Rattle.backfill.specs.Choosing.{slot-at, none-chosen, forward-chosen}
 
 module _ (p : Job → Bool) (js : List Job) (i : ℕ) where
   pub any-miss : i < length js → p (getD js i unused) ≡ false → any p (drop i js) ≡ any p (drop (i + 1) js)
