@@ -33,7 +33,7 @@ use Rattle.jobs.specs.Premise.{Holds, refused-held}
 use Rattle.history.specs.Calls.{submit, complete, tick}
 use Rattle.easy_rules.specs.Easy.{finished, newJob, submitRefusal, advanced, call}
 use Rattle.easy_rules.specs.Valid.{Ready, Valid, latestEnd, submits, completes, ticks, moved-ready}
-use Rattle.easy.specs.Slots.{slots-are}
+use Rattle.backfill.specs.Slots.{slots-are}
 use Rattle.easy.specs.Starting.{valid-sound}
 use Rattle.easy.specs.Replies.{Leaves}
 use Rattle.easy.specs.Replying.{withClock}

@@ -4,11 +4,11 @@ use Prim.Native.Nat.{ℕ, zero, suc, _+_, _-_, _≤_, _<_}
 use native.Mathlib.Omega.{arith}
 use native.Mathlib.Numerals.{add-one}
 use mathlib.Core.Path.{_≡_, refl, sym, ap, _∙_}
-use mathlib.Core.Bool.{Bool, true, false, not}
+use mathlib.Core.Bool.{true, false, not}
 use mathlib.Core.Option.{some}
 use mathlib.Core.List.{List, [], _∷_, _++_, append-assoc}
 use lib.Dec.{eqb}
-use lib.ListN.{length, getD, take, drop, replicate, replicate-append-replicate}
+use lib.ListN.{length, getD, take, replicate, replicate-append-replicate}
 use lib.Seq.{take-suc, length-take-le}
 use borrow.Author.Tests.{eqb-true, ne-eqb}
 use Rattle.lists.specs.Tests.{case, both, and-right-false}
@@ -22,13 +22,13 @@ use Rattle.scheduler.specs.declared.Select.the-variants as select
 use Rattle.scheduler.specs.Limits.{slots}
 use Rattle.scheduler.specs.Jobs.{unused, isRunning, runsAs, picks}
 use Rattle.scheduler.specs.Table.{withJobs, ticketsOf, located, staying}
-use Rattle.scheduler.specs.Model.{Model, view, store, without}
+use Rattle.scheduler.specs.Model.{view, store, without}
 use Rattle.scheduler.specs.TableLaws.{located-stored}
 use Rattle.jobs.specs.Order.{Asc, asc-in}
 use Rattle.jobs.specs.Sound.{Sound}
 use Rattle.jobs.specs.Premise.{Holds}
-use Rattle.easy.specs.Slots.{slots-are}
-use Rattle.easy.specs.Choosing.{slot-at}
+use Rattle.backfill.specs.Slots.{slots-are}
+use Rattle.backfill.specs.Choosing.{slot-at}
 
 -- without the element at n
 abbrev pub cut : ℕ → List Job → List Job

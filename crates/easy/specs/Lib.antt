@@ -1,8 +1,3 @@
-pub mod Minutes
-pub mod Choice
-pub mod Slots
-pub mod Choosing
-pub mod Fitting
 pub mod Leaving
 pub mod Starts
 pub mod Starting

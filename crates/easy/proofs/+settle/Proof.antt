@@ -13,7 +13,7 @@ use Rattle.scheduler.specs.Table.{counted}
 use Rattle.scheduler.specs.Model.{view}
 use Rattle.scheduler.specs.declared.Select.the-variants as select
 use Rattle.easy_rules.specs.Easy.{choice}
-use Rattle.easy.specs.Choice.{jobAt}
+use Rattle.backfill.specs.Choice.{jobAt}
 use Rattle.easy.specs.Starts.{startAt, push, Settleable}
 use Rattle.easy.specs.Starting.{sound-of, start-low, start-ready, start-fewer, start-settles, rest-settles}
 use Rattle.easy.proofs.+settle.{statement}
@@ -21,7 +21,7 @@ use Rattle.easy.proofs.+settle.Tie.{close}
 use Rattle.easy.proofs.settle.Reads as settle
 use Rattle.easy.proofs.settle.Kinds as settle-kinds
 use Rattle.easy.proofs.+settle.Lts-settle as settle-lts
-use Rattle.easy.proofs.choose.Reads as choose-reads
+use Rattle.backfill.proofs.choose.Reads as choose-reads
 use Rattle.easy.proofs.push.Reads as push-reads
 use Rattle.easy.proofs.start_at.Reads as start-at-reads
 

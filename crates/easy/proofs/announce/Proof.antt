@@ -4,7 +4,7 @@ use lib.ListN.{getD}
 use borrow.Author.Needs.{needs}
 use Rattle.scheduler.specs.Jobs.{unused}
 use Rattle.scheduler.specs.Model.{view}
-use Rattle.easy.specs.Choosing.{no-head, head-low, head-is, head-ticket, head-within, head-lacking}
+use Rattle.backfill.specs.Choosing.{no-head, head-low, head-is, head-ticket, head-within, head-lacking}
 use Rattle.easy.specs.Starting.{valid-sound}
 use Rattle.easy.specs.Replies.{announced}
 use Rattle.easy.specs.Replying.{forecast-none, forecast-same, forecast-new}

@@ -1,7 +1,7 @@
 use mathlib.Core.Path.{_≡_, sym, ap, _∙_}
 use borrow.Author.Needs.{needs}
 use Rattle.scheduler.specs.Answers.{noTickets}
-use Rattle.easy.specs.Choice.{jobAt}
+use Rattle.backfill.specs.Choice.{jobAt}
 use Rattle.easy.specs.Starting.{sound-of, rest-settles}
 use Rattle.easy.specs.Replying.{ready-settles}
 use Rattle.easy.proofs.settle_all.Statement.{statement}

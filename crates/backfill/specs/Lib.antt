@@ -1,0 +1,5 @@
+pub mod Minutes
+pub mod Choice
+pub mod Slots
+pub mod Choosing
+pub mod Fitting
