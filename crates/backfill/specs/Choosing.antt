@@ -26,7 +26,7 @@ use Rattle.easy_rules.specs.Easy.{head, free, qualifies, choice}
 use Rattle.easy_rules.specs.First.{first-nowhere}
 use Rattle.easy_rules.specs.Code.{head-first, passes, passes-stored, job-stored, head-at, choice-empty, choice-fits, choice-passes, choice-rests}
 use Rattle.backfill.specs.Choice.{jobAt, window, admits}
-use Rattle.backfill.specs.Slots.{slots-are}
+use Rattle.jobs.specs.Slots.{slots-are}
 
 pub slot-at : (o : Option ℕ) (i : ℕ) → slot o ≡ At i → o ≡ some i
 slot-at none i e = absurd (let z : _≡_ {A = ℕ} 0 1 = cc in omega arith)

@@ -4,3 +4,4 @@ pub mod Valid
 pub mod Lawful
 pub mod Loops
 pub mod Faithful
+pub mod Turn

@@ -3,5 +3,4 @@ pub mod Starts
 pub mod Starting
 pub mod Replies
 pub mod Replying
-pub mod Quiet
 pub mod Calling

@@ -27,7 +27,7 @@ use Rattle.easy_rules.specs.Easy.{queue, choice, begun, begin, Settling, settle
 use Rattle.easy_rules.specs.Settling.{Chosen, chosen, one-fewer, asc-begin, Settles, rest, start, settles}
 use Rattle.easy_rules.specs.Valid.{Ready, Valid, begin-ready}
 use Rattle.easy_rules.specs.Code.{begin-stored, settle-rests, settle-goes}
-use Rattle.backfill.specs.Slots.{slots-are}
+use Rattle.jobs.specs.Slots.{slots-are}
 use Rattle.backfill.specs.Choosing.{slot-job}
 use Rattle.easy.specs.Starts.{startAt, push, followed, settlement}
 

@@ -6,3 +6,4 @@ pub mod Valid
 pub mod Lawful
 pub mod Code
 pub mod Faithful
+pub mod Quiet

@@ -2,3 +2,4 @@ pub mod Order
 pub mod Sound
 pub mod Premise
 pub mod Judged
+pub mod Slots

@@ -1,5 +1,4 @@
 pub mod Slots
 pub mod Earliest
-pub mod Turn
 pub mod Replan
 pub mod Pass

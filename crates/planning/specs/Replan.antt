@@ -26,7 +26,7 @@ use Rattle.conservative_rules.specs.Conservative.{span, spans, placed, moved}
 use Rattle.conservative_rules.specs.Valid.{Follows, follows-start, moved-follows}
 use Rattle.planning.specs.declared.Replanned.{Replanned}
 use Rattle.planning.specs.Slots.{spanAt, Slots}
-use Rattle.planning.specs.Turn.{turned-other}
+use Rattle.conservative_rules.specs.Turn.{turned-other}
 
 -- the lists are a table of the slots xs, j and ys, and j waits
 pub record Replans (ms fs : List ℕ) (n : ℕ) (j : Job) (now : ℕ) : Type 0 where

@@ -19,8 +19,8 @@ use Rattle.scheduler.specs.Refusals.{tickRefusal}
 use Rattle.history.specs.Calls.{tick}
 use Rattle.conservative_rules.specs.Conservative.{call, ticked, advanced, begun, turned}
 use Rattle.conservative_rules.specs.Faithful.{startsAt, begun-turned}
-use Rattle.planning.specs.Turn.{turned-other}
-use Rattle.easy.specs.Quiet.{later}
+use Rattle.conservative_rules.specs.Turn.{turned-other}
+use Rattle.easy_rules.specs.Quiet.{later}
 
 module _ (m : Model) (l : suc (m .clock) ≤ horizon (m .settings))
     (stays : (j : Job) → In j (m .jobs) → endsAt (suc (m .clock)) j ≡ false)

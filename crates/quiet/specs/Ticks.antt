@@ -24,7 +24,7 @@ use Rattle.conservative_rules.specs.Faithful.{startsAt}
 use Rattle.guarantees.specs.Rules.{rulesOf, call}
 use Rattle.guarantees.specs.Premise.{Valid, ValidBy, Premise, call-valid}
 use Rattle.guarantees.specs.Chain.{handed, handed-is}
-use Rattle.easy.specs.Quiet as easy
+use Rattle.easy_rules.specs.Quiet as easy
 use Rattle.quiet.specs.Due.{dueAt, Quiet}
 use Rattle.quiet.specs.Conservative as conservative
 

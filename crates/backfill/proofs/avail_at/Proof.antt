@@ -12,7 +12,8 @@ use Rattle.scheduler.specs.Model.{view}
 use Rattle.scheduler.proofs.Whole.{whole}
 use Rattle.easy_rules.specs.Easy.{freed, avail}
 use Rattle.easy_rules.specs.Code.{avail-to}
-use Rattle.backfill.specs.Slots.{slots-freed, slots-low}
+use Rattle.jobs.specs.Slots.{slots-low}
+use Rattle.backfill.specs.Slots.{slots-freed}
 use Rattle.backfill.proofs.avail_at.Statement.{statement}
 use Rattle.backfill.proofs.avail_at.Tie as tie
 

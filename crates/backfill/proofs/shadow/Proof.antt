@@ -10,7 +10,8 @@ use Rattle.scheduler.specs.Model.{view}
 use Rattle.scheduler.proofs.Whole.{whole}
 use Rattle.easy_rules.specs.Easy.{shadow}
 use Rattle.easy_rules.specs.Code.{earliest, earliest-step, earliest-done}
-use Rattle.backfill.specs.Slots.{slots-low, slots-shadow}
+use Rattle.jobs.specs.Slots.{slots-low}
+use Rattle.backfill.specs.Slots.{slots-shadow}
 use Rattle.backfill.proofs.shadow.Statement.{statement}
 use Rattle.backfill.proofs.shadow.Tie as tie
 

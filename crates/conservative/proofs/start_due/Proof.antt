@@ -13,7 +13,7 @@ use Rattle.scheduler.specs.Jobs.{unused}
 use Rattle.scheduler.specs.Table.{withJobs}
 use Rattle.scheduler.proofs.Whole.{whole}
 use Rattle.conservative_rules.specs.Conservative.{turned}
-use Rattle.planning.specs.Turn.{turned-due, turned-other}
+use Rattle.conservative_rules.specs.Turn.{turned-due, turned-other}
 use borrow.Author.Needs.{needs}
 use Rattle.conservative.proofs.start_due.Statement.{statement}
 use Rattle.conservative.proofs.start_due.Tie as tie

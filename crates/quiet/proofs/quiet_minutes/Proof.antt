@@ -4,7 +4,7 @@ use native.Mathlib.Omega.{arith}
 use Prim.Native.Nat.{_-_}
 use Rattle.scheduler.proofs.Whole.{whole}
 use Rattle.guarantees.specs.Premise.{premise-sound}
-use Rattle.backfill.specs.Slots.{slots-low}
+use Rattle.jobs.specs.Slots.{slots-low}
 use Rattle.quiet.specs.Ahead.{Asked, asked-none, asked-more, asked-all}
 use borrow.Author.Needs.{needs}
 use Rattle.quiet.proofs.quiet_minutes.Statement.{statement}
