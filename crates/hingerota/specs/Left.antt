@@ -4,11 +4,7 @@
 use mathlib.Core.Path.{_≡_, refl, sym, ap, subst, _∙_}
 use mathlib.Core.Bool.{false}
 use lib.Dec.{eqb}
-use Rattle.scheduler.specs.declared.Refusal.{Refusal}
-use Rattle.scheduler.specs.declared.Refusal.the-variants as refusal
-use Rattle.scheduler.specs.Answers.{code, accepts}
 use Rattle.history.specs.Calls.{Call}
-use Rattle.guarantees.specs.Chain as scheduler
 use Rattle.lent_calls.specs.Left.{refused-gives}
 use Rattle.hingerota.specs.declared.Desk.{Desk}
 use Rattle.hingerota.specs.declared.Answer.{Answer}
@@ -23,24 +19,8 @@ pub record Leaves (d : Desk) (c : Call) (a : Answer) (e : Desk) : Type 0 where
   pub handed : Handed e
   pub refused : eqb (a .refusal) 0 ≡ false → e ≡ d
 
--- 0 is the number of no refusal
-pub taken-is-0 : (r : Refusal) → eqb (code r) 0 ≡ accepts r
-taken-is-0 refusal.None = refl
-taken-is-0 refusal.NodesOutOfRange = refl
-taken-is-0 refusal.MinutesOutOfRange = refl
-taken-is-0 refusal.OpeningOutOfRange = refl
-taken-is-0 refusal.Full = refl
-taken-is-0 refusal.NoTicketLeft = refl
-taken-is-0 refusal.PastHorizon = refl
-taken-is-0 refusal.NotRunning = refl
-taken-is-0 refusal.ProfileTooLong = refl
-taken-is-0 refusal.Malformed = refl
-taken-is-0 refusal.TooShort = refl
-
 refused-keeps : (d : Desk) (c : Call) → Handed d → eqb (gives d c .answer .refusal) 0 ≡ false → gives d c .desk ≡ d
-refused-keeps d c h q =
-    let r = scheduler.gives (read d) c .answer .refusal in
-    ap mirror (refused-gives (read d) c (h .premise) (sym (taken-is-0 r) ∙ q)) ∙ sym (h .mirrored)
+refused-keeps d c h q = ap mirror (refused-gives (read d) c (h .premise) q) ∙ sym (h .mirrored)
 
 -- what a call by value gives, the call on the lent desk leaves
 pub leaves-given : (d : Desk) (c : Call) (o : Outcome) → Handed d → o ≡ gives d c → Leaves d c (o .answer) (o .desk)

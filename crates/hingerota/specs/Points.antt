@@ -24,7 +24,6 @@ use Rattle.hingerota.specs.declared.Shown.{Shown}
 use Rattle.hingerota.specs.declared.ProfileOutcome.{ProfileOutcome}
 use Rattle.hingerota.specs.Mirror.{read}
 use Rattle.hingerota.specs.Handed.{Handed}
-use Rattle.hingerota.specs.Left.{taken-is-0}
 
 abbrev pub mirrorPoint : plan-point.Point → Point
 mirrorPoint p = record { minute = p .minute; free = p .free }
@@ -84,7 +83,7 @@ module _ (d : Desk) (lent : List Point) where
 
   refused-over : eqb (answerFor d (length lent) .refusal) 0 ≡ false → over (pointsFor d (length lent)) lent ≡ lent
   unfolding written
-  refused-over e = let q = sym (taken-is-0 (shown (view (read d)) (length lent) .refusal)) ∙ e in rw q
+  refused-over e = rw e
 
   pub shows-given : (p : ProfileOutcome) → p ≡ given → Shows d lent (p .answer) (tabulate (p .count) (pointAt p) ++ drop (p .count) lent)
   unfolding showing

@@ -1,9 +1,10 @@
 -- What calls answer. Document 01: "A refusal gives its number, no tickets, and the desk and any lent list unchanged."
 -- Assumes nothing.
-use mathlib.Core.Bool.{Bool, true, false, cond}
+use mathlib.Core.Bool.{Bool, cond}
 use mathlib.Core.List.{List, [], _∷_}
 use mathlib.Core.Option.{Option, none, some}
 use Prim.Native.Nat.{ℕ}
+use lib.Dec.{eqb}
 use Rattle.scheduler.specs.declared.Refusal.{Refusal}
 use Rattle.scheduler.specs.declared.Refusal.the-variants as refusal
 use Rattle.scheduler.specs.declared.Tickets.{Tickets}
@@ -32,18 +33,9 @@ unfoldable pub verdict : List (Bool × Refusal) → Refusal
 verdict [] = refusal.None
 verdict (t ∷ ts) = cond (t .0) (t .1) (verdict ts)
 
+-- nothing is refused
 abbrev pub accepts : Refusal → Bool
-accepts refusal.None = true
-accepts refusal.NodesOutOfRange = false
-accepts refusal.MinutesOutOfRange = false
-accepts refusal.OpeningOutOfRange = false
-accepts refusal.Full = false
-accepts refusal.NoTicketLeft = false
-accepts refusal.PastHorizon = false
-accepts refusal.NotRunning = false
-accepts refusal.ProfileTooLong = false
-accepts refusal.Malformed = false
-accepts refusal.TooShort = false
+accepts r = eqb (code r) 0
 
 -- a job that is head now and was not before, with its forecast
 pub record Forecast : Type 0 where

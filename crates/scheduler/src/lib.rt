@@ -155,19 +155,7 @@ impl Refusal {
     pub fn is_none(self) -> bool
         ensures { λ r. ⌜ r ≡ accepts self ⌝ }
     {
-        match self {
-            Refusal::None => true,
-            Refusal::NodesOutOfRange => false,
-            Refusal::MinutesOutOfRange => false,
-            Refusal::OpeningOutOfRange => false,
-            Refusal::Full => false,
-            Refusal::NoTicketLeft => false,
-            Refusal::PastHorizon => false,
-            Refusal::NotRunning => false,
-            Refusal::ProfileTooLong => false,
-            Refusal::Malformed => false,
-            Refusal::TooShort => false,
-        }
+        self.code() == 0
     }
 }
 

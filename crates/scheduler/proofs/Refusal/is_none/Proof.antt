@@ -1,0 +1,17 @@
+-- `scheduler::Refusal::is_none` meets its contract.
+-- Assumes nothing.
+use mathlib.Core.Path.{ap}
+use Prim.Native.Nat.{ℕ}
+use lib.Dec.{eqb}
+use borrow.Author.Needs.{needs}
+use Rattle.scheduler.proofs.Refusal.is_none.Statement.{statement}
+use Rattle.scheduler.proofs.Refusal.is_none.Tie as tie
+
+code-requires : tie.Need-code-requires
+code-requires c κs = search needs
+
+returns : tie.Need-returns
+returns c = ap (λ (n : ℕ). eqb n 0) (c .code .ensures)
+
+pub is-none-spec : {M : Type 1} → statement M
+is-none-spec = tie.close (tie.spec code-requires returns)
