@@ -16,6 +16,7 @@ use Rattle.scheduler.specs.declared.Refusal.{Refusal}
 use Rattle.scheduler.specs.declared.Refusal.the-variants as refusal
 use Rattle.scheduler.specs.declared.Scheduler.{Scheduler}
 use Rattle.scheduler.specs.declared.Outcome.{Outcome}
+use Rattle.scheduler.specs.Limits.{lastTicket}
 use Rattle.scheduler.specs.Settings.{horizon, slots, holdTime, until}
 use Rattle.scheduler.specs.Table.{tickets, oneIf, appended, counted}
 use Rattle.scheduler.specs.TableLaws.{appended-stored, live-stored, checked-stored, checked-more}
@@ -110,13 +111,13 @@ module _ (d : Scheduler) (n e : ℕ) (h : Holds Valid d) where
   tests-held : checked d n e ≡ tests m n e
   tests-held = ap (λ (x : Scheduler). checked x n e) (h .stored) ∙ checked-stored m n e live
 
-  pub planned-low : planned m n e ≤ 1000000
+  pub planned-low : planned m n e ≤ horizon (m .settings)
   unfolding planned earliest
   planned-low =
       let xs = spans (m .settings) (m .jobs) in
-      omega (arith, least-to (fits (free (m .settings .nodes) xs) n (holdTime (m .settings) e)) (lastEnd xs - m .clock) (m .clock), last-le 1000000 xs (ends (m .jobs) (λ j i. h .holds .sound .each j i .ends)), h .holds .sound .clock-to)
+      omega (arith, least-to (fits (free (m .settings .nodes) xs) n (holdTime (m .settings) e)) (lastEnd xs - m .clock) (m .clock), last-le (horizon (m .settings)) xs (ends (m .jobs) (λ j i. h .holds .sound .each j i .ends)), h .holds .sound .clock-to)
     where
-      ends : (js : List Job) → ((j : Job) → In j js → until (m .settings) j ≤ horizon (m .settings)) → All (λ (x : Span). x .until ≤ 1000000) (spans (m .settings) js)
+      ends : (js : List Job) → ((j : Job) → In j js → until (m .settings) j ≤ horizon (m .settings)) → All (λ (x : Span). x .until ≤ horizon (m .settings)) (spans (m .settings) js)
       ends [] f = tt
       ends (j ∷ js) f = (f j (here refl), ends js (λ k i. f k (there i)))
 
@@ -127,7 +128,7 @@ module _ (d : Scheduler) (n e : ℕ) (h : Holds Valid d) where
     pub fit-held : Fit m n e
     fit-held = submit-fit m n e [] passes .0
 
-    pub room-held : (counted Live-select (d .jobs) < 64) × (d .next ≤ 999999)
+    pub room-held : (counted Live-select (d .jobs) < slots (m .settings)) × (d .next ≤ lastTicket)
     unfolding view
     room-held = (rw (h .stored) (omega (arith, live-stored m live, fit-held .room)), fit-held .ticket-left)
 
@@ -138,13 +139,13 @@ module _ (d : Scheduler) (n e : ℕ) (h : Holds Valid d) where
     unfolding planned
     start-held = refl
 
-    pub taken-held : planned m n e + wallTime e ≤ 1000000 → accepted d n e (planned m n e) ≡ outcome (call m (submit n e))
+    pub taken-held : planned m n e + wallTime e ≤ horizon (m .settings) → accepted d n e (planned m n e) ≡ outcome (call m (submit n e))
     taken-held l =
         ap (λ (x : Scheduler). accepted x n e (planned m n e)) (h .stored)
         ∙ accepted-stored m n e (planned m n e) live (fit-held .room)
         ∙ ap outcome (sym (submit-taken m n e passes l))
 
-    pub past-held : 1000000 < planned m n e + wallTime e → refusedOutcome d refusal.PastHorizon ≡ outcome (call m (submit n e))
+    pub past-held : horizon (m .settings) < planned m n e + wallTime e → refusedOutcome d refusal.PastHorizon ≡ outcome (call m (submit n e))
     past-held l = refused-held Valid d refusal.PastHorizon h ∙ ap outcome (sym (submit-past m n e passes l))
 
   pub checked-held : accepts (checked d n e) ≡ false → refusedOutcome d (checked d n e) ≡ outcome (call m (submit n e))

@@ -3,6 +3,7 @@
 ghost use mathlib.Core.Path.{_≡_};
 ghost use mathlib.Core.List.{map};
 ghost use Prim.Native.Nat.{_≤_, _<_};
+ghost use Rattle.scheduler.specs.Limits.{slots, lastTicket};
 ghost use Rattle.scheduler.specs.Table.{counted, withJobs, tickets};
 ghost use Rattle.scheduler.specs.Model.{view};
 ghost use Rattle.scheduler.specs.Answers.{outcome};
@@ -92,7 +93,7 @@ pub fn complete(d: Scheduler, ticket: u32) -> Outcome
 
 // The outcome of a submission that is taken in with the planned start: that start is its promise.
 fn accept(d: Scheduler, s: Submission, start: u32) -> Outcome
-    requires { ⌜ (counted Select.Live (d .jobs) < 64) × (d .next ≤ 999999) ⌝ }
+    requires { ⌜ (counted Select.Live (d .jobs) < slots) × (d .next ≤ lastTicket) ⌝ }
     ensures { λ r. ⌜ r ≡ accepted d (s .nodes) (s .estimate) start ⌝ }
 {
     let now = d.clock;

@@ -17,6 +17,7 @@ use Rattle.scheduler.specs.declared.Refusal.the-variants as refusal
 use Rattle.scheduler.specs.declared.Opening.{Opening}
 use Rattle.scheduler.specs.declared.Select.{Select}
 use Rattle.scheduler.specs.declared.Select.the-variants as select
+use Rattle.scheduler.specs.Limits as limit
 use Rattle.scheduler.specs.Limits.{maxNodes, lastTicket, outside}
 use Rattle.scheduler.specs.Jobs.{isLive, isRunning, held, picks}
 use Rattle.scheduler.specs.Settings.{Settings, horizon, slots, longest, until}
@@ -54,7 +55,7 @@ all-live m s = all-of Live (m .jobs) (λ j i. s .each j i .is-live)
 
 -- ## Opening
 
-sound-empty : (k : _) (n c t : ℕ) → 1 ≤ n → n ≤ maxNodes → c ≤ 1000000 → 1 ≤ t → t ≤ lastTicket → Sound (empty k n c t)
+sound-empty : (k : _) (n c t : ℕ) → 1 ≤ n → n ≤ maxNodes → c ≤ limit.horizon → 1 ≤ t → t ≤ lastTicket → Sound (empty k n c t)
 sound-empty k n c t a b d e f = record {
   nodes-from = a;
   nodes-to = b;
@@ -73,18 +74,18 @@ unfolding opening openingRefusal verdict
 opening-sound o =
     case (outside 1 maxNodes (o .nodes))
     (λ p. rw p refused)
-    (λ p. rw p (case (ltb 1000000 (o .minute) || outside 1 lastTicket (o .ticket)) (λ q. rw q refused) (λ q. rw q (taken p q))))
+    (λ p. rw p (case (ltb limit.horizon (o .minute) || outside 1 lastTicket (o .ticket)) (λ q. rw q refused) (λ q. rw q (taken p q))))
   where
     refused : Sound (empty (o .kind) 1 0 1)
     refused = sound-empty (o .kind) 1 0 1 (omega arith) (omega arith) (omega arith) (omega arith) (omega arith)
 
-    taken : outside 1 maxNodes (o .nodes) ≡ false → (ltb 1000000 (o .minute) || outside 1 lastTicket (o .ticket)) ≡ false → Sound (empty (o .kind) (o .nodes) (o .minute) (o .ticket))
+    taken : outside 1 maxNodes (o .nodes) ≡ false → (ltb limit.horizon (o .minute) || outside 1 lastTicket (o .ticket)) ≡ false → Sound (empty (o .kind) (o .nodes) (o .minute) (o .ticket))
     taken p q =
         let a = neither (ltb (o .nodes) 1) (ltb maxNodes (o .nodes)) p in
-        let b = neither (ltb 1000000 (o .minute)) (outside 1 lastTicket (o .ticket)) q in
+        let b = neither (ltb limit.horizon (o .minute)) (outside 1 lastTicket (o .ticket)) q in
         let c = neither (ltb (o .ticket) 1) (ltb lastTicket (o .ticket)) (b .1) in
         sound-empty (o .kind) (o .nodes) (o .minute) (o .ticket) (ltb-false (o .nodes) 1 (a .0)) (ltb-false maxNodes (o .nodes) (a .1))
-        (ltb-false 1000000 (o .minute) (b .0)) (ltb-false (o .ticket) 1 (c .0)) (ltb-false lastTicket (o .ticket) (c .1))
+        (ltb-false limit.horizon (o .minute) (b .0)) (ltb-false (o .ticket) 1 (c .0)) (ltb-false lastTicket (o .ticket) (c .1))
 
 -- ## Submission
 

@@ -88,7 +88,7 @@ module _ {ms fs : List ℕ} {n : ℕ} {j : Job} {now : ℕ} (q : Replans ms fs n
   end-of : until S j ≤ horizon S
   end-of = all-in (λ (k : Job). until S k ≤ horizon S) (q .fits .ends) (in-right (q .xs) (here refl))
 
-  pub start-of : j .start ≤ 1000000
+  pub start-of : j .start ≤ horizon S
   start-of = omega (arith, end-of)
 
   -- where it is put in again
@@ -138,7 +138,7 @@ module _ {ms fs : List ℕ} {n : ℕ} {j : Job} {now : ℕ} (q : Replans ms fs n
   start-low : movedTo .start ≤ j .start
   start-low = follows-start now j movedTo follows
 
-  pub moved-low : startAt ≤ 1000000
+  pub moved-low : startAt ≤ horizon S
   moved-low = omega (arith, start-low, start-of, ap (λ (k : Job). k .start) moved-is)
 
   same-hold : movedTo .estimate ≡ j .estimate

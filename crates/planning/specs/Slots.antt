@@ -81,7 +81,7 @@ unfolding view
 held-slots d h = subst (λ (e : Scheduler). Slots (view d .settings) (d .clock) (e .jobs)) (sym (h .stored)) (planned-slots (view d) (h .holds))
 
 -- every start is a minute of the clock
-pub start-low : {S : Settings} {now : ℕ} {js : List Job} → Slots S now js → (i : ℕ) → i < slots → getD js i unused .start ≤ 1000000
+pub start-low : {S : Settings} {now : ℕ} {js : List Job} → Slots S now js → (i : ℕ) → i < slots → getD js i unused .start ≤ horizon S
 start-low {S} {js = js} s i h = omega (arith, all-at (λ (k : Job). until S k ≤ horizon S) js i unused (s .ends) (omega (arith, s .all)))
 
 -- ## The profile of the slots

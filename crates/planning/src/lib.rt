@@ -5,7 +5,7 @@ ghost use mathlib.Core.List.{[]};
 ghost use Prim.Native.Nat.{_≤_};
 ghost use lib.ListN.{length};
 ghost use Rattle.walltime.specs.WallTime.{wallTime};
-ghost use Rattle.scheduler.specs.Limits.{longest, slots};
+ghost use Rattle.scheduler.specs.Limits.{horizon, longest, slots};
 ghost use Rattle.scheduler.specs.Table.{withJobs};
 ghost use Rattle.scheduler.specs.Model.{view};
 ghost use Rattle.jobs.specs.Premise.{Holds};
@@ -23,7 +23,7 @@ use scheduler::State;
 
 // So many nodes, from a minute on for so long.
 fn span(nodes: u32, from: u32, hold: u32) -> plan::Span
-    requires { ⌜ (from ≤ 1000000) × (hold ≤ longest) ⌝ }
+    requires { ⌜ (from ≤ horizon) × (hold ≤ longest) ⌝ }
     ensures { λ r. ⌜ r ≡ spanAt nodes from hold ⌝ }
 {
     plan::Span {
