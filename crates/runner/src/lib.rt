@@ -2,10 +2,12 @@
 ghost use mathlib.Core.Path.{_≡_};
 ghost use Prim.Native.Nat.{_+_, _≤_};
 ghost use lib.ListN.{length};
+ghost use Rattle.io.specs.Counts.{Counts};
 ghost use Rattle.writing.specs.Answered.{pageBytes};
 ghost use Rattle.pieces.specs.Pieces.{pieceOf};
 ghost use Rattle.pieces.specs.Ends.{Ready};
 ghost use Rattle.runner.specs.Turns.{goesOn, Turned};
+ghost use Rattle.runner.specs.Filled.{Filled};
 use libc::STDOUT_FILENO;
 use pieces::Play;
 use pieces::Stage;
@@ -40,41 +42,102 @@ fn turn(p: Play, script: &[u8], page: &mut [u8], at: usize) -> Played
     }
 }
 
-// The place for the next call's lines: where the page has no room for the longest answer any more, what stands in it is written out.
-fn make_room(to: i32, page: &[u8], at: usize) -> usize
-    requires { ⌜ (at ≤ length (now page)) × (pageBytes ≤ length (now page)) ⌝ }
-    ensures { λ r. ⌜ r + pageBytes ≤ length (now (page .entry)) ⌝ }
-{
-    if page.len() - at < writing::page_len() {
-        io::write_all(to, &page[..at]);
-        return 0;
-    }
-    at
-}
-
-// All of a script. The lines of many calls go out together.
-fn play(script: &[u8], to: i32, page: &mut [u8])
-    requires { ⌜ pageBytes ≤ length (now page) ⌝ }
+// The page filled from its start: call after call, until the script is over or the page has no room for the longest answer any more.
+fn fill(p: Play, script: &[u8], page: &mut [u8]) -> Played
+    requires { ⌜ Ready (now script) p × (pageBytes ≤ length (now page)) ⌝ }
+    ensures { λ r. ⌜ Filled (now (script .entry)) p (now (page .exit)) r ⌝ }
 {
     let mut at: usize = 0;
+    let mut here = p;
+    while goes_on(here) {
+        let room = page.len() - at;
+        if room < writing::page_len() {
+            return Played {
+                end: at,
+                play: here,
+            };
+        }
+        let next = script::pass_over(here);
+        let t = turn(next, script, page, at);
+        at = t.end;
+        here = t.play;
+    }
+    Played {
+        end: at,
+        play: here,
+    }
+}
+
+// All of a script. The lines of many calls go out together; where they cannot be written, the rest is not played.
+fn play(script: &[u8], to: i32, page: &mut [u8]) -> bool
+    requires { ⌜ pageBytes ≤ length (now page) ⌝ }
+{
     let mut p = script::begin();
     while goes_on(p) {
-        let q = script::pass_over(p);
-        let from = make_room(to, page, at);
-        let t = turn(q, script, page, from);
-        at = t.end;
+        let t = fill(p, script, page);
+        let end = t.end;
+        if !io::write_all(to, &page[..end]) {
+            return false;
+        }
         p = t.play;
     }
-    io::write_all(to, &page[..at]);
+    true
+}
+
+// How many bytes were read, and that a read failed.
+struct Input {
+    len: usize,
+    failed: bool,
+}
+
+// One read: no bytes at the end of the input.
+fn read_some(from: i32, part: &mut [u8]) -> Input
+    ensures { λ r. ⌜ r .len ≤ length (now (part .entry)) ⌝ }
+{
+    let got = libc::read(from, part);
+    let len = io::count(got, part);
+    Input {
+        len: len,
+        failed: got < 0,
+    }
+}
+
+// Reads until the buffer is full, the input ends or a read fails.
+fn read_whole(from: i32, space: &mut [u8]) -> Input
+    ensures { λ r. ⌜ Counts (r .len) (now (space .exit)) ⌝ }
+{
+    let mut done: usize = 0;
+    while done < space.len() {
+        let more = read_some(from, &mut space[done..]);
+        if more.len == 0 {
+            return Input {
+                len: done,
+                failed: more.failed,
+            };
+        }
+        done += more.len;
+    }
+    Input {
+        len: done,
+        failed: false,
+    }
 }
 
 // Reads a script whole from one descriptor and writes its printout to another. There is room for one byte more than the longest
-// script has, so that a longer one is told from it.
+// script has, so that a longer one is told from it. Where either fails, a line on standard error says so; a script that cannot be read
+// is not played.
 pub fn run(from: i32, to: i32) {
     let mut space = [0u8; 65537];
-    let n = io::read_full(from, &mut space);
+    let input = read_whole(from, &mut space);
+    if input.failed {
+        os::fail(b"sheet: the day sheet cannot be read");
+        return;
+    }
+    let n = input.len;
     let mut page = io::large_buffer();
-    play(&space[..n], to, &mut page);
+    if !play(&space[..n], to, &mut page) {
+        os::fail(b"sheet: the printout cannot be written");
+    }
 }
 
 // The script of a file that an argument names: the name, then its printout.
