@@ -15,7 +15,7 @@ use Rattle.lists.specs.Lists.{keep, any, sum, elem, In, here, there, in-left, i
 use Rattle.walltime.specs.WallTime.{wallTime}
 use Rattle.plan.specs.Spans.{takes, used, free, Earliest, Profile}
 use Rattle.plan.specs.Earliest.{earliest-is}
-use Rattle.plan.specs.Profile.{profile-is, profile-length}
+use Rattle.plan.specs.Profile.{profile-is, profile-agrees, profile-length}
 use Rattle.scheduler.specs.declared.State.{State}
 use Rattle.scheduler.specs.declared.State.the-variants.{Unused, Waiting, Running}
 use Rattle.scheduler.specs.declared.Job.{Job}
@@ -361,6 +361,10 @@ next-is m (refusedWait w) = refl
 -- "The first is now; then every later minute whose free nodes differ from those of the minute before."
 pub points-are : (m : Model) → Profile (free (m .settings .nodes) (spans (m .settings) (m .jobs))) (m .clock) (points m)
 points-are m = profile-is (m .settings .nodes) (spans (m .settings) (m .jobs)) (m .clock)
+
+-- the same of the free nodes as document 01 writes them
+pub points-as-written : (m : Model) → Valid m → Profile (freeNodes m) (m .clock) (points m)
+points-as-written m v = profile-agrees (m .clock) (points m) (λ t h. free-as-written m t v h) (points-are m)
 
 -- ## Refusals
 

@@ -1,18 +1,19 @@
 -- For the reader: what the definitions of this kind mean, in document 01's words, so that no definition can be bent along with
 -- the code that is equated with it.
 -- Assumes nothing.
-use Prim.Native.Nat.{ℕ, zero, suc, _+_, _≤_, _<_}
+use Prim.Native.Nat.{ℕ, zero, suc, _+_, _*_, _≤_, _<_}
 use native.Mathlib.Omega.{arith}
-use mathlib.Core.Path.{_≡_, refl, sym, ap, subst, _∙_}
+use mathlib.Core.Path.{_≡_, refl, sym, ap, ap₂, subst, _∙_}
 use mathlib.Core.Bool.{true, false, not, _&&_, _||_, cond}
 use mathlib.Core.Option.{Option, none, some}
 use mathlib.Core.List.{List, [], _∷_, _++_}
 use mathlib.Core.Logic.{_⊎_, inl, inr, ⊎-elim}
 use lib.Dec.{leb, ltb, eqb}
 use lib.ListN.{length}
-use borrow.Author.Tests.{leb-true, leb-false, le-leb, lt-leb, ltb-true, ltb-false, le-ltb, lt-ltb, eqb-true, ne-eqb}
+use borrow.Author.Tests.{leb-true, leb-false, le-leb, lt-leb, ltb-true, ltb-false, le-ltb, lt-ltb, eqb-true, eq-eqb, ne-eqb}
 use Rattle.lists.specs.Tests.{case, true-false, both, either, neither}
 use Rattle.lists.specs.Lists.{keep, first, any, elem, In, in-nil, in-cons, in-append, map-in, keep-in, first-in}
+use Rattle.walltime.specs.WallTime.{wallTime}
 use Rattle.scheduler.specs.declared.Job.{Job}
 use Rattle.scheduler.specs.declared.Refusal.{Refusal}
 use Rattle.scheduler.specs.declared.Refusal.the-variants as refusal
@@ -23,15 +24,15 @@ use Rattle.scheduler.specs.Jobs.{isWaiting, isRunning, runsAs, held, picks}
 use Rattle.scheduler.specs.Settings.{horizon, slots, longest, holdTime, until}
 use Rattle.scheduler.specs.Table.{ticketOf, ticketsOf}
 use Rattle.scheduler.specs.Model.{Model, joined}
-use Rattle.scheduler.specs.Answers.{Result, verdict, accepts, refusing, refuse}
+use Rattle.scheduler.specs.Answers.{Result, Forecast, verdict, accepts, refusing, refuse}
 use Rattle.scheduler.specs.Refusals.{completeRefusal, tickRefusal}
-use Rattle.jobs.specs.Judged.{judged-accepted, judged-refusal, judged-refused}
+use Rattle.jobs.specs.Judged.{judged-by, judged-accepted, judged-refusal, judged-refused}
 use Rattle.jobs.specs.Order.{Asc}
 use Rattle.jobs.specs.Sound.{Sound, Fit}
 use Rattle.history.specs.Calls.{Call, submit, complete, tick, profile, refusedWait}
 use Rattle.history.specs.Tickets.{nextAfter}
 use Rattle.history.specs.Lawful.{comers}
-use Rattle.easy_rules.specs.Easy.{queue, free, avail, shadow, extra, qualifies, pick, choice, begin, Settling, onChoice, settled, finished, newJob, submitRefusal, advanced, call}
+use Rattle.easy_rules.specs.Easy.{queue, head, free, avail, shadow, extra, qualifies, pick, choice, begin, Settling, onChoice, settled, headIs, forecast, finished, newJob, submitRefusal, advanced, call}
 use Rattle.easy_rules.specs.Settling.{shadow-from, shadow-min, shadow-holds, none-starts, How, how, Chosen, chosen, sum-mark, queue-mark, one-fewer, asc-begin, each-begin, idle, marks, Settles, rest, start, settles, settles-jobs, settles-next}
 use Rattle.easy_rules.specs.Course.{Waits, head-lowest, settles-waited}
 use Rattle.easy_rules.specs.Valid.{Valid, latestEnd, Moved, submits, completes, ticks, Taken, Quiet, called, call-valid}
@@ -229,6 +230,19 @@ refused-same m tick a = judged-refused m (tickRefusal m) (advanced m (suc (m .cl
 refused-same m (profile room) a = refl
 refused-same m (refusedWait r) a = refl
 
+-- Each refusal of a submission, with its conditions in document 01's order and no others. 1: "stack nodes 0 or above the rack's"; 2:
+-- "estimate .. outside 1 to 10,080"; 4: "64 stacks live"; 5: "ticket 999,999 has been given"; 6: "now + r × 10,080 + held above it, r
+-- being the number waiting before plus one"
+pub submit-refusal : (m : Model) (n e : ℕ) → call m (submit n e) .reply .refusal ≡ verdict
+    ((ltb n 1 || ltb (m .settings .nodes) n, refusal.NodesOutOfRange)
+    ∷ (ltb e 1 || ltb 10080 e, refusal.MinutesOutOfRange)
+    ∷ (leb 64 (length (m .jobs)), refusal.Full)
+    ∷ (ltb 999999 (m .next), refusal.NoTicketLeft)
+    ∷ (ltb 1000000 (m .clock + suc (length (keep isWaiting (m .jobs))) * 10080 + wallTime e), refusal.PastHorizon)
+    ∷ [])
+unfolding submitRefusal
+submit-refusal m n e = refusal-is m (submit n e)
+
 -- Nothing is refused but on its condition, and what no condition holds of is accepted.
 abbrev pub Because : Model → ℕ → ℕ → Refusal → Type 0
 Because m n e refusal.None = Fit m n e × (latestEnd m e ≤ horizon (m .settings))
@@ -285,6 +299,51 @@ tick-because m =
     case (leb (suc (m .clock)) (horizon (m .settings)))
     (λ e. rw (e, le-ltb (horizon (m .settings)) (suc (m .clock)) (leb-true (suc (m .clock)) (horizon (m .settings)) e)))
     (λ e. rw (e, lt-ltb (horizon (m .settings)) (suc (m .clock)) (leb-false (suc (m .clock)) (horizon (m .settings)) e)))
+
+-- ## Forecasts
+
+-- "A stack that is head after a call and was not before gets the shadow then as its forecast", and no other does.
+pub record Forecasts (before after : Model) (f : Option Forecast) : Type 0 where
+  pub new-head : (h : Job) → head after ≡ some h → ((k : Job) → head before ≡ some k → k .ticket ≡ h .ticket → ⊥)
+      → f ≡ some (record { ticket = h .ticket; minute = shadow after (h .nodes) })
+  pub old-head : (h k : Job) → head after ≡ some h → head before ≡ some k → k .ticket ≡ h .ticket → f ≡ none
+  pub no-head : head after ≡ none → f ≡ none
+
+-- what `forecast` gives, by the two heads
+abbrev heard : Model → Option Job → Option Job → Option Forecast
+heard after o p = onChoice p none λ h. cond (headIs o h) none (some (record { ticket = h .ticket; minute = shadow after (h .nodes) }))
+
+is-new : (o : Option Job) (h : Job) → ((k : Job) → o ≡ some k → k .ticket ≡ h .ticket → ⊥) → headIs o h ≡ false
+is-new none h n = refl
+is-new (some k) h n = ne-eqb (k .ticket) (h .ticket) (n k refl)
+
+forecasts : (before after : Model) → Forecasts before after (forecast before after)
+unfolding forecast
+forecasts before after = record {
+  new-head = λ h q n. ap (heard after (head before)) q ∙ rw (is-new (head before) h n);
+  old-head = λ h k q o e. ap₂ (heard after) o q ∙ rw (eq-eqb (k .ticket) (h .ticket) e);
+  no-head = λ q. ap (heard after (head before)) q;
+}
+
+-- who was head is no new head
+same-heads : (m : Model) → Forecasts m m none
+same-heads m = record { new-head = λ h q n. absurd (n h q refl); old-head = λ h k q o e. refl; no-head = λ q. refl }
+
+abbrev Announces : Model → Result → Type 0
+Announces m r = Forecasts m (r .model) (r .reply .head)
+
+finished-forecasts : (m mid : Model) (t : ℕ) (ts : List ℕ) → Announces m (finished m mid t ts)
+unfolding finished
+finished-forecasts m mid t ts = forecasts m (settled mid .model)
+
+-- Of every call, refused ones too.
+pub call-forecasts : (m : Model) (c : Call) → Announces m (call m c)
+unfolding call advanced
+call-forecasts m (submit n e) = judged-by (Announces m) m (submitRefusal m n e) (finished m (joined m (newJob (m .next) n e)) (m .next) []) (λ a. finished-forecasts m _ _ _) (λ a. same-heads m)
+call-forecasts m (complete t) = judged-by (Announces m) m (completeRefusal m t) (advanced m (m .clock) (select.RunningTicket t)) (λ a. finished-forecasts m _ _ _) (λ a. same-heads m)
+call-forecasts m tick = judged-by (Announces m) m (tickRefusal m) (advanced m (suc (m .clock)) (select.EndingAt (suc (m .clock)))) (λ a. finished-forecasts m _ _ _) (λ a. same-heads m)
+call-forecasts m (profile room) = same-heads m
+call-forecasts m (refusedWait r) = same-heads m
 
 -- ## Ends
 

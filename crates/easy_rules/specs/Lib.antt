@@ -1,3 +1,4 @@
+pub mod Computed
 pub mod Easy
 pub mod First
 pub mod Settling

@@ -26,6 +26,10 @@ blank m = record { clock = m .clock; entries = [] }
 abbrev pub bookFrom : Model → Book → List Call → Book
 bookFrom m b cs = enterAll (unit (m .settings)) b (events call m cs)
 
+-- "Its bound is the clock at intake + r × 10,080"
+pub unit-is : (S : Settings) → unit S ≡ 10080
+unit-is S = refl
+
 -- For every opening, a refused one too, and every list of calls: with the words by the calls and their answers, promises are kept,
 -- bounds and forecasts are kept, every head hears one, and running jobs never hold more nodes than the machine has. ("After every
 -- call": every front of a list is a list.)

@@ -1,4 +1,5 @@
--- The guarantees can fail: for each claim a history that breaks it, its words computed.
+-- The guarantees can fail: for each claim histories that break it, their words computed, and no further than they must: a job that waits
+-- in the minute it was told, or starts in the next; one node too many.
 -- Assumes nothing.
 use mathlib.Core.Path.{_≡_, refl, ap, subst, _∙_}
 use mathlib.Core.Bool.{true}
@@ -12,7 +13,7 @@ use Rattle.scheduler.specs.declared.Kind.the-variants.{Conservative, Easy}
 use Rattle.scheduler.specs.declared.Refusal.the-variants as refusal
 use Rattle.scheduler.specs.Answers.{Forecast}
 use Rattle.history.specs.Calls.{submit, tick, Event}
-use Rattle.history.specs.Book.{Book, Entry, waiting, enter, enterAll}
+use Rattle.history.specs.Book.{Book, Entry, waiting, running, enter, enterAll}
 use Rattle.history.specs.Guarantee.{StartedBy, Guarantee}
 
 -- a submission accepted under a ticket, with a promise, the tickets that start and a forecast
@@ -22,9 +23,12 @@ taken t n p ss f = record {
   reply = record { refusal = refusal.None; ticket = t; promise = p; ended = []; started = ss; head = f };
 }
 
--- a tick that starts nothing
+-- a tick, with the tickets that start
+abbrev ticked : List ℕ → Event
+ticked ss = record { call = tick; reply = record { refusal = refusal.None; ticket = 0; promise = 0; ended = []; started = ss; head = none } }
+
 abbrev idle : Event
-idle = record { call = tick; reply = record { refusal = refusal.None; ticket = 0; promise = 0; ended = []; started = []; head = none } }
+idle = ticked []
 
 -- a book from minute 0, with the bound's unit
 abbrev book : List Event → Book
@@ -33,9 +37,16 @@ book es = enterAll 10080 (record { clock = 0; entries = [] }) es
 never : (x : Entry) (b : ℕ) → x .fate ≡ waiting → StartedBy x b → ⊥
 never x b e s = let q = s .started in absurd (let z : _≡_ {A = ℕ} 0 1 = cc in omega arith)
 
+too-late : (x : Entry) (b : ℕ) → x .fate ≡ running (suc b) → StartedBy x b → ⊥
+too-late x b e s = let q = s .started in let m : s .minute ≡ suc b = cc in absurd (omega (arith, m, s .by))
+
 pub promise-broken : Guarantee Conservative 10 (book (taken 1 4 2 [] none ∷ idle ∷ idle ∷ [])) → ⊥
 unfolding enter
 promise-broken g = never _ 2 refl (g .promises refl _ (here refl) (omega arith))
+
+pub promise-late : Guarantee Conservative 10 (book (taken 1 4 1 [] none ∷ idle ∷ ticked (1 ∷ []) ∷ [])) → ⊥
+unfolding enter
+promise-late g = too-late _ 1 refl (g .promises refl _ (here refl) (omega arith))
 
 -- one that waits on, minute after minute
 late : Entry
@@ -49,20 +60,41 @@ unfolding enter late
 waits-on zero c = ap waiting-at (omega arith)
 waits-on (suc k) c = waits-on k (suc c) ∙ ap waiting-at (omega arith)
 
-pub bound-broken : Guarantee Easy 10 (book (taken 1 4 0 [] none ∷ replicate 10080 idle)) → ⊥
+-- so long that it is at its bound
+abbrev at-bound : Book
+at-bound = book (taken 1 4 0 [] none ∷ replicate 10080 idle)
+
+at-bound-is : at-bound ≡ waiting-at 10080
 unfolding enter late
+at-bound-is = waits-on 10080 0
+
+pub bound-broken : Guarantee Easy 10 at-bound → ⊥
+unfolding late
 bound-broken g =
-    let h : Guarantee Easy 10 (waiting-at 10080) = subst (Guarantee Easy 10) (waits-on 10080 0) g in
+    let h : Guarantee Easy 10 (waiting-at 10080) = subst (Guarantee Easy 10) at-bound-is g in
     never late 10080 refl (h .bounds refl late (here refl) (omega arith))
 
-pub forecast-broken : Guarantee Easy 10 (book (taken 1 4 0 [] (some (record { ticket = 1; minute = 1 })) ∷ idle ∷ [])) → ⊥
+pub bound-late : Guarantee Easy 10 (enter 10080 at-bound (ticked (1 ∷ []))) → ⊥
+unfolding enter late
+bound-late g =
+    let h : Guarantee Easy 10 (enter 10080 (waiting-at 10080) (ticked (1 ∷ []))) = subst (λ (b : Book). Guarantee Easy 10 (enter 10080 b (ticked (1 ∷ [])))) at-bound-is g in
+    too-late _ 10080 refl (h .bounds refl _ (here refl) (omega arith))
+
+abbrev soon : Option Forecast
+soon = some (record { ticket = 1; minute = 1 })
+
+pub forecast-broken : Guarantee Easy 10 (book (taken 1 4 0 [] soon ∷ idle ∷ [])) → ⊥
 unfolding enter
 forecast-broken g = never _ 1 refl (g .forecasts refl _ 1 (here refl) refl (omega arith))
+
+pub forecast-late : Guarantee Easy 10 (book (taken 1 4 0 [] soon ∷ idle ∷ ticked (1 ∷ []) ∷ [])) → ⊥
+unfolding enter
+forecast-late g = too-late _ 1 refl (g .forecasts refl _ 1 (here refl) refl (omega arith))
 
 pub head-unheard : Guarantee Easy 10 (book (taken 1 4 0 [] none ∷ [])) → ⊥
 unfolding enter
 head-unheard g = let f = g .heads refl _ (here refl) refl refl in absurd (let z : _≡_ {A = ℕ} 0 1 = cc (f .1) in omega arith)
 
-pub nodes-exceeded : Guarantee Easy 10 (book (taken 1 6 0 (1 ∷ []) none ∷ taken 2 6 0 (2 ∷ []) none ∷ [])) → ⊥
+pub nodes-exceeded : Guarantee Easy 10 (book (taken 1 6 0 (1 ∷ []) none ∷ taken 2 5 0 (2 ∷ []) none ∷ [])) → ⊥
 unfolding enter
 nodes-exceeded g = let w = g .within in absurd (omega arith)

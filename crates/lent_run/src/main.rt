@@ -8,9 +8,11 @@ use libc::STDOUT_FILENO;
 use plan::Point;
 use scheduler::Answer;
 use scheduler::Kind;
+use scheduler::Opened;
 use scheduler::Opening;
 use scheduler::Outcome;
 use scheduler::Scheduler;
+use scheduler::Select;
 use scheduler::Submission;
 use scheduler::Tickets;
 
@@ -181,21 +183,43 @@ fn show(d: Scheduler)
     io::write_all(STDOUT_FILENO, b"\n");
 }
 
-fn open(kind: Kind, minute: u32) -> Scheduler
+fn print_kind(kind: Kind) {
+    match kind {
+        Kind::Conservative => io::write_all(STDOUT_FILENO, b"conservative "),
+        Kind::Easy => io::write_all(STDOUT_FILENO, b"EASY "),
+    };
+}
+
+// The refusal, and the scheduler handed back: its kind, nodes, clock, next ticket and number of live jobs.
+fn print_opened(opened: Opened) {
+    let why = opened.refusal;
+    print(why.code());
+    let d = opened.scheduler;
+    let kind = d.kind;
+    print_kind(kind);
+    print(d.nodes);
+    print(d.clock);
+    print(d.next);
+    print_count(d.count(Select::Live));
+    io::write_all(STDOUT_FILENO, b"\n");
+}
+
+fn open(kind: Kind, nodes: u32, minute: u32) -> Scheduler
     ensures { λ r. ⌜ Premise r ⌝ }
 {
     let opened = Scheduler::open(Opening {
         kind: kind,
-        nodes: 10,
+        nodes: nodes,
         minute: minute,
         ticket: 1,
     });
+    print_opened(opened);
     opened.scheduler
 }
 
 fn main() {
     // conservative: the list is longer than the profile, then as long, then too short
-    let d = open(Kind::Conservative, 0);
+    let d = open(Kind::Conservative, 10, 0);
     show(d);
     let d1 = submit(d, 6, 20);
     let d2 = submit(d1, 8, 10);
@@ -209,7 +233,7 @@ fn main() {
     let d8 = tick(d7);
     show(d8);
     // EASY: no profile
-    let e = open(Kind::Easy, 0);
+    let e = open(Kind::Easy, 10, 0);
     let e1 = submit(e, 6, 20);
     let e2 = submit(e1, 8, 10);
     let e3 = submit(e2, 3, 21);
@@ -220,7 +244,12 @@ fn main() {
     let e7 = complete(e6, 1);
     let e8 = tick(e7);
     // at the last minute no clock moves
-    let f = open(Kind::Conservative, 1000000);
+    let f = open(Kind::Conservative, 10, 1000000);
     let f1 = tick(f);
     show(f1);
+    // a refused opening hands back an empty scheduler of its kind, which takes jobs
+    let g = open(Kind::Conservative, 0, 5);
+    let g1 = submit(g, 1, 5);
+    let h = open(Kind::Easy, 1025, 5);
+    let h1 = submit(h, 1, 5);
 }

@@ -6,7 +6,7 @@ use native.Mathlib.Omega.{arith}
 use mathlib.Core.Path.{_≡_, refl, sym, ap, subst, _∙_}
 use mathlib.Core.Bool.{true, false, not}
 use mathlib.Core.List.{List, [], _∷_, _++_, map, map-append, append-nil}
-use mathlib.Core.Logic.{_⊎_, inl, inr, _≢_}
+use mathlib.Core.Logic.{_⊎_, inl, inr, ⊎-elim, _≢_}
 use lib.Dec.{eqb}
 use lib.ListN.{length, length-map}
 use borrow.Author.Tests.{eqb-true, eqb-false, eq-eqb, ne-eqb, not-true, not-false}
@@ -256,3 +256,20 @@ points-length N xs now k =
 pub profile-length : (N : ℕ) (xs : List Span) (now : ℕ) → length (profile N xs now) ≤ 1 + 2 * length xs
 unfolding profile
 profile-length N xs now = points-length N xs now (suc (lastEnd xs - now))
+
+-- free nodes that agree from now on have the same points
+point-same : (f g : ℕ → ℕ) (now : ℕ) (p : Point) → ((t : ℕ) → now ≤ t → f t ≡ g t) → IsPoint f now p → IsPoint g now p
+point-same f g now p same i =
+    let low : now ≤ p .minute = ⊎-elim (λ (q : p .minute ≡ now). omega arith) (λ (q : (now < p .minute) × (f (p .minute) ≢ f (p .minute - 1))). omega (arith, q .0)) (i .1) in
+    (i .0 ∙ same (p .minute) low,
+      ⊎-elim
+      (λ (q : p .minute ≡ now). inl q)
+      (λ (q : (now < p .minute) × (f (p .minute) ≢ f (p .minute - 1))). inr (q .0, λ z. q .1 (same (p .minute) low ∙ z ∙ sym (same (p .minute - 1) (omega (arith, q .0))))))
+      (i .1))
+
+pub profile-agrees : {f g : ℕ → ℕ} (now : ℕ) (ps : List Point) → ((t : ℕ) → now ≤ t → f t ≡ g t) → Profile f now ps → Profile g now ps
+profile-agrees {f} {g} now ps same r = record {
+  real = λ p i. point-same f g now p same (r .real p i);
+  complete = λ p i. r .complete p (point-same g f now p (λ t h. sym (same t h)) i);
+  ascending = r .ascending;
+}

@@ -3,6 +3,7 @@
 use mathlib.Core.Bool.{Bool, _||_}
 use Prim.Native.Nat.{ℕ}
 use lib.Dec.{ltb}
+use Rattle.walltime.specs.WallTime as wall
 use Rattle.scheduler.specs.declared.Limits.{Limits}
 
 -- "Nodes of a rack: 1 to 1,024."
@@ -19,7 +20,7 @@ slots = 64
 
 -- "Estimate of a stack: 1 to 10,080 minutes."
 abbrev pub longest : ℕ
-longest = 10080
+longest = wall.longest
 
 -- "Tickets are numbered upward by one from the first, up to 999,999."
 abbrev pub lastTicket : ℕ

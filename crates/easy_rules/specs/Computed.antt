@@ -1,0 +1,65 @@
+-- Document 01's slips of the Loose Desk, and one where two jobs might pass the head in one call, computed from the definitions.
+-- Assumes nothing.
+use mathlib.Core.Path.{_≡_, refl}
+use mathlib.Core.List.{List, [], _∷_}
+use mathlib.Core.Option.{some}
+use Prim.Native.Nat.{ℕ}
+use Rattle.scheduler.specs.declared.Kind.the-variants.{Easy}
+use Rattle.scheduler.specs.declared.Refusal.{Refusal}
+use Rattle.scheduler.specs.declared.Refusal.the-variants as refusal
+use Rattle.scheduler.specs.Model.{Model}
+use Rattle.scheduler.specs.Answers.{verdict}
+use Rattle.scheduler.specs.Refusals as refusals
+use Rattle.scheduler.specs.Opening.{openingRefusal, opening}
+use Rattle.history.specs.Calls.{Call, submit, complete, after}
+use Rattle.easy_rules.specs.Easy.{shadow, extra, qualifies, pick, settle, forecast, finished, submitRefusal, advanced, call}
+
+abbrev fresh : ℕ → ℕ → Model
+fresh nodes minute = opening (record { kind = Easy; nodes = nodes; minute = minute; ticket = 1 })
+
+-- "on a rack of 10 at minute 0, after `in 6 20` and `in 8 10`"
+abbrev waited-for : Model
+waited-for = after call (fresh 10 0) (submit 6 20 ∷ submit 8 10 ∷ [])
+
+abbrev started : Model → Call → List ℕ
+started m c = call m c .reply .started
+
+-- "rack of 10, running 5 and 3 nodes, both to 20, head needing 4"
+abbrev together : Model
+together = after call (fresh 10 0) (submit 5 20 ∷ submit 3 20 ∷ submit 4 5 ∷ [])
+
+-- 6 nodes run to 20 and 4 to 100; the head needs 8, and two later jobs 2 each for 200 minutes
+abbrev one-may-pass : Model
+one-may-pass = after call (fresh 10 0) (submit 6 20 ∷ submit 4 100 ∷ submit 8 5 ∷ submit 2 200 ∷ submit 2 200 ∷ [])
+
+-- the answer to the first job of a machine of 4 nodes, submitted at that minute
+abbrev alone : ℕ → ℕ → Refusal
+alone minute e = call (fresh 4 minute) (submit 1 e) .reply .refusal
+
+pub examples : (call (call (fresh 10 0) (submit 6 20) .model) (submit 8 10) .reply .head ≡ some (record { ticket = 2; minute = 20 }))
+    × (extra waited-for 8 ≡ 2)
+    × (started waited-for (submit 4 20) ≡ 3 ∷ [])
+    × (started waited-for (submit 2 100) ≡ 3 ∷ [])
+    × (started waited-for (submit 3 21) ≡ [])
+    × (extra together 4 ≡ 6)
+    -- the first that passes takes the extra nodes, and the rules are tested afresh for the second
+    × (started one-may-pass (complete 1) ≡ 4 ∷ [])
+    -- "Loose, rack of 4, minute 989,900, empty: `in 1 20` is taken, `in 1 21` refused by 6"
+    × (alone 989900 20 ≡ refusal.None)
+    × (alone 989900 21 ≡ refusal.PastHorizon)
+unfolding
+    opening
+    openingRefusal
+    verdict
+    refusals.completeRefusal
+    shadow
+    extra
+    qualifies
+    pick
+    settle
+    forecast
+    finished
+    submitRefusal
+    advanced
+    call
+examples = (refl, refl, refl, refl, refl, refl, refl, refl, refl)
