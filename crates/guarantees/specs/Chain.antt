@@ -1,32 +1,37 @@
--- Calls of the code, one after another, are a list of calls of the definitions: so what is proved of lists holds of the code.
--- Document 01: "Each call, taken or refused, gets the desk that the last one handed back".
+-- Calls of the code, one after another, are a list of calls of the definitions: so what is proved of lists holds of the code, by the
+-- answers that the caller received. Document 01: "Each call, taken or refused, gets the desk that the last one handed back, or left where
+-- it was lent"; "The words go by the calls and their answers".
 -- Assumes nothing.
-use mathlib.Core.Path.{_≡_, refl, ap, _∙_}
+use mathlib.Core.Path.{_≡_, refl, ap, subst, _∙_}
 use mathlib.Core.List.{List, [], _∷_, map}
+use Prim.Native.Nat.{ℕ}
+use Rattle.scheduler.specs.declared.Kind.{Kind}
+use Rattle.scheduler.specs.declared.Kind.the-variants.{Conservative, Easy}
 use Rattle.scheduler.specs.declared.Answer.{Answer}
+use Rattle.scheduler.specs.declared.Opening.{Opening}
 use Rattle.scheduler.specs.declared.Outcome.{Outcome}
+use Rattle.scheduler.specs.declared.Refusal.{Refusal}
 use Rattle.scheduler.specs.declared.Scheduler.{Scheduler}
 use Rattle.scheduler.specs.Model.{Model, store, view}
-use Rattle.scheduler.specs.Answers.{answer, outcome}
-use Rattle.history.specs.Calls.{Call, Event, after, events}
-use Rattle.guarantees.specs.Rules.{call}
-use Rattle.guarantees.specs.Premise.{Premise, call-premise, valid-view, call-valid}
+use Rattle.scheduler.specs.Answers.{Reply, answer, outcome, refuse}
+use Rattle.scheduler.specs.Opening.{opening}
+use Rattle.history.specs.Calls.{Call, profile, refusedWait, Event, after, events, eventsOf}
+use Rattle.history.specs.Guarantee.{Guarantee}
+use Rattle.conservative_rules.specs.Conservative as conservative
+use Rattle.easy_rules.specs.Easy as easy
+use Rattle.guarantees.specs.Rules.{rulesOf, call}
+use Rattle.guarantees.specs.Premise.{Valid, Premise, call-premise, opening-valid, valid-view, call-valid}
+use Rattle.guarantees.specs.Statement.{bookOf}
+use Rattle.guarantees.specs.Proof.{demand3}
 
 -- what a call's contract says that it gives
 abbrev pub gives : Scheduler → Call → Outcome
 gives d c = outcome (call (view d) c)
 
--- the scheduler that the last call hands back, and all the answers
+-- the scheduler that the last of some calls by value hands back
 abbrev pub handed : Scheduler → List Call → Scheduler
 handed d [] = d
 handed d (c ∷ cs) = handed (gives d c .scheduler) cs
-
-abbrev pub given : Scheduler → List Call → List Answer
-given d [] = []
-given d (c ∷ cs) = gives d c .answer ∷ given (gives d c .scheduler) cs
-
-abbrev pub answerOf : Event → Answer
-answerOf e = answer (e .reply)
 
 read-back : (d : Scheduler) (c : Call) → Premise d → view (gives d c .scheduler) ≡ call (view d) c .model
 read-back d c h = valid-view (call (view d) c .model) (call-valid (view d) c (h .holds))
@@ -35,8 +40,52 @@ pub handed-is : (d : Scheduler) (cs : List Call) → Premise d → handed d cs �
 handed-is d [] h = h .stored
 handed-is d (c ∷ cs) h = handed-is (gives d c .scheduler) cs (call-premise d c h) ∙ ap (λ (m : Model). store (after call m cs)) (read-back d c h)
 
-pub given-is : (d : Scheduler) (cs : List Call) → Premise d → given d cs ≡ map answerOf (events call (view d) cs)
-given-is d [] h = refl
-given-is d (c ∷ cs) h =
-    ap (λ (rest : List Answer). gives d c .answer ∷ rest)
-    (given-is (gives d c .scheduler) cs (call-premise d c h) ∙ ap (λ (m : Model). map answerOf (events call m cs)) (read-back d c h))
+-- ## Calls as they were made
+
+-- the answer to an event
+abbrev pub answerOf : Event → Answer
+answerOf x = answer (x .reply)
+
+-- `Made d c a e`: the call c was made on d, was answered a, and handed back or left e. Each call gets what the last one left
+pub data MadeAll {D A : Type 0} (Made : D → Call → A → D → Type 0) : D → List Call → List A → D → Type 0 where
+  none : {d : D} → MadeAll Made d [] [] d
+  next : {d e f : D} {c : Call} {a : A} {cs : List Call} {xs : List A} → Made d c a e → MadeAll Made e cs xs f → MadeAll Made d (c ∷ cs) (a ∷ xs) f
+
+-- a profile call of the history, and a refused wait, is its refusal and nothing else
+pub profile-refuses : (m : Model) (room : ℕ) → call m (profile room) ≡ refuse m (call m (profile room) .reply .refusal)
+unfolding conservative.call easy.call
+profile-refuses m room = by (m .settings .kind)
+  where
+    by : (k : Kind) → rulesOf k m (profile room) ≡ refuse m (rulesOf k m (profile room) .reply .refusal)
+    by Conservative = refl
+    by Easy = refl
+
+pub wait-refuses : (m : Model) (r : Refusal) → call m (refusedWait r) ≡ refuse m r
+unfolding conservative.call easy.call
+wait-refuses m r = by (m .settings .kind)
+  where
+    by : (k : Kind) → rulesOf k m (refusedWait r) ≡ refuse m r
+    by Conservative = refl
+    by Easy = refl
+
+-- A way to make calls: `desk m` stands there for a model m, `answered r` for a reply r, and an answer says the reply `said`. Each call on
+-- a valid model leaves and answers what its definition gives (`is`), and what is said is that reply (`back`).
+module _ {D A : Type 0} (Made : D → Call → A → D → Type 0) (desk : Model → D) (answered : Reply → A) (said : A → Reply)
+    (is : (m : Model) (c : Call) (a : A) (e : D) → Valid m → Made (desk m) c a e → (e ≡ desk (call m c .model)) × (a ≡ answered (call m c .reply)))
+    (back : (m : Model) (c : Call) → Valid m → said (answered (call m c .reply)) ≡ call m c .reply) where
+  -- from a valid model on, what is left, the answers, and the events as the caller has them are those of the list of calls
+  pub made-all-is : (m : Model) {d : D} {cs : List Call} {xs : List A} {e : D} → Valid m → d ≡ desk m → MadeAll Made d cs xs e
+      → (e ≡ desk (after call m cs)) × (xs ≡ map (λ (x : Event). answered (x .reply)) (events call m cs)) × (eventsOf cs (map said xs) ≡ events call m cs)
+  made-all-is m v q none = (q, refl, refl)
+  made-all-is m v q (next {e = e} {c = c} {a = a} one rest) =
+      let r = is m c a e v (subst (λ (x : D). Made x c a e) q one) in
+      let s = made-all-is (call m c .model) (call-valid m c v) (r .0) rest in
+      let t : said a ≡ call m c .reply = ap said (r .1) ∙ back m c v in
+      (s .0, λ i. r .1 i ∷ s .1 i, λ i. record { call = c; reply = t i } ∷ s .2 i)
+
+  -- from an opening on, the book of the calls made and the answers received has the guarantees (document 01: "demand 3")
+  pub made-keeps : (o : Opening) {cs : List Call} {xs : List A} {e : D} → MadeAll Made (desk (opening o)) cs xs e
+      → (e ≡ desk (after call (opening o) cs)) × (xs ≡ map (λ (x : Event). answered (x .reply)) (events call (opening o) cs)) × Guarantee (o .kind) (opening o .settings .nodes) (bookOf (opening o) (eventsOf cs (map said xs)))
+  made-keeps o {cs} l =
+      let r = made-all-is (opening o) (opening-valid o) refl l in
+      (r .0, r .1, rw (r .2) (demand3 o cs))

@@ -3,5 +3,6 @@ pub mod Statement
 pub mod Proof
 pub mod Premise
 pub mod Named
+pub mod Replies
 pub mod Chain
 pub mod Tickets

@@ -10,14 +10,14 @@ use Rattle.scheduler.specs.declared.Opening.{Opening}
 use Rattle.scheduler.specs.Model.{empty}
 use Rattle.scheduler.specs.Answers.{accepts}
 use Rattle.scheduler.specs.Opening.{openingRefusal, opening}
-use Rattle.history.specs.Calls.{allCalls}
+use Rattle.history.specs.Calls.{events, allCalls}
 use Rattle.history.specs.Guarantee.{Guarantee}
 use Rattle.conservative_rules.specs.Valid as conservative
 use Rattle.conservative_rules.specs.Lawful.{conservative-lawful}
 use Rattle.easy_rules.specs.Valid as easy
 use Rattle.easy_rules.specs.Lawful.{easy-lawful}
 use Rattle.guarantees.specs.Rules.{call}
-use Rattle.guarantees.specs.Statement.{blank, bookFrom, Demand3, Demand3WithWaits, from-blank}
+use Rattle.guarantees.specs.Statement.{bookOf, Demand3, Demand3WithWaits, from-blank}
 
 -- an opening takes in no job
 opening-empty : (o : Opening) → opening o .jobs ≡ []
@@ -31,7 +31,7 @@ opening-empty o = by (accepts (openingRefusal o))
 pub demand3 : Demand3
 demand3 o cs = by (o .kind) refl
   where
-    by : (k : Kind) → o .kind ≡ k → Guarantee k (opening o .settings .nodes) (bookFrom (opening o) (blank (opening o)) cs)
+    by : (k : Kind) → o .kind ≡ k → Guarantee k (opening o .settings .nodes) (bookOf (opening o) (events call (opening o) cs))
     by Conservative e = from-blank conservative-lawful (opening o) cs (conservative.opening-valid o e) (opening-empty o)
     by Easy e = from-blank easy-lawful (opening o) cs (easy.opening-valid o e) (opening-empty o)
 

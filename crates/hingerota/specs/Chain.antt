@@ -1,75 +1,62 @@
--- Calls of a host, one after another, are a list of calls of the definitions, and have its guarantees. Document 01: "Each call, taken or
--- refused, gets the desk that the last one handed back, or left where it was lent"; "A profile leaves the desk as it is, and the points
--- lent to it are no part of the desk".
+-- Calls of a host, one after another, are a list of calls of the definitions, and by the answers received they have its guarantees.
+-- Document 01: "Each call, taken or refused, gets the desk that the last one handed back, or left where it was lent"; "A profile leaves the
+-- desk as it is, and the points lent to it are no part of the desk".
 -- Assumes nothing.
-use mathlib.Core.Path.{_≡_, refl, sym, ap, _∙_}
-use mathlib.Core.List.{List, [], _∷_, map}
+use mathlib.Core.Path.{_≡_, refl, ap, _∙_}
+use mathlib.Core.List.{List, map}
 use Prim.Native.Nat.{ℕ}
 use lib.ListN.{length}
-use Rattle.scheduler.specs.declared.Kind.{Kind}
-use Rattle.scheduler.specs.declared.Kind.the-variants.{Conservative, Easy}
 use Rattle.scheduler.specs.declared.Opening.{Opening}
-use Rattle.scheduler.specs.declared.Scheduler.{Scheduler}
 use Rattle.scheduler.specs.Model.{Model, store, view}
+use Rattle.scheduler.specs.Answers.{Reply, code, answer, replyOf, noTickets}
 use Rattle.scheduler.specs.Opening.{opening, opened}
-use Rattle.history.specs.Calls.{Call, profile, after, events}
+use Rattle.history.specs.Calls.{Call, profile, Event, after, events, eventsOf}
 use Rattle.history.specs.Guarantee.{Guarantee}
-use Rattle.conservative_rules.specs.Conservative as conservative
-use Rattle.easy_rules.specs.Easy as easy
-use Rattle.guarantees.specs.Rules.{rulesOf, call}
-use Rattle.guarantees.specs.Premise.{opened-premise, opening-valid, valid-view}
-use Rattle.guarantees.specs.Chain as scheduler
-use Rattle.guarantees.specs.Statement.{blank, bookFrom}
-use Rattle.guarantees.specs.Proof.{demand3}
+use Rattle.guarantees.specs.Rules.{call}
+use Rattle.guarantees.specs.Premise.{Valid, valid-view}
+use Rattle.guarantees.specs.Replies.{reply-back}
+use Rattle.guarantees.specs.Chain.{answerOf, MadeAll, profile-refuses, made-keeps}
+use Rattle.guarantees.specs.Statement.{bookOf}
+use Rattle.calls.specs.Show.{profileRefusal}
 use Rattle.hingerota.specs.declared.Desk.{Desk}
 use Rattle.hingerota.specs.declared.Answer.{Answer}
 use Rattle.hingerota.specs.declared.Point.{Point}
 use Rattle.hingerota.specs.declared.Shown.{Shown}
-use Rattle.hingerota.specs.Mirror.{mirror, mirrorAnswer, read, read-mirror}
-use Rattle.hingerota.specs.Handed.{Handed, opens, gives, opened-handed, call-handed}
+use Rattle.hingerota.specs.Mirror.{mirror, mirrorTickets, mirrorAnswer, read, read-mirror, readAnswer, read-answer}
+use Rattle.hingerota.specs.Handed.{opens}
+use Rattle.hingerota.specs.Left.{Leaves}
 use Rattle.hingerota.specs.Points.{Shows}
 
--- the desk that the last call leaves, and all the answers
-abbrev pub left : Desk → List Call → Desk
-left d [] = d
-left d (c ∷ cs) = left (gives d c .desk) cs
+-- the reply that an answer in numbers says
+abbrev pub hostReply : Answer → Reply
+hostReply a = replyOf (readAnswer a)
 
-abbrev pub answers : Desk → List Call → List Answer
-answers d [] = []
-answers d (c ∷ cs) = gives d c .answer ∷ answers (gives d c .desk) cs
+-- the answer that has this refusal and nothing else
+abbrev pub refusedBy : ℕ → Answer
+refusedBy n = record { refusal = n; ticket = 0; promise = 0; head = 0; forecast = 0; ended = mirrorTickets noTickets; started = mirrorTickets noTickets }
 
-left-is : (d : Desk) (cs : List Call) → Handed d → left d cs ≡ mirror (scheduler.handed (read d) cs)
-left-is d [] h = h .mirrored
-left-is d (c ∷ cs) h =
-    left-is (gives d c .desk) cs (call-handed d c h)
-    ∙ ap (λ (s : Scheduler). mirror (scheduler.handed s cs)) (read-mirror (scheduler.gives (read d) c .scheduler))
+-- a call on the desk d, lent, as its contract says that it was made: what it answers, and the desk after it
+pub data Made (d : Desk) : Call → Answer → Desk → Type 0 where
+  onLent : {c : Call} {a : Answer} {e : Desk} → Leaves d c a e → Made d c a e
+  -- the answer of a profile in the history is its refusal
+  profileOnLent : {lent after : List Point} {s : Shown} → Shows d lent s after → Made d (profile (length lent)) (refusedBy (s .refusal)) d
 
-answers-are : (d : Desk) (cs : List Call) → Handed d → answers d cs ≡ map mirrorAnswer (scheduler.given (read d) cs)
-answers-are d [] h = refl
-answers-are d (c ∷ cs) h =
-    ap (λ (rest : List Answer). gives d c .answer ∷ rest)
-    (answers-are (gives d c .desk) cs (call-handed d c h)
-    ∙ ap (λ (s : Scheduler). map mirrorAnswer (scheduler.given s cs)) (read-mirror (scheduler.gives (read d) c .scheduler)))
+-- where d mirrors a valid model, stored: what each leaves and answers is that of its definition
+module _ (m : Model) (v : Valid m) where
+  desk-view : view (read (mirror (store m))) ≡ m
+  desk-view = ap view (read-mirror (store m)) ∙ valid-view m v
 
--- a profile call is one of the list: its refusal is the list's, and the desk stays
-profile-stays : (k : Kind) (m : Model) (room : ℕ) → rulesOf k m (profile room) .model ≡ m
-unfolding conservative.call easy.call
-profile-stays Conservative m room = refl
-profile-stays Easy m room = refl
+  made-is : {c : Call} {a : Answer} {e : Desk} → Made (mirror (store m)) c a e → (e ≡ mirror (store (call m c .model))) × (a ≡ mirrorAnswer (answer (call m c .reply)))
+  made-is (onLent {c} l) = (l .leaves ∙ ap (λ (x : Model). mirror (store (call x c .model))) desk-view, l .answers ∙ ap (λ (x : Model). mirrorAnswer (answer (call x c .reply))) desk-view)
+  made-is (profileOnLent {lent} {after} {s} w) =
+      let room = length lent in
+      rw (profile-refuses m room) (refl, ap refusedBy (ap (λ (x : Shown). x .refusal) (w .answers) ∙ ap (λ (x : Model). code (profileRefusal x room)) desk-view))
 
-pub profile-counts : (d : Desk) (lent after : List Point) (a : Shown) → Handed d → Shows d lent a after
-    → (a .refusal ≡ gives d (profile (length lent)) .answer .refusal) × (gives d (profile (length lent)) .desk ≡ d)
-profile-counts d lent after a h s =
-    let m = view (read d) in
-    (ap (λ (x : Shown). x .refusal) (s .answers), ap (λ (x : Model). mirror (store x)) (profile-stays (m .settings .kind) m (length lent)) ∙ ap mirror (sym (h .premise .stored)) ∙ sym (h .mirrored))
-
--- From the desk that an opening hands back, a refused one too: desk and answers are those of the list of calls, whose book has the
--- guarantees (document 01: "demand 3").
-pub host-keeps : (o : Opening) (cs : List Call)
-    → (left (opens o .desk) cs ≡ mirror (store (after call (opening o) cs))) × (answers (opens o .desk) cs ≡ map mirrorAnswer (map scheduler.answerOf (events call (opening o) cs))) × Guarantee (o .kind) (opening o .settings .nodes) (bookFrom (opening o) (blank (opening o)) cs)
+-- From the desk that an opening hands back, a refused one too: desk and answers are those of the list of calls, and the book of the calls
+-- made and the answers received has the guarantees (document 01: "demand 3").
+pub host-keeps : (o : Opening) (cs : List Call) (xs : List Answer) (e : Desk) → MadeAll Made (opens o .desk) cs xs e
+    → (e ≡ mirror (store (after call (opening o) cs))) × (xs ≡ map (λ (x : Event). mirrorAnswer (answerOf x)) (events call (opening o) cs)) × Guarantee (o .kind) (opening o .settings .nodes) (bookOf (opening o) (eventsOf cs (map hostReply xs)))
 unfolding opened
-host-keeps o cs =
-    let s = opened o .scheduler in
-    let h = opened-premise o in
-    let v : view s ≡ opening o = valid-view (opening o) (opening-valid o) in
-    (left-is (opens o .desk) cs (opened-handed o) ∙ ap (λ (x : Scheduler). mirror (scheduler.handed x cs)) (read-mirror s) ∙ ap mirror (scheduler.handed-is s cs h ∙ ap (λ (x : Model). store (after call x cs)) v), answers-are (opens o .desk) cs (opened-handed o) ∙ ap (λ (x : Scheduler). map mirrorAnswer (scheduler.given x cs)) (read-mirror s) ∙ ap (map mirrorAnswer) (scheduler.given-is s cs h ∙ ap (λ (x : Model). map scheduler.answerOf (events call x cs)) v), demand3 o cs)
+host-keeps o cs xs e l =
+    made-keeps Made (λ m. mirror (store m)) (λ r. mirrorAnswer (answer r)) hostReply (λ m c a d v. made-is m v)
+    (λ m c v. ap replyOf (read-answer (answer (call m c .reply))) ∙ reply-back m c v) o l

@@ -35,6 +35,12 @@ abbrev pub events : Rules → Model → List Call → List Event
 events R m [] = []
 events R m (c ∷ cs) = let r = R m c in record { call = c; reply = r .reply } ∷ events R (r .model) cs
 
+-- as a caller has them: each call that was made with the reply received, as far as both lists go
+abbrev pub eventsOf : List Call → List Reply → List Event
+eventsOf [] rs = []
+eventsOf (c ∷ cs) [] = []
+eventsOf (c ∷ cs) (r ∷ rs) = record { call = c; reply = r } ∷ eventsOf cs rs
+
 -- what is asked of a scheduler from outside: a call, or a wait
 pub data Request : Type 0 where
   ask : Call → Request

@@ -5,6 +5,7 @@ use mathlib.Core.List.{List, [], _∷_}
 use mathlib.Core.Option.{Option, none, some}
 use Prim.Native.Nat.{ℕ}
 use lib.Dec.{eqb}
+use lib.ListN.{take}
 use Rattle.scheduler.specs.declared.Refusal.{Refusal}
 use Rattle.scheduler.specs.declared.Refusal.the-variants as refusal
 use Rattle.scheduler.specs.declared.Tickets.{Tickets}
@@ -73,6 +74,25 @@ answer r = record {
   started = tickets (r .started);
   head = headTicket (r .head);
   forecast = headMinute (r .head);
+}
+
+-- the tickets that an answer gives: places past the count say nothing
+abbrev pub ticketsIn : Tickets → List ℕ
+ticketsIn t = take (t .count) (t .list)
+
+-- the new head that it gives: tickets begin at 1 (refusal 3: "first ticket outside 1 to 999,999"), so that a head of 0 says none
+abbrev pub forecastIn : (head forecast : ℕ) → Option Forecast
+forecastIn t f = cond (eqb t 0) none (some (record { ticket = t; minute = f }))
+
+-- the reply that an answer of the code says: of every call it is the call's reply (`reply-back` in crates/guarantees/specs/Replies.antt)
+abbrev pub replyOf : Answer → Reply
+replyOf a = record {
+  refusal = a .refusal;
+  ticket = a .ticket;
+  promise = a .promise;
+  ended = ticketsIn (a .ended);
+  started = ticketsIn (a .started);
+  head = forecastIn (a .head) (a .forecast);
 }
 
 abbrev pub outcome : Result → Outcome

@@ -10,11 +10,9 @@ use Rattle.scheduler.specs.declared.Opening.{Opening}
 use Rattle.scheduler.specs.Model.{Model}
 use Rattle.scheduler.specs.Opening.{opening}
 use Rattle.history.specs.Calls.{Call, Request, Event, after, events, callsOf, allCalls}
-use Rattle.scheduler.specs.Settings.{unit}
-use Rattle.history.specs.Book.{enterAll}
 use Rattle.history.specs.Guarantee.{Guarantee}
 use Rattle.guarantees.specs.Rules.{call}
-use Rattle.guarantees.specs.Statement.{blank}
+use Rattle.guarantees.specs.Statement.{bookOf}
 use Rattle.guarantees.specs.Proof.{demand3-with-waits}
 use Rattle.script_rules.specs.Lines.{Line}
 use Rattle.script_rules.specs.Reading.{requestOf}
@@ -127,8 +125,7 @@ first-events m (c ∷ cs) (suc i) = ap (λ t. record { call = c; reply = call m 
 pub record Keeps (o : Opening) (ls : List Line) : Type 0 where
   pub text : played (opening o) ls ≡ texts (items (opening o) ls)
   pub kept : (i : ℕ)
-      → Guarantee (o .kind) (opening o .settings .nodes)
-      (enterAll (unit (opening o .settings)) (blank (opening o)) (take i (told (items (opening o) ls))))
+      → Guarantee (o .kind) (opening o .settings .nodes) (bookOf (opening o) (take i (told (items (opening o) ls))))
 
 pub script-keeps : (o : Opening) (ls : List Line) → Keeps o ls
 script-keeps o ls = record {
@@ -137,5 +134,5 @@ script-keeps o ls = record {
       let m = opening o in
       let cs = allCalls call m (requests ls) in
       let same : events call m (take i cs) ≡ take i (told (items m ls)) = sym (first-events m cs i) ∙ ap (take i) (sym (tells m ls)) in
-      subst (λ (es : List Event). Guarantee (o .kind) (m .settings .nodes) (enterAll (unit (m .settings)) (blank m) es)) same (demand3-with-waits o (requests ls) i);
+      subst (λ (es : List Event). Guarantee (o .kind) (m .settings .nodes) (bookOf m es)) same (demand3-with-waits o (requests ls) i);
 }
