@@ -187,7 +187,8 @@ fn print_kind(kind: Kind) {
     match kind {
         Kind::Conservative => io::write_all(STDOUT_FILENO, b"conservative "),
         Kind::Easy => io::write_all(STDOUT_FILENO, b"EASY "),
-    };
+    }
+    ;
 }
 
 // The refusal, and the scheduler handed back: its kind, nodes, clock, next ticket and number of live jobs.

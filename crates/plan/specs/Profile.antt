@@ -260,12 +260,13 @@ profile-length N xs now = points-length N xs now (suc (lastEnd xs - now))
 -- free nodes that agree from now on have the same points
 point-same : (f g : ℕ → ℕ) (now : ℕ) (p : Point) → ((t : ℕ) → now ≤ t → f t ≡ g t) → IsPoint f now p → IsPoint g now p
 point-same f g now p same i =
-    let low : now ≤ p .minute = ⊎-elim (λ (q : p .minute ≡ now). omega arith) (λ (q : (now < p .minute) × (f (p .minute) ≢ f (p .minute - 1))). omega (arith, q .0)) (i .1) in
-    (i .0 ∙ same (p .minute) low,
+    let low : now ≤ p .minute = ⊎-elim (λ (q : p .minute ≡ now). omega arith) (λ (q : (now < p .minute) × (f (p .minute) ≢ f (p .minute - 1))). omega (arith, q .0)) (i .1) in (
+      i .0 ∙ same (p .minute) low,
       ⊎-elim
-      (λ (q : p .minute ≡ now). inl q)
-      (λ (q : (now < p .minute) × (f (p .minute) ≢ f (p .minute - 1))). inr (q .0, λ z. q .1 (same (p .minute) low ∙ z ∙ sym (same (p .minute - 1) (omega (arith, q .0))))))
-      (i .1))
+          (λ (q : p .minute ≡ now). inl q)
+          (λ (q : (now < p .minute) × (f (p .minute) ≢ f (p .minute - 1))). inr (q .0, λ z. q .1 (same (p .minute) low ∙ z ∙ sym (same (p .minute - 1) (omega (arith, q .0))))))
+          (i .1),
+    )
 
 pub profile-agrees : {f g : ℕ → ℕ} (now : ℕ) (ps : List Point) → ((t : ℕ) → now ≤ t → f t ≡ g t) → Profile f now ps → Profile g now ps
 profile-agrees {f} {g} now ps same r = record {
