@@ -1,4 +1,3 @@
-pub mod Minutes
 pub mod Choice
 pub mod Slots
 pub mod Choosing

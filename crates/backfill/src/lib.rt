@@ -6,7 +6,6 @@ use scheduler::Select;
 use scheduler::Slot;
 use scheduler::State;
 ghost use mathlib.Core.Path.{_≡_};
-ghost use lib.Dec.{ltb};
 ghost use Prim.Native.Nat.{_≤_};
 ghost use Rattle.lists.specs.Loops.{position};
 ghost use Rattle.scheduler.specs.Limits.{horizon};
@@ -35,16 +34,6 @@ fn end_of(job: Job) -> u32
     job.start + walltime::wall_time(job.estimate)
 }
 
-// Whether that minute comes before this one.
-fn ends_before(job: Job, minute: u32) -> bool
-    ensures { λ r. ⌜ ((S : Settings) → r ≡ ltb (until S job) minute) ⌝ }
-{
-    if minute <= job.start {
-        return false;
-    }
-    walltime::within(job.estimate, minute - job.start - 1)
-}
-
 // The nodes that the job, if it runs, has given back by this minute.
 fn freed(job: Job, minute: u32) -> u32
     requires { ⌜ job .start ≤ horizon ⌝ }
@@ -55,10 +44,7 @@ fn freed(job: Job, minute: u32) -> u32
         State::Unused => 0,
         State::Waiting => 0,
         State::Running => {
-            if minute < job.start {
-                return 0;
-            }
-            if walltime::within(job.estimate, minute - job.start) {
+            if end_of(job) <= minute {
                 return job.nodes;
             }
             0
@@ -98,8 +84,8 @@ fn sooner(d: Scheduler, spare: u32, nodes: u32, best: u32, job: Job) -> u32
         State::Unused => best,
         State::Waiting => best,
         State::Running => {
-            if ends_before(job, best) {
-                let end = end_of(job);
+            let end = end_of(job);
+            if end < best {
                 if nodes <= avail_at(d, spare, end) {
                     return end;
                 }
@@ -154,10 +140,7 @@ impl Window {
                 if job.nodes <= self.extra {
                     return true;
                 }
-                if self.shadow < self.clock {
-                    return false;
-                }
-                walltime::within(job.estimate, self.shadow - self.clock)
+                self.clock + walltime::wall_time(job.estimate) <= self.shadow
             }
             State::Running => false,
         }

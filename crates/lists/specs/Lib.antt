@@ -3,4 +3,3 @@ pub mod Lists
 pub mod Least
 pub mod Loops
 pub mod Pads
-pub mod Tables

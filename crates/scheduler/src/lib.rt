@@ -266,11 +266,7 @@ impl Job {
                 if minute < self.start {
                     return false;
                 }
-                let passed = minute - self.start;
-                if walltime::within(self.estimate, passed) {
-                    return passed == walltime::wall_time(self.estimate);
-                }
-                false
+                minute - self.start == walltime::wall_time(self.estimate)
             }
         }
     }

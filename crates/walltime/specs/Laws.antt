@@ -2,14 +2,14 @@
 -- Assumes nothing.
 use mathlib.Core.Path.{_≡_, refl}
 use mathlib.Core.Bool.{Bool, true, false, cond}
-use Prim.Native.Nat.{ℕ, _+_, _≤_, _<_}
+use Prim.Native.Nat.{ℕ, _+_, _≤_}
 use native.Mathlib.Omega.{arith}
 use lib.Dec.{leb}
 use borrow.Author.Tests.{leb-true, leb-false}
 use Rattle.walltime.specs.WallTime.{wallTime, roundUp, longest}
 
 -- by which band: what is shown of each band's rounding holds of the wall time
-by-band : (P : ℕ → Type 0) (e : ℕ) → (e ≤ 120 → P (roundUp e 5)) → (120 ≤ e → e ≤ 480 → P (roundUp e 10)) → (480 ≤ e → e ≤ 10080 → P (roundUp e 30)) → (10080 ≤ e → P longest) → P (wallTime e)
+pub by-band : (P : ℕ → Type 0) (e : ℕ) → (e ≤ 120 → P (roundUp e 5)) → (120 ≤ e → e ≤ 480 → P (roundUp e 10)) → (480 ≤ e → e ≤ 10080 → P (roundUp e 30)) → (10080 ≤ e → P longest) → P (wallTime e)
 by-band P e f g h k = go (leb e 120) refl (leb e 480) refl (leb e 10080) refl
   where
     go : (a : Bool) → leb e 120 ≡ a → (b : Bool) → leb e 480 ≡ b → (c : Bool) → leb e 10080 ≡ c → P (cond a (roundUp e 5) (cond b (roundUp e 10) (cond c (roundUp e 30) longest)))
@@ -38,14 +38,3 @@ wallTime-mono d e l =
     (λ a b. by-band (λ v. v ≤ roundUp e 10) d (λ c. omega arith) (λ c k. omega arith) (λ c k. omega arith) (λ c. omega arith))
     (λ a b. by-band (λ v. v ≤ roundUp e 30) d (λ c. omega arith) (λ c k. omega arith) (λ c k. omega arith) (λ c. omega arith))
     (λ a. wallTime-le d)
-
--- what rounding up adds, in the bands of the table and in all
-pub wallTime-table : (e : ℕ) → e ≤ 480 → wallTime e < e + 10
-wallTime-table e l = by-band (λ w. w < e + 10) e (λ a. omega arith) (λ a b. omega arith) (λ a b. omega arith) (λ a. omega arith)
-
-pub wallTime-added : (e : ℕ) → wallTime e < e + 30
-wallTime-added e = by-band (λ w. w < e + 30) e (λ a. omega arith) (λ a b. omega arith) (λ a b. omega arith) (λ a. omega arith)
-
--- at least the estimate, or the longest
-pub wallTime-past : (e m : ℕ) → m < e → m < longest → m < wallTime e
-wallTime-past e m l k = by-band (λ w. m < w) e (λ a. omega arith) (λ a b. omega arith) (λ a b. omega arith) (λ a. omega arith)

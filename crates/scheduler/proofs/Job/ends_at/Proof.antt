@@ -1,10 +1,8 @@
 use Rattle.walltime.specs.WallTime.{wallTime}
-use mathlib.Core.Path.{_≡_, sym, _∙_}
-use mathlib.Core.Bool.{false}
+use mathlib.Core.Path.{_≡_}
 use native.Mathlib.Omega.{arith}
-use Prim.Native.Nat.{_+_, _-_}
-use lib.Dec.{leb}
-use borrow.Author.Tests.{ne-eqb, leb-false}
+use Prim.Native.Nat.{_+_}
+use borrow.Author.Tests.{ne-eqb}
 use borrow.Author.Needs.{needs}
 use Rattle.lists.specs.Tests.{eqb-sub}
 use Rattle.scheduler.proofs.Job.ends_at.Statement.{statement}
@@ -24,32 +22,22 @@ returns c =
     let a = c .before .before .before .before .args in
     rw (c .before .before .enum-told3 .given .1, ne-eqb (a .self .start + wallTime (a .self .estimate)) (a .minute) (λ e. omega arith))
 
-within-requires : tie.Need-within-requires
-within-requires c κs = search needs
-
 wall-time-requires : tie.Need-wall-time-requires
 wall-time-requires c κs = search needs
 
 returns-2 : tie.Need-returns-2
-returns-2 c =
-    let a = c .before .before .before .before .before .before .before .before .args in
-    let j = a .self in
-    let w : c .wall-time .result ≡ wallTime (j .estimate) = c .wall-time .ensures in
-    let swap : wallTime (j .estimate) + j .start ≡ j .start + wallTime (j .estimate) = omega arith in
-    rw (c .before .before .before .before .before .before .enum-told3 .given .1, w, eqb-sub (a .minute) (j .start) (wallTime (j .estimate)) (omega arith), swap)
+returns-2 c = search needs
 
 returns-3 : tie.Need-returns-3
 returns-3 c = search needs
 
 returns-4 : tie.Need-returns-4
-returns-4 c = search needs
-
-returns-5 : tie.Need-returns-5
-returns-5 c =
-    let a = c .before .before .before .before .before .before .before .args in
+returns-4 c =
+    let a = c .before .before .before .before .before .before .args in
     let j = a .self in
-    let late : leb (wallTime (j .estimate)) (a .minute - j .start) ≡ false = sym (c .before .within .ensures) ∙ c .if2 .left in
-    rw (c .before .before .before .before .before .enum-told3 .given .1, ne-eqb (j .start + wallTime (j .estimate)) (a .minute) (λ e. omega (arith, leb-false (wallTime (j .estimate)) (a .minute - j .start) late)))
+    let w : c .wall-time .result ≡ wallTime (j .estimate) = c .wall-time .ensures in
+    let swap : wallTime (j .estimate) + j .start ≡ j .start + wallTime (j .estimate) = omega arith in
+    rw (c .before .before .before .before .enum-told3 .given .1, w, eqb-sub (a .minute) (j .start) (wallTime (j .estimate)) (omega arith), swap)
 
 pub ends-at-spec : {M : Type 1} → statement M
 ends-at-spec =
@@ -59,9 +47,7 @@ ends-at-spec =
     enum-told-2
     enum-told-3
     returns
-    within-requires
     wall-time-requires
     returns-2
     returns-3
-    returns-4
-    returns-5)
+    returns-4)
