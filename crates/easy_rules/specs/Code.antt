@@ -144,7 +144,7 @@ module _ (m : Model) (n : ℕ) where
   earliest-by best (j ∷ js) = omega (arith, earliest-by (sooner m n best j) js, sooner-by best j)
 
   -- no end at which the nodes suffice is earlier
-  earliest-min : (best : ℕ) {js : List Job} {j : Job} → In j js → isRunning j ≡ true → n ≤ avail m (until (m .settings) j)
+  pub earliest-min : (best : ℕ) {js : List Job} {j : Job} → In j js → isRunning j ≡ true → n ≤ avail m (until (m .settings) j)
       → earliest m n best js ≤ until (m .settings) j
   earliest-min best {j = j} (here {x = x} {xs = xs} z) r l =
       let S = m .settings in
@@ -158,7 +158,7 @@ module _ (m : Model) (n : ℕ) where
   earliest-min best (there {x = x} i) r l = earliest-min (sooner m n best x) i r l
 
   -- what holds of the first minute, and of each end at which the nodes suffice, holds of the one found
-  earliest-holds : (P : ℕ → Type 0) (best : ℕ) (js : List Job) → P best
+  pub earliest-holds : (P : ℕ → Type 0) (best : ℕ) (js : List Job) → P best
       → ((j : Job) → In j js → isRunning j ≡ true → n ≤ avail m (until (m .settings) j) → P (until (m .settings) j)) → P (earliest m n best js)
   earliest-holds P best [] p f = p
   earliest-holds P best (j ∷ js) p f = earliest-holds P (sooner m n best j) js step (λ k i. f k (there i))

@@ -1,0 +1,98 @@
+-- `easy_engine::fill_ends` meets its contract. The invariant: the places passed have ends, the others starts.
+-- Assumes nothing.
+use Prim.Native.Nat.{_+_, _-_, _≤_, _<_}
+use native.Mathlib.Omega.{arith}
+use mathlib.Core.Path.{_≡_, sym, ap, _∙_}
+use lib.ListN.{length, getD}
+use Rattle.lists.specs.Lists.{in-getD}
+use Rattle.lists.specs.Pads.{pad}
+use Rattle.walltime.specs.Laws.{wallTime-le}
+use Rattle.scheduler.specs.Limits.{slots}
+use Rattle.scheduler.specs.Jobs.{unused}
+use Rattle.easy_engine.specs.Survey.{estimateOf, Starts}
+use Rattle.easy_engine.specs.Columns.{column-at}
+use Rattle.easy_engine.specs.Surveys.{filled, start-there, fill-next, fill-done}
+use borrow.Author.Needs.{needs}
+use Rattle.easy_engine.proofs.fill_ends.Statement.{statement}
+use Rattle.easy_engine.proofs.fill_ends.Tie as tie
+
+abbrev Inv-loop : tie.InvT-loop
+Inv-loop ends₀ terms running i₀ ends i =
+    (i ≤ running) × ((s : Starts ends₀ terms running) → ends ≡ pad slots 0 (filled (s .jobs) i))
+
+abbrev μ-loop : tie.MeasureT-loop
+μ-loop ends₀ terms running i₀ ends i = running - i
+
+loop-holds : tie.Need-loop-holds Inv-loop μ-loop
+loop-holds c = (search needs, λ s. s .starts-are)
+
+mul-ends : tie.Need-mul-ends Inv-loop μ-loop
+mul-ends c = omega (arith, c .before .before .pre .few)
+
+element-copy-out-ends : tie.Need-element-copy-out-ends Inv-loop μ-loop
+element-copy-out-ends c = omega (arith, c .before .before .pre .few)
+
+mul-wall-time : tie.Need-mul-wall-time Inv-loop μ-loop
+mul-wall-time c = omega (arith, c .before .before .before .pre .few)
+
+element-copy-out-wall-time : tie.Need-element-copy-out-wall-time Inv-loop μ-loop
+element-copy-out-wall-time c = omega (arith, c .before .before .before .pre .few)
+
+wall-time-requires : tie.Need-wall-time-requires Inv-loop μ-loop
+wall-time-requires c κs = search needs
+
+add-ends : tie.Need-add-ends Inv-loop μ-loop
+add-ends c =
+    let l = c .before .before .before .before .loop in
+    let s = c .before .before .before .before .before in
+    let p = s .pre in
+    let h : l .i < length (p .jobs) = omega (arith, p .count-is) in
+    let e : getD (l .ends) (l .i) 0 ≡ getD (p .jobs) (l .i) unused .start = ap (λ ns. getD ns (l .i) 0) (l .inv .1 p) ∙ start-there (p .jobs) (l .i) h in
+    omega (arith, c .wall-time .ensures, wallTime-le (getD (s .args .terms .now) (l .i) 0), p .ends (getD (p .jobs) (l .i) unused) (in-getD (p .jobs) (l .i) unused h))
+
+mul-ends-2 : tie.Need-mul-ends-2 Inv-loop μ-loop
+mul-ends-2 c = omega (arith, c .before .before .before .before .before .pre .few)
+
+element-write-ends : tie.Need-element-write-ends Inv-loop μ-loop
+element-write-ends c = omega (arith, c .before .before .before .before .before .pre .few)
+
+add-i : tie.Need-add-i Inv-loop μ-loop
+add-i c = search needs
+
+loop-less : tie.Need-loop-less Inv-loop μ-loop
+loop-less c = search needs
+
+loop-again : tie.Need-loop-again Inv-loop μ-loop
+loop-again c =
+    let l = c .before .before .before .before .loop in
+    let s = c .before .before .before .before .before in (
+      omega arith,
+      λ p.
+          let h : l .i < length (p .jobs) = omega (arith, p .count-is) in
+          rw (l .inv .1 p, start-there (p .jobs) (l .i) h, c .wall-time .ensures, column-at estimateOf (p .jobs) (s .args .terms .now) (p .terms-are) unused (l .i) h) (fill-next (p .jobs) (l .i) h),
+    )
+
+returns : tie.Need-returns Inv-loop μ-loop
+returns c =
+    let l = c .before .loop in
+    λ p. l .inv .1 p ∙ ap (pad slots 0) (fill-done (p .jobs) (l .i) (omega (arith, p .count-is)))
+
+pub fill-ends-spec : {M : Type 1} → statement M
+fill-ends-spec =
+    tie.close
+    (tie.spec
+    Inv-loop
+    μ-loop
+    loop-holds
+    mul-ends
+    element-copy-out-ends
+    mul-wall-time
+    element-copy-out-wall-time
+    wall-time-requires
+    add-ends
+    mul-ends-2
+    element-write-ends
+    add-i
+    loop-less
+    loop-again
+    returns)
