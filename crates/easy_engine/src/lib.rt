@@ -1,27 +1,21 @@
 // EASY backfilling (document 01: "Loose Desk") over lent lists of numbers: which of the waiting jobs start, one after another. Of the jobs
 // that run the lists have nodes and ends, in any order; of the jobs that wait, in ticket order, nodes and estimates.
-use scheduler::Job;
 use scheduler::Scheduler;
-use scheduler::State;
 ghost use mathlib.Core.Path.{_≡_};
-ghost use mathlib.Core.Bool.{cond, _&&_, _||_};
+ghost use mathlib.Core.Bool.{true, cond, _&&_, _||_};
 ghost use mathlib.Core.List.{List};
 ghost use Prim.Native.Nat.{_+_, _≤_, _<_};
-ghost use lib.Dec.{leb, ltb};
+ghost use lib.Dec.{leb, ltb, eqb};
 ghost use lib.ListN.{length};
 ghost use Rattle.lists.specs.Tests.{on};
 ghost use Rattle.lists.specs.Loops.{position};
 ghost use Rattle.walltime.specs.WallTime.{wallTime};
-ghost use Rattle.easy_engine.specs.Survey.{endOf};
+ghost use Rattle.scheduler.specs.declared.Job.{Job};
 ghost use Rattle.scheduler.specs.Limits.{horizon, slots};
-ghost use Rattle.lists.specs.Pads.{pad};
-ghost use Rattle.scheduler.specs.Model.{store};
-ghost use Rattle.jobs.specs.Sound.{Sound};
-ghost use Rattle.jobs.specs.Premise.{Holds};
-ghost use Rattle.easy_rules.specs.Easy.{avail, shadow, choice};
-ghost use Rattle.easy_engine.specs.Survey.{Column, estimateOf, asks, Held, Lacks, Surveyed, placeOf, jobIn, asksTo, mayPass, Begun, Settlement, Blank, Survey, Starts, begins, Applies, Rests};
-ghost use mathlib.Core.Bool.{true};
 ghost use Rattle.scheduler.specs.Table.{ticketOf};
+ghost use Rattle.scheduler.specs.Model.{Model};
+ghost use Rattle.easy_rules.specs.Easy.{head, avail, shadow, choice, forecast};
+ghost use Rattle.easy_engine.specs.Survey.{Column, estimateOf, asks, endOf, Held, Lacks, Surveyed, placeOf, jobIn, asksTo, mayPass, Begun, Settlement, Starts, Rests, ticketIn, announced, Announces, Unsettled, Answers};
 
 // More nodes than any machine has: what a job asks for once it has started.
 const NOBODY: u32 = Scheduler::NODES + 1;
@@ -72,7 +66,7 @@ fn sooner(
 }
 
 // The shadow: the smallest minute at which the nodes suffice for a head that needs more than are free now.
-pub fn shadow(
+fn shadow(
     held: &[u32; 64],
     ends: &[u32; 64],
     running: usize,
@@ -93,7 +87,7 @@ pub fn shadow(
 }
 
 // The place of the first that asks for no more than these nodes; the count where none does.
-pub fn first_within(asked: &[u32; 64], waiting: usize, most: u32) -> usize
+fn first_within(asked: &[u32; 64], waiting: usize, most: u32) -> usize
     requires { ⌜ waiting ≤ slots ⌝ }
     ensures { λ r. ⌜ ((ws : List Job) → Column asks ws (now (asked .entry)) → length ws ≡ waiting → r ≡ placeOf (position (asksTo most) ws) waiting) ⌝ }
 {
@@ -199,14 +193,14 @@ fn start(
 }
 
 // How many jobs run after a settling, how many of them it started, and the nodes then free.
-pub struct Settled {
-    pub running: usize,
-    pub count: usize,
-    pub spare: u32,
+struct Settled {
+    running: usize,
+    count: usize,
+    spare: u32,
 }
 
 // Starts jobs one after another until nobody can start. Their places are noted in order, from `count` on.
-pub fn settle(
+fn settle(
     held: &mut [u32; 64],
     ends: &mut [u32; 64],
     running: usize,
@@ -254,68 +248,8 @@ pub fn settle(
     )
 }
 
-// What a survey finds, beside the lists that it fills.
-pub struct Found {
-    pub running: usize,
-    pub waiting: usize,
-    pub spare: u32,
-}
-
-// The running jobs' nodes, starts and estimates, and the waiting jobs' nodes, estimates, tickets and slots, in lists.
-pub fn survey(
-    d: Scheduler,
-    held: &mut [u32; 64],
-    starts: &mut [u32; 64],
-    terms: &mut [u32; 64],
-    asked: &mut [u32; 64],
-    estimates: &mut [u32; 64],
-    tickets: &mut [u32; 64],
-    places: &mut [u32; 64],
-) -> Found
-    requires { ⌜ Holds Sound d × Blank (now held) × Blank (now starts) × Blank (now terms) × Blank (now asked) × Blank (now estimates) × Blank (now tickets) × Blank (now places) ⌝ }
-    ensures { λ r. ⌜ Survey d r (now (held .exit)) (now (starts .exit)) (now (terms .exit)) (now (asked .exit)) (now (estimates .exit)) (now (tickets .exit)) (now (places .exit)) ⌝ }
-{
-    let mut running: usize = 0;
-    let mut waiting: usize = 0;
-    let mut spare = d.nodes;
-    let mut i: usize = 0;
-    while i < Scheduler::LIVE {
-        let j = d.jobs[i];
-        let s = j.state;
-        match s {
-            State::Unused => {
-                return Found {
-                    running: running,
-                    waiting: waiting,
-                    spare: spare,
-                };
-            }
-            State::Waiting => {
-                asked[waiting] = j.nodes;
-                estimates[waiting] = j.estimate;
-                tickets[waiting] = j.ticket;
-                places[waiting] = i as u32;
-                waiting += 1;
-            }
-            State::Running => {
-                held[running] = j.nodes;
-                starts[running] = j.start;
-                terms[running] = j.estimate;
-                running += 1;
-                spare -= j.nodes;
-            }
-        }
-        i += 1;
-    }
-    Found {
-        running: running,
-        waiting: waiting,
-        spare: spare,
-    }
-}
-
 // Each start becomes the end.
-pub fn fill_ends(ends: &mut [u32; 64], terms: &[u32; 64], running: usize)
+fn fill_ends(ends: &mut [u32; 64], terms: &[u32; 64], running: usize)
     requires { ⌜ Starts (now ends) (now terms) running ⌝ }
     ensures { λ _. ⌜ ((s : Starts (now (ends .entry)) (now (terms .entry)) running) → Column endOf (s .jobs) (now (ends .exit))) ⌝ }
 {
@@ -327,13 +261,7 @@ pub fn fill_ends(ends: &mut [u32; 64], terms: &[u32; 64], running: usize)
 }
 
 // Whether nobody fits, and the first that waits is the head of before: then nobody starts and nobody is announced.
-pub fn rests(
-    before: u32,
-    asked: &[u32; 64],
-    tickets: &[u32; 64],
-    waiting: usize,
-    spare: u32,
-) -> bool
+fn rests(before: u32, asked: &[u32; 64], tickets: &[u32; 64], waiting: usize, spare: u32) -> bool
     requires { ⌜ waiting ≤ slots ⌝ }
     ensures { λ r. ⌜ ((ws : List Job) → Column asks ws (now (asked .entry)) → Column ticketOf ws (now (tickets .entry)) → length ws ≡ waiting → r ≡ true → Rests ws spare before) ⌝ }
 {
@@ -346,34 +274,126 @@ pub fn rests(
     tickets[0] == before
 }
 
-// The jobs in these places of the queue run from now on, one after another, and their tickets are given.
-pub fn apply(
-    d: Scheduler,
-    order: &[u32; 64],
-    places: &[u32; 64],
-    count: usize,
-    started: &mut [u32; 64],
-) -> Scheduler
-    requires { ⌜ Applies d (now order) (now places) count (now started) ⌝ }
-    ensures { λ r. ⌜ ((a : Applies d (now (order .entry)) (now (places .entry)) count (now (started .entry))) → (r ≡ store (begins (a .tickets) (a .model))) × (now (started .exit) ≡ pad slots 0 (a .tickets))) ⌝ }
+// A job that is head now and was not before, with its forecast; 0 where there is none.
+pub struct Announced {
+    pub ticket: u32,
+    pub minute: u32,
+}
+
+// The head and its forecast, if it is another than before.
+fn announce(
+    before: u32,
+    held: &[u32; 64],
+    ends: &[u32; 64],
+    running: usize,
+    asked: &[u32; 64],
+    tickets: &[u32; 64],
+    waiting: usize,
+    clock: u32,
+    spare: u32,
+) -> Announced
+    requires { ⌜ Announces (now held) (now ends) running (now asked) (now tickets) waiting clock spare ⌝ }
+    ensures { λ r. ⌜ ((a : Announces (now (held .entry)) (now (ends .entry)) running (now (asked .entry)) (now (tickets .entry)) waiting clock spare) (b : Model) → before ≡ ticketIn (head b) → r ≡ announced (forecast b (a .surveyed .model))) ⌝ }
 {
-    let mut e = d;
-    let clock = d.clock;
-    let mut k: usize = 0;
-    while k < count {
-        let place = order[k] as usize;
-        let at = places[place] as usize;
-        let j = e.jobs[at];
-        started[k] = j.ticket;
-        e.jobs[at] = Job {
-            ticket: j.ticket,
-            nodes: j.nodes,
-            estimate: j.estimate,
-            state: State::Running,
-            start: clock,
-            promise: j.promise,
+    let h = first_within(asked, waiting, Scheduler::NODES);
+    if waiting <= h {
+        return Announced {
+            ticket: 0,
+            minute: 0,
         };
-        k += 1;
     }
-    e
+    let ticket = tickets[h];
+    if before == ticket {
+        return Announced {
+            ticket: 0,
+            minute: 0,
+        };
+    }
+    let minute = shadow(
+        held,
+        ends,
+        running,
+        spare,
+        asked[h],
+        clock + Scheduler::LONGEST,
+    );
+    Announced {
+        ticket: ticket,
+        minute: minute,
+    }
+}
+
+// The head before a call that gave this ticket: the first that waits, unless it has that ticket.
+fn head_before(first: u32, ticket: u32) -> u32
+    ensures { λ r. ⌜ r ≡ cond (eqb first ticket) 0 first ⌝ }
+{
+    if first == ticket {
+        return 0;
+    }
+    first
+}
+
+// What a call answers by settling: how many jobs start, and the new head with its forecast.
+pub struct Answered {
+    pub started: usize,
+    pub head: u32,
+    pub forecast: u32,
+}
+
+// Settles after a call that gave this ticket, if any. The lists are filled by the survey, `ends` with the starts of the running jobs; the
+// places of those who start are noted in order.
+pub fn settle_all(
+    ticket: u32,
+    held: &mut [u32; 64],
+    ends: &mut [u32; 64],
+    terms: &[u32; 64],
+    running: usize,
+    asked: &mut [u32; 64],
+    estimates: &[u32; 64],
+    tickets: &[u32; 64],
+    waiting: usize,
+    order: &mut [u32; 64],
+    clock: u32,
+    spare: u32,
+) -> Answered
+    requires { ⌜ Unsettled (now held) (now ends) (now terms) running (now asked) (now estimates) (now tickets) waiting (now order) clock spare ⌝ }
+    ensures { λ r. ⌜ ((u : Unsettled (now (held .entry)) (now (ends .entry)) (now (terms .entry)) running (now (asked .entry)) (now (estimates .entry)) (now (tickets .entry)) waiting (now (order .entry)) clock spare) → Answers (u .scheduler) (u .places) ticket (now (order .exit)) r) ⌝ }
+{
+    let before = head_before(tickets[0], ticket);
+    if rests(before, asked, tickets, waiting, spare) {
+        return Answered {
+            started: 0,
+            head: 0,
+            forecast: 0,
+        };
+    }
+    fill_ends(ends, terms, running);
+    let s = settle(
+        held,
+        ends,
+        running,
+        asked,
+        estimates,
+        waiting,
+        order,
+        0,
+        clock,
+        spare,
+    );
+    let new = announce(
+        before,
+        held,
+        ends,
+        s.running,
+        asked,
+        tickets,
+        waiting,
+        clock,
+        s.spare,
+    );
+    Answered {
+        started: s.count,
+        head: new.ticket,
+        forecast: new.minute,
+    }
 }

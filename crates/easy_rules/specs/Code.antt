@@ -1,4 +1,4 @@
--- Laws in the shape of the code: a search over the ends of running jobs, two searches by index, a start as one store, and the
+-- Laws in the shape of the code: a search over the ends of running jobs, two searches over a list, a start as one store, and the
 -- settling without its fuel.
 -- Assumes nothing.
 use Prim.Native.Nat.{ℕ, zero, suc, _+_, _-_, _≤_, _<_, max}
@@ -7,28 +7,27 @@ use native.Mathlib.Numerals.{add-one}
 use mathlib.Core.Path.{_≡_, refl, sym, ap, _∙_}
 use mathlib.Core.Bool.{Bool, true, _&&_, cond}
 use mathlib.Core.Option.{none, some}
-use mathlib.Core.List.{List, [], _∷_, _++_, map}
+use mathlib.Core.List.{List, [], _∷_, map, head?}
 use mathlib.Core.Logic.{_⊎_, inl, inr}
 use lib.Dec.{leb, ltb}
 use lib.ListN.{length, getD, set, drop, replicate, drop-of-length-le, List·getD-append}
 use lib.Seq.{drop-cons}
 use borrow.Author.Tests.{leb-true, leb-false, le-leb, lt-leb, ltb-true, lt-ltb}
 use Rattle.lists.specs.Tests.{case, le-or, on, on-le, both}
-use Rattle.lists.specs.Lists.{first, sum, In, here, there, in-getD, map-same, sum-cong, sum-le, length-keep-le}
-use Rattle.lists.specs.Loops.{position, position-pad}
-use Rattle.lists.specs.Pads.{pad, sum-pad}
+use Rattle.lists.specs.Lists.{first, In, here, there, in-getD, map-same, sum-cong, sum-le, length-keep-le}
+use Rattle.lists.specs.Pads.{pad}
 use Rattle.scheduler.specs.declared.Job.{Job}
 use Rattle.scheduler.specs.Limits as limit
 use Rattle.scheduler.specs.Jobs.{unused, isWaiting, isRunning, held}
-use Rattle.scheduler.specs.Settings.{Settings, slots, unit, until}
+use Rattle.scheduler.specs.Settings.{Settings, slots, until}
 use Rattle.scheduler.specs.Table.{withJobs}
 use Rattle.scheduler.specs.Model.{Model, store, withModelJobs}
 use Rattle.scheduler.specs.TableLaws.{put-stored}
 use Rattle.jobs.specs.Order.{Asc, asc-in}
 use Rattle.jobs.specs.Sound.{Sound}
-use Rattle.easy_rules.specs.First.{first-keep, head-keep, first-at, first-nowhere}
+use Rattle.easy_rules.specs.First.{first-keep, head-keep}
 use Rattle.easy_rules.specs.Easy.{queue, head, free, freed, overBy, avail, shadow, qualifies, pick, choice, begun, mark, begin, settle, settled, rank}
-use Rattle.easy_rules.specs.Settling.{shadow-from, shadow-min, shadow-holds, ended-by, not-ended, avail-all, avail-now, chosen, mark-same, mark-begun, one-fewer}
+use Rattle.easy_rules.specs.Settling.{shadow-from, shadow-min, shadow-holds, ended-by, not-ended, avail-now, chosen, mark-same, mark-begun, one-fewer}
 
 -- ## The shadow by the ends of running jobs
 
@@ -170,20 +169,7 @@ module _ (m : Model) (n : ℕ) where
           rw e (f j (here refl) (both (isRunning j) (ltb (until (m .settings) j) best) (a .0) .0) (leb-true n (avail m (until (m .settings) j)) (a .1))))
           (λ e. rw e p)
 
-  -- Where n nodes are not free now, the search finds the shadow.
-  pub earliest-is : Sound m → n ≤ m .settings .nodes → free m < n → earliest m n (m .clock + unit (m .settings)) (m .jobs) ≡ shadow m n
-  earliest-is s l f =
-      let last = m .clock + unit (m .settings) in
-      shadow-by-ends m n (earliest m n last (m .jobs)) s l f
-      (earliest-holds (λ (t : ℕ). m .clock ≤ t) last (m .jobs) (omega arith) (λ j i r k. omega (arith, s .each j i .runs r)))
-      (earliest-holds (λ (t : ℕ). n ≤ avail m t) last (m .jobs) (omega (arith, avail-all m s)) (λ j i r k. k))
-      (λ j i r k. early j (earliest-min last i r) k)
-    where
-      early : (j : Job) → (n ≤ avail m (until (m .settings) j) → earliest m n (m .clock + unit (m .settings)) (m .jobs) ≤ until (m .settings) j)
-          → until (m .settings) j < earliest m n (m .clock + unit (m .settings)) (m .jobs) → avail m (until (m .settings) j) < n
-      early j g k = case (leb n (avail m (until (m .settings) j))) (λ e. absurd (omega (arith, g (leb-true n (avail m (until (m .settings) j)) e)))) (λ e. leb-false n (avail m (until (m .settings) j)) e)
-
-  -- the search as a loop over slots: one step more, and its end. Unused slots change nothing
+  -- the search as a loop: one step more, and its end
   pub earliest-step : (z : Job) (best : ℕ) (xs : List Job) (i : ℕ) → i < length xs
       → earliest m n best (drop i xs) ≡ earliest m n (sooner m n best (getD xs i z)) (drop (i + 1) xs)
   earliest-step z best xs i h = rw (add-one, drop-cons xs i z h)
@@ -191,34 +177,23 @@ module _ (m : Model) (n : ℕ) where
   pub earliest-done : (best : ℕ) (xs : List Job) (i : ℕ) → length xs ≤ i → earliest m n best (drop i xs) ≡ best
   earliest-done best xs i h = rw (drop-of-length-le xs h)
 
-  earliest-unused : (best k : ℕ) → earliest m n best (replicate k unused) ≡ best
-  earliest-unused best zero = refl
-  earliest-unused best (suc k) = earliest-unused best k
-
-  earliest-append : (best : ℕ) (js : List Job) (k : ℕ) → earliest m n best (js ++ replicate k unused) ≡ earliest m n best js
-  earliest-append best [] k = earliest-unused best k
-  earliest-append best (j ∷ js) k = earliest-append (sooner m n best j) js k
-
-  pub earliest-stored : (best : ℕ) → earliest m n best (store m .jobs) ≡ earliest m n best (m .jobs)
-  unfolding store pad
-  earliest-stored best = earliest-append best (m .jobs) (limit.slots - length (m .jobs))
-
--- the nodes at a minute, over the slots
-pub freed-stored : (m : Model) (t : ℕ) → sum (freed (m .settings) t) (store m .jobs) ≡ sum (freed (m .settings) t) (m .jobs)
-unfolding store
-freed-stored m t = sum-pad limit.slots unused (freed (m .settings) t) (m .jobs) refl
-
--- ## The choice by index
+-- ## The choice over a list
 
 -- a later job that passes the head can be looked for among all: the head itself does not fit
 abbrev pub passes : Model → Job → Job → Bool
 passes m h j = isWaiting j && qualifies m h j
 
 module _ (m : Model) where
-  pub head-first : head m ≡ first isWaiting (m .jobs)
-  head-first = head-keep isWaiting (m .jobs)
+  -- nobody waits; the head fits; or the first that may pass it
+  pub choice-empty : head m ≡ none → choice m ≡ none
+  unfolding pick
+  choice-empty e = by (queue (m .jobs)) refl
+    where
+      by : (k : List Job) → queue (m .jobs) ≡ k → choice m ≡ none
+      by [] x = rw x
+      by (k ∷ later) x = absurd (let y : some k ≡ none = rw x at e in let z : _≡_ {A = ℕ} 0 1 = cc in omega arith)
 
-  choice-head : (h : Job) → head m ≡ some h → h .nodes ≤ free m → choice m ≡ some h
+  pub choice-head : (h : Job) → head m ≡ some h → h .nodes ≤ free m → choice m ≡ some h
   unfolding pick
   choice-head h e l = by (queue (m .jobs)) refl
     where
@@ -229,45 +204,21 @@ module _ (m : Model) where
           let z : k ≡ h = cc in
           rw (x, z, le-leb (h .nodes) (free m) l)
 
-  pub choice-scan : (h : Job) → head m ≡ some h → free m < h .nodes → choice m ≡ first (passes m h) (m .jobs)
-  unfolding pick qualifies
-  choice-scan h e l = by (queue (m .jobs)) refl ∙ first-keep (qualifies m h) isWaiting (m .jobs)
-    where
-      by : (q : List Job) → queue (m .jobs) ≡ q → choice m ≡ first (qualifies m h) (queue (m .jobs))
-      by [] x = rw x
-      by (k ∷ later) x =
-          let y : some k ≡ some h = rw x at e in
-          let z : k ≡ h = cc in
-          rw (x, z, lt-leb (h .nodes) (free m) l)
+  -- over any list with the same queue
+  module _ (ws : List Job) (same : queue ws ≡ queue (m .jobs)) where
+    pub head-first : head m ≡ first isWaiting ws
+    head-first = ap head? (sym same) ∙ head-keep isWaiting ws
 
-  -- nobody waits; the head fits; one passes it; or none does
-  pub choice-empty : position isWaiting (m .jobs) ≡ none → choice m ≡ none
-  unfolding pick
-  choice-empty e = by (queue (m .jobs)) refl
-    where
-      by : (q : List Job) → queue (m .jobs) ≡ q → choice m ≡ none
-      by [] x = rw x
-      by (k ∷ later) x =
-          absurd (let y : none ≡ some k = sym (first-nowhere isWaiting (m .jobs) 0 e) ∙ sym head-first ∙ rw x in
-          let z : _≡_ {A = ℕ} 0 1 = cc in omega arith)
-
-  module _ (z : Job) (i : ℕ) (e : position isWaiting (m .jobs) ≡ some i) where
-    pub head-at : head m ≡ some (getD (m .jobs) i z)
-    head-at = head-first ∙ first-at isWaiting (m .jobs) z i e
-
-    pub choice-fits : getD (m .jobs) i z .nodes ≤ free m → choice m ≡ some (getD (m .jobs) i z)
-    choice-fits l = choice-head (getD (m .jobs) i z) head-at l
-
-    pub choice-passes : (k : ℕ) → free m < getD (m .jobs) i z .nodes → position (passes m (getD (m .jobs) i z)) (m .jobs) ≡ some k
-        → choice m ≡ some (getD (m .jobs) k z)
-    choice-passes k l p = choice-scan (getD (m .jobs) i z) head-at l ∙ first-at (passes m (getD (m .jobs) i z)) (m .jobs) z k p
-
-    pub choice-rests : free m < getD (m .jobs) i z .nodes → position (passes m (getD (m .jobs) i z)) (m .jobs) ≡ none → choice m ≡ none
-    choice-rests l p = choice-scan (getD (m .jobs) i z) head-at l ∙ first-nowhere (passes m (getD (m .jobs) i z)) (m .jobs) 0 p
-
-  pub passes-stored : (h : Job) → position (passes m h) (store m .jobs) ≡ position (passes m h) (m .jobs)
-  unfolding store
-  passes-stored h = position-pad limit.slots unused (passes m h) refl (m .jobs)
+    pub choice-scan : (h : Job) → head m ≡ some h → free m < h .nodes → choice m ≡ first (passes m h) ws
+    unfolding pick qualifies
+    choice-scan h e l = by (queue (m .jobs)) refl ∙ ap (first (qualifies m h)) (sym same) ∙ first-keep (qualifies m h) isWaiting ws
+      where
+        by : (q : List Job) → queue (m .jobs) ≡ q → choice m ≡ first (qualifies m h) (queue (m .jobs))
+        by [] x = rw x
+        by (k ∷ later) x =
+            let y : some k ≡ some h = rw x at e in
+            let z : k ≡ h = cc in
+            rw (x, z, lt-leb (h .nodes) (free m) l)
 
 -- ## A start is one store
 

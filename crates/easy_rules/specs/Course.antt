@@ -228,7 +228,7 @@ module _ (m : Model) (c : ℕ) (p : Select) (s : Sound m) (l : Leaving m c p) wh
   pub waits-stay : (j : Job) → isWaiting j ≡ true → picks p j ≡ false
   waits-stay j w = case (picks p j) (λ e. true-false (isRunning j) (leaving-runs m c p l j e) (idle j w)) (λ e. e)
 
-  queue-leave : queue (staying p (m .jobs)) ≡ queue (m .jobs)
+  pub queue-leave : queue (staying p (m .jobs)) ≡ queue (m .jobs)
   queue-leave =
       keep-keep isWaiting (λ (j : Job). not (picks p j)) (m .jobs)
       ∙ keep-cong (λ (j : Job). not (picks p j) && isWaiting j) isWaiting (m .jobs)

@@ -206,24 +206,40 @@ judge m c r o f = case (accepts r) (λ e. rw e (inl (f e))) (λ e. rw e (inr (re
     comers-are (profile room) q = refl
     comers-are (refusedWait w) q = refl
 
+-- what is accepted moves the model
+module _ (m : Model) where
+  pub submit-moves : (n e : ℕ) → accepts (submitRefusal m n e) ≡ true → Moved m (submit n e) (joined m (newJob (m .next) n e)) (m .next) []
+  unfolding submitRefusal
+  submit-moves n e a =
+      let f = submit-fit m n e _ a in
+      let p = passed (ltb (horizon (m .settings)) (latestEnd m e)) refusal.PastHorizon [] refl (f .1) in
+      submits n e (f .0) (ltb-false (horizon (m .settings)) (latestEnd m e) (p .0))
+
+  pub complete-moves : (t : ℕ) → accepts (completeRefusal m t) ≡ true
+      → Moved m (complete t) (without m (m .clock) (select.RunningTicket t)) 0 (ticketsOf (keep (picks (select.RunningTicket t)) (m .jobs)))
+  unfolding completeRefusal
+  complete-moves t a =
+      let p = passed (not (any (picks (select.RunningTicket t)) (m .jobs))) refusal.NotRunning [] refl a in
+      completes t (not-false (any (picks (select.RunningTicket t)) (m .jobs)) (p .0))
+
+  pub tick-moves : accepts (tickRefusal m) ≡ true
+      → Moved m tick (without m (suc (m .clock)) (select.EndingAt (suc (m .clock)))) 0 (ticketsOf (keep (picks (select.EndingAt (suc (m .clock)))) (m .jobs)))
+  unfolding tickRefusal
+  tick-moves a =
+      let p = passed (ltb (horizon (m .settings)) (suc (m .clock))) refusal.PastHorizon [] refl a in
+      ticks (ltb-false (horizon (m .settings)) (suc (m .clock)) (p .0))
+
 pub called : (m : Model) (c : Call) → Valid m → Taken m c (call m c) ⊎ Quiet m c (call m c)
-unfolding call advanced submitRefusal completeRefusal tickRefusal
+unfolding call advanced
 called m (submit n e) v =
     judge m (submit n e) (submitRefusal m n e) (finished m (joined m (newJob (m .next) n e)) (m .next) [])
-    (λ a. let f = submit-fit m n e _ a in
-    let p = passed (ltb (horizon (m .settings)) (latestEnd m e)) refusal.PastHorizon [] refl (f .1) in
-    let x = submits n e (f .0) (ltb-false (horizon (m .settings)) (latestEnd m e) (p .0)) in
-    finished-taken m (submit n e) (joined m (newJob (m .next) n e)) (m .next) [] x (moved-ready x v))
+    (λ a. let x = submit-moves m n e a in finished-taken m (submit n e) (joined m (newJob (m .next) n e)) (m .next) [] x (moved-ready x v))
 called m (complete t) v =
     judge m (complete t) (completeRefusal m t) (advanced m (m .clock) (select.RunningTicket t))
-    (λ a. let p = passed (not (any (picks (select.RunningTicket t)) (m .jobs))) refusal.NotRunning [] refl a in
-    let x = completes t (not-false (any (picks (select.RunningTicket t)) (m .jobs)) (p .0)) in
-    finished-taken m (complete t) _ 0 _ x (moved-ready x v))
+    (λ a. let x = complete-moves m t a in finished-taken m (complete t) _ 0 _ x (moved-ready x v))
 called m tick v =
     judge m tick (tickRefusal m) (advanced m (suc (m .clock)) (select.EndingAt (suc (m .clock))))
-    (λ a. let p = passed (ltb (horizon (m .settings)) (suc (m .clock))) refusal.PastHorizon [] refl a in
-    let x = ticks (ltb-false (horizon (m .settings)) (suc (m .clock)) (p .0)) in
-    finished-taken m tick _ 0 _ x (moved-ready x v))
+    (λ a. let x = tick-moves m a in finished-taken m tick _ 0 _ x (moved-ready x v))
 called m (profile room) v = inr (record { why = refusal.None; same = refl; clock = refl; none-comes = refl })
 called m (refusedWait r) v = inr (record { why = r; same = refl; clock = refl; none-comes = refl })
 

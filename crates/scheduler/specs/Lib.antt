@@ -7,3 +7,4 @@ pub mod Answers
 pub mod Refusals
 pub mod Opening
 pub mod TableLaws
+pub mod Compacting

@@ -1,8 +1,8 @@
 -- `easy_engine::fill_ends` meets its contract. The invariant: the places passed have ends, the others starts.
 -- Assumes nothing.
-use Prim.Native.Nat.{_+_, _-_, _≤_, _<_}
+use Prim.Native.Nat.{_-_, _≤_, _<_}
 use native.Mathlib.Omega.{arith}
-use mathlib.Core.Path.{_≡_, sym, ap, _∙_}
+use mathlib.Core.Path.{_≡_, ap, _∙_}
 use lib.ListN.{length, getD}
 use Rattle.lists.specs.Lists.{in-getD}
 use Rattle.lists.specs.Pads.{pad}

@@ -1,78 +1,26 @@
 -- `Scheduler::remove` meets its contract. The invariant says of the slots passed what `removed` says of all.
 -- Assumes nothing.
 use mathlib.Core.Path.{_≡_, refl, ap, sym, _∙_}
-use mathlib.Core.Bool.{true, false, not}
-use mathlib.Core.List.{List, _++_, map-append}
+use mathlib.Core.List.{List}
 use mathlib.Core.Logic.{⊎-elim}
-use Prim.Native.Nat.{ℕ, _+_, _-_, _≤_, _<_}
+use Prim.Native.Nat.{_-_, _<_}
 use native.Mathlib.Omega.{arith}
-use lib.ListN.{length, getD, take, drop, set, length-append}
+use lib.ListN.{take, drop}
 use lib.Seq.{take-all}
-use Rattle.lists.specs.Lists.{keep}
-use Rattle.lists.specs.Loops.{keep-take-yes, keep-take-no}
-use Rattle.lists.specs.Pads.{pad, pad-push}
+use Rattle.lists.specs.Pads.{pad}
 use Rattle.scheduler.specs.declared.Job.{Job}
 use Rattle.scheduler.specs.declared.Scheduler.{Scheduler}
-use Rattle.scheduler.specs.declared.Select.{Select}
-use Rattle.scheduler.specs.Jobs.{unused, picks}
-use Rattle.scheduler.specs.Table.{withJobs, ticketsOf, tickets, staying, removed}
-use Rattle.scheduler.specs.TableLaws.{overwrite, take-written}
+use Rattle.scheduler.specs.Jobs.{unused}
+use Rattle.scheduler.specs.Table.{withJobs, tickets, staying, removed}
+use Rattle.scheduler.specs.TableLaws.{take-written}
+use Rattle.scheduler.specs.Compacting.{Compacts, gone-step, kept-step}
 use Rattle.scheduler.proofs.Whole.{whole}
 use borrow.Author.Needs.{needs}
 use Rattle.scheduler.proofs.Scheduler.remove.Statement.{statement}
 use Rattle.scheduler.proofs.Scheduler.remove.Tie as tie
 
-record Inv (s : Select) (self d : Scheduler) (list : List ℕ) (kept gone i : ℕ) : Type 0 where
-  low : i ≤ 64
-  parts : kept + gone ≡ i
-  kept-is : kept ≡ length (staying s (take i (self .jobs)))
-  gone-is : gone ≡ length (ticketsOf (keep (picks s) (take i (self .jobs))))
-  scheduler-is : d ≡ withJobs self (staying s (take i (self .jobs)) ++ drop kept (self .jobs))
-  list-is : list ≡ pad 64 0 (ticketsOf (keep (picks s) (take i (self .jobs))))
-
-module _ {s : Select} {self d : Scheduler} {list : List ℕ} {kept gone i : ℕ} (v : Inv s self d list kept gone i) (len : length (self .jobs) ≡ 64) (h : i < 64) where
-  abbrev xs : List Job
-  xs = self .jobs
-
-  abbrev x : Job
-  x = getD xs i unused
-
-  gone-step : picks s x ≡ true → Inv s self d (set list gone (x .ticket)) kept (gone + 1) (i + 1)
-  gone-step t =
-      let in₀ : i < length xs = omega arith in
-      let eG = keep-take-yes unused (picks s) xs i in₀ t in
-      let eK = keep-take-no unused (λ (j : Job). not (picks s j)) xs i in₀ (ap not t) in
-      record {
-        low = omega arith;
-        parts = omega (arith, v .parts);
-        kept-is = rw eK (v .kept-is);
-        gone-is = rw (eG, map-append, length-append) (ap (λ (n : ℕ). n + 1) (v .gone-is));
-        scheduler-is = rw eK (v .scheduler-is);
-        list-is =
-            rw (eG, map-append)
-            (ap (λ (l : List ℕ). set l gone (x .ticket)) (v .list-is)
-            ∙ pad-push 64 0 (ticketsOf (keep (picks s) (take i xs))) (x .ticket) gone (sym (v .gone-is)) (omega (arith, v .parts)));
-      }
-
-  kept-step : picks s x ≡ false → Inv s self (withJobs d (set (d .jobs) kept x)) list (kept + 1) gone (i + 1)
-  kept-step t =
-      let in₀ : i < length xs = omega arith in
-      let eG = keep-take-no unused (picks s) xs i in₀ t in
-      let eK = keep-take-yes unused (λ (j : Job). not (picks s j)) xs i in₀ (ap not t) in
-      record {
-        low = omega arith;
-        parts = omega (arith, v .parts);
-        kept-is = rw (eK, length-append) (ap (λ (n : ℕ). n + 1) (v .kept-is));
-        gone-is = rw eG (v .gone-is);
-        scheduler-is =
-            rw eK
-            (ap (λ (e : Scheduler). withJobs e (set (e .jobs) kept x)) (v .scheduler-is)
-            ∙ ap (withJobs self) (overwrite (staying s (take i xs)) xs x kept (sym (v .kept-is)) (omega (arith, v .parts))));
-        list-is = rw eG (v .list-is);
-      }
-
 abbrev Inv-loop : tie.InvT-loop
-Inv-loop which self d₀ list₀ kept₀ gone₀ i₀ d list kept gone i = Inv which self d list kept gone i
+Inv-loop which self d₀ list₀ kept₀ gone₀ i₀ d list kept gone i = Compacts which self d list kept gone i
 
 abbrev μ-loop : tie.MeasureT-loop
 μ-loop which self d₀ list₀ kept₀ gone₀ i₀ d list kept gone i = 64 - i

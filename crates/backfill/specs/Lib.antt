@@ -1,4 +1,0 @@
-pub mod Choice
-pub mod Slots
-pub mod Choosing
-pub mod Fitting

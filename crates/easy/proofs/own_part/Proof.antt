@@ -1,0 +1,56 @@
+-- `easy::own_part` meets its contract: each request has its function.
+-- Assumes nothing.
+use mathlib.Core.Path.{sym, ap, _∙_}
+use borrow.Author.Needs.{needs}
+use Rattle.scheduler.specs.Model.{view}
+use Rattle.easy.specs.declared.Request.{Request}
+use Rattle.easy.specs.Parts.{own, part}
+use Rattle.easy.proofs.own_part.Statement.{statement}
+use Rattle.easy.proofs.own_part.Tie as tie
+
+enum-known-request : tie.Need-enum-known-request
+enum-known-request c = search needs
+
+admit-requires : tie.Need-admit-requires
+admit-requires c κs = search needs
+
+enum-known-request-2 : tie.Need-enum-known-request-2
+enum-known-request-2 c = search needs
+
+leave-requires : tie.Need-leave-requires
+leave-requires c κs = search needs
+
+enum-told : tie.Need-enum-told
+enum-told c = search needs
+
+expire-requires : tie.Need-expire-requires
+expire-requires c κs = search needs
+
+returns : tie.Need-returns
+returns c =
+    let m = view (c .before .before .before .before .args .d) in
+    c .admit .ensures ∙ ap (λ (q : Request). part (own m q)) (sym (c .before .before .request .given .1))
+
+returns-2 : tie.Need-returns-2
+returns-2 c =
+    let m = view (c .before .before .before .before .args .d) in
+    c .leave .ensures ∙ ap (λ (q : Request). part (own m q)) (sym (c .before .before .request2 .given .1))
+
+returns-3 : tie.Need-returns-3
+returns-3 c =
+    let m = view (c .before .before .before .args .d) in
+    c .expire .ensures ∙ ap (λ (q : Request). part (own m q)) (sym (c .before .enum-told .given .1))
+
+pub own-part-spec : {M : Type 1} → statement M
+own-part-spec =
+    tie.close
+    (tie.spec
+    enum-known-request
+    admit-requires
+    enum-known-request-2
+    leave-requires
+    enum-told
+    expire-requires
+    returns
+    returns-2
+    returns-3)
