@@ -14,7 +14,7 @@ use lib.ListN.{length, getD, set, drop, replicate, drop-of-length-le, List·getD
 use lib.Seq.{drop-cons}
 use borrow.Author.Tests.{leb-true, leb-false, le-leb, lt-leb, ltb-true, lt-ltb}
 use Rattle.lists.specs.Tests.{case, le-or, on, on-le, both}
-use Rattle.lists.specs.Lists.{first, In, here, there, in-getD, map-same, sum-cong, sum-le, length-keep-le}
+use Rattle.lists.specs.Lists.{first, In, here, there, in-getD, map-same, sum-cong, sum-le}
 use Rattle.lists.specs.Pads.{pad}
 use Rattle.scheduler.specs.declared.Job.{Job}
 use Rattle.scheduler.specs.Limits as limit
@@ -26,27 +26,17 @@ use Rattle.scheduler.specs.TableLaws.{put-stored}
 use Rattle.jobs.specs.Order.{Asc, asc-in}
 use Rattle.jobs.specs.Sound.{Sound}
 use Rattle.easy_rules.specs.First.{first-keep, head-keep}
-use Rattle.easy_rules.specs.Easy.{queue, head, free, freed, overBy, avail, shadow, qualifies, pick, choice, begun, mark, begin, settle, settled, rank}
+use Rattle.easy_rules.specs.Easy.{queue, head, free, freed, overBy, avail, shadow, qualifies, pick, choice, begun, mark, begin, settle, settled}
 use Rattle.easy_rules.specs.Settling.{shadow-from, shadow-min, shadow-holds, ended-by, not-ended, avail-now, chosen, mark-same, mark-begun, one-fewer}
 
 -- ## The shadow by the ends of running jobs
 
--- nodes at a minute are at most the machine's, and at a later one never fewer
+-- nodes at a minute are at most the machine's
 pub avail-to : (m : Model) (t : ℕ) → Sound m → avail m t ≤ m .settings .nodes
 avail-to m t s = omega (arith, s .capacity, sum-le (freed (m .settings) t) held (m .jobs) (λ j i. less j))
   where
     less : (j : Job) → freed (m .settings) t j ≤ held j
     less j = case (isRunning j) (λ r. rw r (on-le (leb (until (m .settings) j) t) (j .nodes))) (λ r. rw r (omega arith))
-
-pub avail-mono : (m : Model) (x y : ℕ) → x ≤ y → avail m x ≤ avail m y
-avail-mono m x y l = omega (arith, sum-le (freed (m .settings) x) (freed (m .settings) y) (m .jobs) (λ j i. more j))
-  where
-    more : (j : Job) → freed (m .settings) x j ≤ freed (m .settings) y j
-    more j =
-        case (overBy (m .settings) x j)
-        (λ e. let p = both (isRunning j) (leb (until (m .settings) j) x) e in
-        rw (e, ended-by (m .settings) y j (p .0) (omega (arith, leb-true (until (m .settings) j) x (p .1)))) (omega arith))
-        (λ e. rw e (omega arith))
 
 -- a minute at which the nodes suffice, and before which from now on they do not, is the shadow
 pub shadow-is : (m : Model) (n t : ℕ) → Sound m → n ≤ m .settings .nodes → m .clock ≤ t → n ≤ avail m t → ((k : ℕ) → m .clock ≤ k → k < t → avail m k < n)
@@ -258,8 +248,3 @@ settle-goes m j a e = ap (λ (n : ℕ). settle n m) (sym (one-fewer m j a (chose
   where
     by : (n : ℕ) → settle (suc n) m ≡ record { model = settle n (begin (j .ticket) m) .model; started = j .ticket ∷ settle n (begin (j .ticket) m) .started }
     by n = rw (e, settle)
-
--- ## Sizes
-
-pub rank-to : (m : Model) → Sound m → rank m ≤ suc (slots (m .settings))
-rank-to m s = omega (arith, s .few, length-keep-le isWaiting (m .jobs))

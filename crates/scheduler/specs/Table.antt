@@ -1,20 +1,16 @@
--- The job table: what counting, finding, summing, appending and removing mean on the list of its 64 slots.
+-- The job table: what counting, summing, appending and removing mean on the list of its 64 slots.
 -- Assumes nothing.
 use mathlib.Core.Bool.{Bool, not, cond}
 use mathlib.Core.List.{List, [], _∷_, map}
-use mathlib.Core.Option.{Option, none, some}
 use Prim.Native.Nat.{ℕ}
 use lib.ListN.{length, set}
 use Rattle.lists.specs.Tests.{on}
 use Rattle.lists.specs.Lists.{keep, sum}
-use Rattle.lists.specs.Loops.{position}
 use Rattle.lists.specs.Pads.{pad}
 use Rattle.scheduler.specs.declared.Job.{Job}
 use Rattle.scheduler.specs.declared.Scheduler.{Scheduler}
 use Rattle.scheduler.specs.declared.Select.{Select}
 use Rattle.scheduler.specs.declared.Select.the-variants as select
-use Rattle.scheduler.specs.declared.Slot.{Slot}
-use Rattle.scheduler.specs.declared.Slot.the-variants.{At, Nowhere}
 use Rattle.scheduler.specs.declared.Tickets.{Tickets}
 use Rattle.scheduler.specs.declared.Removed.{Removed}
 use Rattle.scheduler.specs.Limits.{slots}
@@ -27,14 +23,6 @@ withJobs d js = record { kind = d .kind; nodes = d .nodes; clock = d .clock; nex
 -- how many a test picks
 abbrev pub counted : Select → List Job → ℕ
 counted s js = sum (λ (j : Job). on (picks s j) 1) js
-
-abbrev pub slot : Option ℕ → Slot
-slot none = Nowhere
-slot (some i) = At i
-
--- the slot of the first that it picks
-abbrev pub located : Select → List Job → Slot
-located s js = slot (position (picks s) js)
 
 -- the nodes that all jobs hold now
 abbrev pub nodesHeld : List Job → ℕ

@@ -12,7 +12,6 @@ use native.Mathlib.Numerals.{add-one}
 use Rattle.lists.specs.Tests.{case, on, on-le}
 use Rattle.lists.specs.Lists.{keep, All, all-in, length-keep, keep-all}
 use Rattle.lists.specs.Pads.{pad, sum-pad, keep-pad, pad-keep, pad-push, pad-set}
-use Rattle.lists.specs.Loops.{position-pad}
 use Rattle.walltime.specs.WallTime.{wallTime}
 use Rattle.scheduler.specs.declared.State.{State}
 use Rattle.scheduler.specs.declared.State.the-variants.{Unused, Waiting, Running}
@@ -25,7 +24,7 @@ use Rattle.scheduler.specs.Limits.{slots, longest, lastTicket, outside}
 use Rattle.scheduler.specs.Answers.{verdict, accepts}
 use Rattle.scheduler.specs.Refusals.{checked, submitTests}
 use Rattle.scheduler.specs.Jobs.{unused, live?, waiting?, running?, isLive, held, picks}
-use Rattle.scheduler.specs.Table.{withJobs, counted, located, slot, nodesHeld, ticketsOf, tickets, staying, appended, removed}
+use Rattle.scheduler.specs.Table.{withJobs, counted, nodesHeld, ticketsOf, tickets, staying, appended, removed}
 use Rattle.scheduler.specs.Model.{Model, store, withModelJobs, Live}
 
 -- no test picks an unused slot
@@ -39,10 +38,6 @@ module _ (m : Model) where
   pub counted-stored : (s : Select) → counted s (store m .jobs) ≡ counted s (m .jobs)
   unfolding store
   counted-stored s = sum-pad slots unused (λ (j : Job). on (picks s j) 1) (m .jobs) (ap (λ (b : Bool). on b 1) (picks-unused s))
-
-  pub located-stored : (s : Select) → located s (store m .jobs) ≡ located s (m .jobs)
-  unfolding store
-  located-stored s = ap slot (position-pad slots unused (picks s) (picks-unused s) (m .jobs))
 
   pub nodesHeld-stored : nodesHeld (store m .jobs) ≡ nodesHeld (m .jobs)
   unfolding store

@@ -5,8 +5,8 @@ ghost use lib.Dec.{leb};
 ghost use lib.ListN.{set, take, drop};
 ghost use Rattle.lists.specs.Pads.{pad};
 ghost use Rattle.scheduler.specs.Limits.{limits, outside};
-ghost use Rattle.scheduler.specs.Jobs.{unused, picks, held};
-ghost use Rattle.scheduler.specs.Table.{withJobs, counted, located, nodesHeld, removed, appended, tickets, oneIf};
+ghost use Rattle.scheduler.specs.Jobs.{unused, picks};
+ghost use Rattle.scheduler.specs.Table.{withJobs, counted, removed, appended, tickets, oneIf};
 ghost use Rattle.scheduler.specs.Model.{store, empty};
 ghost use Rattle.scheduler.specs.Answers.{code, accepts, refusedAnswer, refusedOutcome, noTickets};
 ghost use Rattle.scheduler.specs.Refusals.{checked};
@@ -112,11 +112,6 @@ pub enum Select {
     Waiting,
     RunningTicket(u32),
     EndingAt(u32),
-}
-
-pub enum Slot {
-    Nowhere,
-    At(usize),
 }
 
 pub struct Removed {
@@ -270,18 +265,6 @@ impl Job {
             }
         }
     }
-
-    // The nodes that it holds now.
-    pub fn held(self) -> u32
-        ensures { λ r. ⌜ r ≡ held self ⌝ }
-    {
-        let s = self.state;
-        match s {
-            State::Unused => 0,
-            State::Waiting => 0,
-            State::Running => self.nodes,
-        }
-    }
 }
 
 impl Select {
@@ -404,21 +387,6 @@ impl Scheduler {
         n
     }
 
-    // The slot of the first job that the test picks.
-    pub fn locate(self, which: Select) -> Slot
-        ensures { λ r. ⌜ r ≡ located which (self .jobs) ⌝ }
-    {
-        let mut i: usize = 0;
-        while i < Scheduler::LIVE {
-            let j = self.jobs[i];
-            if which.picks(j) {
-                return Slot::At(i);
-            }
-            i += 1;
-        }
-        Slot::Nowhere
-    }
-
     // Whether every slot is used. Where the last is not, nothing is counted.
     fn is_full(self) -> bool
         ensures { λ r. ⌜ r ≡ leb 64 (counted Select.Live (self .jobs)) ⌝ }
@@ -447,20 +415,6 @@ impl Scheduler {
             return Refusal::NoTicketLeft;
         }
         Refusal::None
-    }
-
-    pub fn nodes_held(self) -> u32
-        requires { ⌜ nodesHeld (self .jobs) ≤ self .nodes ⌝ }
-        ensures { λ r. ⌜ r ≡ nodesHeld (self .jobs) ⌝ }
-    {
-        let mut sum: u32 = 0;
-        let mut i: usize = 0;
-        while i < Scheduler::LIVE {
-            let j = self.jobs[i];
-            sum += j.held();
-            i += 1;
-        }
-        sum
     }
 
     pub fn put(self, i: usize, job: Job) -> Scheduler
