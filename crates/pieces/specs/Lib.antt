@@ -1,4 +1,3 @@
 pub mod Pieces
 pub mod Whole
 pub mod Ends
-pub mod Steps

@@ -3,15 +3,12 @@
 use mathlib.Core.Bool.{cond}
 use mathlib.Core.List.{List, []}
 use mathlib.Core.Option.{Option, none, some}
-use mathlib.Core.Path.{_≡_}
-use Prim.Native.Nat.{ℕ, _+_, _-_, _≤_}
+use Prim.Native.Nat.{ℕ, _+_, _-_}
 use lib.Dec.{eqb, leb, ltb}
 use lib.ListN.{length, take, drop}
-use lib.Seq.{sets}
 use Rattle.text.specs.Lines.{lineAt}
 use Rattle.scheduler.specs.declared.Kind.the-variants.{Conservative}
 use Rattle.scheduler.specs.declared.Opening.{Opening}
-use Rattle.scheduler.specs.declared.Refusal.the-variants as refusal
 use Rattle.scheduler.specs.declared.Scheduler.{Scheduler}
 use Rattle.scheduler.specs.Model.{view}
 use Rattle.scheduler.specs.Opening.{openingRefusal, opened}
@@ -23,11 +20,9 @@ use Rattle.script_rules.specs.Lines.{Line}
 use Rattle.script_rules.specs.Reading.{openingOf, requestOf}
 use Rattle.script_rules.specs.Writing.{noRow}
 use Rattle.script_rules.specs.Printout.{malformed, printed, longestScript}
-use Rattle.writing.specs.Answered.{pageBytes}
 use Rattle.pieces.specs.declared.Play.{Play}
 use Rattle.pieces.specs.declared.Stage.the-variants.{First, Playing, Over}
 use Rattle.pieces.specs.declared.Stage.{Stage}
-use Rattle.pieces.specs.declared.Step.{Step}
 
 pub record Piece : Type 0 where
   pub text : List ℕ
@@ -97,25 +92,6 @@ pieceOf s p = pieceBy (p .stage) s p
 
 abbrev pub piece : List ℕ → Play → Piece
 piece t p = record { text = t; play = p }
-
--- A piece into a page with room for so many bytes. 10: "the lent list, page or text is shorter than what goes into it"; the page
--- and the state are then as they were.
-unfoldable pub stepOf : Play → Piece → ℕ → Step
-stepOf p x room =
-    cond
-    (ltb room (length (x .text)))
-    (record { refusal = refusal.TooShort; written = 0; play = p })
-    (record { refusal = refusal.None; written = length (x .text); play = x .play })
-
--- bytes past what is written keep what they held
-unfoldable pub pageOf : Piece → List ℕ → List ℕ
-pageOf x page = cond (ltb (length page) (length (x .text))) page (sets page 0 (x .text))
-
--- What a step gives, with the page before and after. A page of `pageBytes` always suffices.
-pub record Stepped (p : Play) (x : Piece) (before : List ℕ) (r : Step) (after : List ℕ) : Type 0 where
-  pub step : r ≡ stepOf p x (length before)
-  pub page : after ≡ pageOf x before
-  pub suffices : length (x .text) ≤ pageBytes
 
 -- a script that has not begun: its scheduler is not asked anything before an opening
 abbrev pub beginning : Play

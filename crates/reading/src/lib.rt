@@ -1,7 +1,7 @@
 // A line of a script, read into what it asks. Each field goes through the field reader to the number reader: there is no second parser.
 ghost use mathlib.Core.Path.{_≡_};
-ghost use Rattle.script_rules.specs.Reading.{hasForm, kindOf, openingIn, requestIn};
-ghost use Rattle.reading.specs.Meaning.{opens, asks, follows, openingFrom, submissionFrom, completionFrom, waitFrom};
+ghost use Rattle.script_rules.specs.Reading.{kindOf, openingIn, requestIn};
+ghost use Rattle.reading.specs.Meaning.{opens, asks, follows, formFrom, openingFrom, submissionFrom, completionFrom, waitFrom};
 use scheduler::Kind;
 use scheduler::Opening;
 use scheduler::Submission;
@@ -27,15 +27,13 @@ enum Named {
     Nothing,
 }
 
-// So many fields, the first of them this word. A trailing tab is a field more.
-fn has_form(line: &[u8], fields: usize, word: &[u8]) -> bool
-    ensures { λ r. ⌜ r ≡ hasForm (now (line .entry)) fields (now (word .entry)) ⌝ }
+// So many fields, the first of them this word, of a line whose fields are counted. A trailing tab is a field more.
+fn has_form(count: usize, first: &[u8], fields: usize, word: &[u8]) -> bool
+    ensures { λ r. ⌜ r ≡ formFrom count (now (first .entry)) fields (now (word .entry)) ⌝ }
 {
-    let count = text::field_count(line);
     if count != fields {
         return false;
     }
-    let first = text::field(line, 0);
     text::is_word(first, word)
 }
 
@@ -111,7 +109,9 @@ fn waiting(minutes: Parsed) -> Asked
 pub fn read_first(line: &[u8]) -> FirstLine
     ensures { λ r. ⌜ opens r ≡ openingIn (now (line .entry)) ⌝ }
 {
-    if has_form(line, 5, b"desk") {
+    let count = text::field_count(line);
+    let first = text::field(line, 0);
+    if has_form(count, first, 5, b"desk") {
         let word = text::field(line, 1);
         let named = read_kind(word);
         let nodes = text::field_number(line, 2);
@@ -126,16 +126,18 @@ pub fn read_first(line: &[u8]) -> FirstLine
 pub fn read_later(line: &[u8]) -> Asked
     ensures { λ r. ⌜ asks r ≡ requestIn (now (line .entry)) ⌝ }
 {
-    if has_form(line, 3, b"in") {
+    let count = text::field_count(line);
+    let first = text::field(line, 0);
+    if has_form(count, first, 3, b"in") {
         let nodes = text::field_number(line, 1);
         let estimate = text::field_number(line, 2);
         return submission(nodes, estimate);
     }
-    if has_form(line, 2, b"end") {
+    if has_form(count, first, 2, b"end") {
         let ticket = text::field_number(line, 1);
         return completion(ticket);
     }
-    if has_form(line, 2, b"wait") {
+    if has_form(count, first, 2, b"wait") {
         let minutes = text::field_number(line, 1);
         return waiting(minutes);
     }

@@ -1,13 +1,10 @@
-// Scripts from files and descriptors: a script is read whole, played one call at a time, and what each call prints is written out.
+// Scripts from files and descriptors: a script is read whole, played page after page, and each page is written out.
 ghost use mathlib.Core.Path.{_≡_};
-ghost use Prim.Native.Nat.{_+_, _≤_};
+ghost use Prim.Native.Nat.{_≤_};
 ghost use lib.ListN.{length};
 ghost use Rattle.io.specs.Counts.{Counts};
 ghost use Rattle.writing.specs.Answered.{pageBytes};
-ghost use Rattle.pieces.specs.Pieces.{pieceOf};
-ghost use Rattle.pieces.specs.Ends.{Ready};
-ghost use Rattle.runner.specs.Turns.{goesOn, Turned};
-ghost use Rattle.runner.specs.Filled.{Filled};
+ghost use Rattle.script.specs.Filled.{goesOn};
 use libc::STDOUT_FILENO;
 use pieces::Play;
 use pieces::Stage;
@@ -23,58 +20,13 @@ fn goes_on(p: Play) -> bool
     }
 }
 
-// Where a call's lines end in the page, and where the script stands then.
-struct Played {
-    end: usize,
-    play: Play,
-}
-
-// One call: its lines stand in the page from this place on.
-fn turn(p: Play, script: &[u8], page: &mut [u8], at: usize) -> Played
-    requires { ⌜ Ready (now script) p × (at + pageBytes ≤ length (now page)) ⌝ }
-    ensures { λ r. ⌜ Turned (pieceOf (now (script .entry)) p) (now (page .entry)) at (now (page .exit)) r ⌝ }
-{
-    let s = script::advance(p, script, &mut page[at..]);
-    let next = s.play;
-    Played {
-        end: at + s.written,
-        play: next,
-    }
-}
-
-// The page filled from its start: call after call, until the script is over or the page has no room for the longest answer any more.
-fn fill(p: Play, script: &[u8], page: &mut [u8]) -> Played
-    requires { ⌜ Ready (now script) p × (pageBytes ≤ length (now page)) ⌝ }
-    ensures { λ r. ⌜ Filled (now (script .entry)) p (now (page .exit)) r ⌝ }
-{
-    let mut at: usize = 0;
-    let mut here = p;
-    while goes_on(here) {
-        let room = page.len() - at;
-        if room < writing::page_len() {
-            return Played {
-                end: at,
-                play: here,
-            };
-        }
-        let next = script::pass_over(here);
-        let t = turn(next, script, page, at);
-        at = t.end;
-        here = t.play;
-    }
-    Played {
-        end: at,
-        play: here,
-    }
-}
-
 // All of a script. The lines of many calls go out together; where they cannot be written, the rest is not played.
 fn play(script: &[u8], to: i32, page: &mut [u8]) -> bool
     requires { ⌜ pageBytes ≤ length (now page) ⌝ }
 {
     let mut p = script::begin();
     while goes_on(p) {
-        let t = fill(p, script, page);
+        let t = script::fill(p, script, page);
         let end = t.end;
         if !io::write_all(to, &page[..end]) {
             return false;

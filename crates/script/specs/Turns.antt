@@ -1,10 +1,12 @@
--- The piece of each turn that the code takes is the one that the definitions give.
+-- What a turn leaves, a line or one step of a wait: the lines of a piece in the page. For each turn of the code that piece is the one that the
+-- definitions give.
 -- Assumes nothing.
-use mathlib.Core.Path.{_≡_, sym, ap, subst, _∙_}
+use mathlib.Core.Path.{_≡_, refl, sym, ap, subst, _∙_}
 use mathlib.Core.Bool.{true, false}
 use mathlib.Core.List.{List, []}
-use mathlib.Core.Option.{Option, some}
+use mathlib.Core.Option.{none, some}
 use Prim.Native.Nat.{ℕ, _+_, _-_, _≤_, _<_}
+use native.Mathlib.Omega.{arith}
 use lib.ListN.{length, take, drop}
 use borrow.Author.Tests.{lt-ltb, le-ltb, lt-leb, le-leb, ne-eqb}
 use Rattle.text.specs.declared.Line.{Line}
@@ -19,49 +21,63 @@ use Rattle.scheduler.specs.Model.{view, store}
 use Rattle.scheduler.specs.Opening.{openingRefusal, opened}
 use Rattle.scheduler.specs.Answers.{accepts, code, outcome}
 use Rattle.scheduler.specs.Refusals.{waitRefusal}
-use Rattle.history.specs.Calls.{Call, Request, wait, tick}
+use Rattle.history.specs.Calls.{Call, ask, wait, tick}
 use Rattle.guarantees.specs.Rules.{call}
 use Rattle.guarantees.specs.Premise.{Premise, premise-sound}
 use Rattle.guarantees.specs.Named.{call-fits}
-use Rattle.script_rules.specs.Reading.{openingIn, requestIn}
+use Rattle.script_rules.specs.Reading.{openingIn, requestIn, requestOf}
 use Rattle.script_rules.specs.Writing.{noRow}
 use Rattle.script_rules.specs.Printout.{malformed, longestScript}
-use Rattle.writing.specs.Answered.{answerText, answer-text}
+use Rattle.writing.specs.Answered.{pageBytes, answerText, answer-text}
+use Rattle.writing.specs.Wrote.{Wrote, wrote-none}
 use Rattle.reading.specs.declared.FirstLine.{FirstLine}
 use Rattle.reading.specs.declared.FirstLine.the-variants as first
-use Rattle.reading.specs.declared.Asked.{Asked}
 use Rattle.reading.specs.Meaning.{opens, asks}
 use Rattle.pieces.specs.declared.Play.{Play}
 use Rattle.pieces.specs.declared.Stage.{Stage}
-use Rattle.pieces.specs.declared.Step.{Step}
-use Rattle.pieces.specs.Pieces.{Piece, piece, over, going, openingPiece, firstPiece, callPiece, requestPiece, laterBy, laterPiece, pieceBy, pieceOf, Stepped}
+use Rattle.pieces.specs.Pieces.{Piece, piece, lineOf, past, over, going, openingPiece, firstPiece, callPiece, requestPiece, laterBy, laterPiece, pieceBy, pieceOf}
+use Rattle.script.specs.declared.Played.{Played}
+use Rattle.script.specs.declared.Next.{Next}
 
--- a step of a piece is one of any that equals it
-pub stepped-as : {p : Play} {x y : Piece} {before : List ℕ} {r : Step} {after : List ℕ} → x ≡ y → Stepped p x before r after → Stepped p y before r after
-stepped-as {p} {x} {y} {before} {r} {after} e s = subst (λ (z : Piece). Stepped p z before r after) e s
+-- The lines of the piece x stand in the page from a place on, and the script stands where x leaves it.
+pub record Turned (x : Piece) (page : List ℕ) (at : ℕ) (after : List ℕ) (r : Played) : Type 0 where
+  pub play-is : r .play ≡ x .play
+  pub lines : Wrote pageBytes page at (x .text) after (r .end)
+
+module _ {page after : List ℕ} {at : ℕ} where
+  -- a turn of a piece is one of any that equals it
+  pub turned-as : {x y : Piece} {r : Played} → x ≡ y → Turned x page at after r → Turned y page at after r
+  turned-as {x} {y} {r} e t = subst (λ (z : Piece). Turned z page at after r) e t
+
+  pub turned : {t : List ℕ} {end : ℕ} (p : Play) → Wrote pageBytes page at t after end → Turned (piece t p) page at after (record { end = end; play = p })
+  turned p w = record { play-is = refl; lines = w }
+
+pub turned-none : (page : List ℕ) (at : ℕ) (p : Play) → Turned (piece [] p) page at page (record { end = at; play = p })
+turned-none page at p = turned p (wrote-none pageBytes page at)
+
+pub stage-as : (s : List ℕ) (p : Play) (g : Stage) → p .stage ≡ g → pieceBy g s p ≡ pieceOf s p
+stage-as s p g e = ap (λ (x : Stage). pieceBy x s p) (sym e)
 
 -- ## The first line
 
-module _ (p : Play) (next : ℕ) (f : FirstLine) (q : Play) where
+module _ (p : Play) (next : ℕ) (f : FirstLine) where
   module _ (o : Opening) (r : Opened) (e : f ≡ first.Opens o) (g : r ≡ opened o) where
-    pub opening-takes : accepts (r .refusal) ≡ true → q ≡ going next 0 (r .scheduler) → piece [] q ≡ openingPiece p next (opens f)
+    pub opening-takes : accepts (r .refusal) ≡ true → piece [] (going next 0 (r .scheduler)) ≡ openingPiece p next (opens f)
     unfolding opened
-    opening-takes a h =
+    opening-takes a =
         let b : accepts (openingRefusal o) ≡ true = sym (ap (λ (x : Opened). accepts (x .refusal)) g) ∙ a in
         let taken : openingPiece p next (some o) ≡ piece [] (going next 0 (opened o .scheduler)) = rw b in
-        ap (piece []) h ∙ ap (λ (x : Opened). piece [] (going next 0 (x .scheduler))) g ∙ sym taken ∙ ap (λ (x : FirstLine). openingPiece p next (opens x)) (sym e)
+        ap (λ (x : Opened). piece [] (going next 0 (x .scheduler))) g ∙ sym taken ∙ ap (λ (x : FirstLine). openingPiece p next (opens x)) (sym e)
 
-    pub opening-refuses : accepts (r .refusal) ≡ false → q ≡ over p → piece (noRow (code (r .refusal))) q ≡ openingPiece p next (opens f)
+    pub opening-refuses : accepts (r .refusal) ≡ false → piece (noRow (code (r .refusal))) (over p) ≡ openingPiece p next (opens f)
     unfolding opened
-    opening-refuses a h =
+    opening-refuses a =
         let b : accepts (openingRefusal o) ≡ false = sym (ap (λ (x : Opened). accepts (x .refusal)) g) ∙ a in
         let refuses : openingPiece p next (some o) ≡ piece (noRow (code (openingRefusal o))) (over p) = rw b in
-        ap (piece (noRow (code (r .refusal)))) h ∙ ap (λ (x : Opened). piece (noRow (code (x .refusal))) (over p)) g ∙ sym refuses ∙ ap (λ (x : FirstLine). openingPiece p next (opens x)) (sym e)
+        ap (λ (x : Opened). piece (noRow (code (x .refusal))) (over p)) g ∙ sym refuses ∙ ap (λ (x : FirstLine). openingPiece p next (opens x)) (sym e)
 
-  pub opening-lacks : f ≡ first.Malformed → q ≡ over p → piece malformed q ≡ openingPiece p next (opens f)
-  opening-lacks e h = ap (piece malformed) h ∙ ap (λ (x : FirstLine). openingPiece p next (opens x)) (sym e)
-
--- ## A line at a place
+  pub opening-lacks : f ≡ first.Malformed → piece malformed (over p) ≡ openingPiece p next (opens f)
+  opening-lacks e = ap (λ (x : FirstLine). openingPiece p next (opens x)) (sym e)
 
 module _ (s : List ℕ) (p : Play) where
   pub first-long : 65536 < length s → piece malformed (over p) ≡ firstPiece s p
@@ -87,35 +103,36 @@ module _ (s : List ℕ) (p : Play) where
           let d : lineAt s (p .at) .closed ≡ false = sym (ap (λ (x : Line). x .closed) e) ∙ c in
           rw (le-ltb longestScript (length s) short, lt-leb (length s) (p .at) some-left, d)
 
-  -- ## Later lines
+-- ## A later line, read
 
-  module _ (h : p .steps ≡ 0) where
-    none-left : laterBy 0 s p ≡ laterPiece s p
-    unfolding laterPiece
-    none-left = ap (λ (n : ℕ). laterBy n s p) (sym h)
+-- what the line at a place asks, and where the next one begins
+pub record Reads (s : List ℕ) (at : ℕ) (n : Next) : Type 0 where
+  pub asked-is : asks (n .asked) ≡ requestOf (lineOf s at)
+  pub past-is : n .at ≡ past s at
 
-    pub later-none : length s ≤ p .at → piece [] (over p) ≡ laterPiece s p
-    later-none g = (rw (le-leb (length s) (p .at) g)) ∙ none-left
+module _ (s : List ℕ) (at : ℕ) (l : Line) (e : l ≡ lineAt s at) (n : Next) where
+  pub reads-closed : l .closed ≡ true → asks (n .asked) ≡ requestIn (take (l .end - at) (drop at s)) → n .at ≡ l .end + 1 → Reads s at n
+  reads-closed c g h =
+      let d : lineAt s at .closed ≡ true = sym (ap (λ (x : Line). x .closed) e) ∙ c in
+      record {
+        asked-is = rw d (g ∙ ap (λ (x : Line). requestIn (take (x .end - at) (drop at s))) e);
+        past-is = rw d (h ∙ ap (λ (x : Line). x .end + 1) e);
+      }
 
-    module _ (some-left : p .at < length s) (l : Line) (e : l ≡ lineAt s (p .at)) where
-      pub later-closed : l .closed ≡ true → (q : Option Request) → q ≡ requestIn (take (l .end - p .at) (drop (p .at) s)) → requestPiece (l .end + 1) (p .scheduler) q ≡ laterPiece s p
-      later-closed c q g =
-          let d : lineAt s (p .at) .closed ≡ true = sym (ap (λ (x : Line). x .closed) e) ∙ c in
-          let here : requestPiece (lineAt s (p .at) .end + 1) (p .scheduler) (requestIn (take (lineAt s (p .at) .end - p .at) (drop (p .at) s))) ≡ laterBy 0 s p = rw (lt-leb (length s) (p .at) some-left, d) in
-          ap (requestPiece (l .end + 1) (p .scheduler)) g ∙ ap (λ (x : Line). requestPiece (x .end + 1) (p .scheduler) (requestIn (take (x .end - p .at) (drop (p .at) s)))) e ∙ here ∙ none-left
+  pub reads-unclosed : l .closed ≡ false → asks (n .asked) ≡ none → n .at ≡ l .end → Reads s at n
+  reads-unclosed c g h =
+      let d : lineAt s at .closed ≡ false = sym (ap (λ (x : Line). x .closed) e) ∙ c in
+      record { asked-is = rw d g; past-is = rw d (h ∙ ap (λ (x : Line). x .end) e) }
 
-      pub later-unclosed : l .closed ≡ false → piece malformed (going (l .end) 0 (p .scheduler)) ≡ laterPiece s p
-      later-unclosed c =
-          let d : lineAt s (p .at) .closed ≡ false = sym (ap (λ (x : Line). x .closed) e) ∙ c in
-          let here : piece malformed (going (lineAt s (p .at) .end) 0 (p .scheduler)) ≡ laterBy 0 s p = rw (lt-leb (length s) (p .at) some-left, d) in
-          ap (λ (x : Line). piece malformed (going (x .end) 0 (p .scheduler))) e ∙ here ∙ none-left
+-- a line is left at a place, and is read where no step of a wait is left
+pub record Lined (s : List ℕ) (at steps : ℕ) (n : Next) : Type 0 where
+  pub no-steps : steps ≡ 0
+  pub some-left : at < length s
+  pub reads : Reads s at n
 
-  pub later-step : (p .steps ≡ 0 → ⊥) → callPiece (p .at) (p .steps - 1) (p .scheduler) tick ≡ laterPiece s p
-  unfolding laterPiece
-  later-step h = rw (ne-eqb (p .steps) 0 h)
+-- ## Turns of a script that is being played
 
--- ## Calls and waits
-
+-- what a call gives, with the lines of its answer
 module _ (d : Scheduler) (c : Call) (r : Outcome) (e : r ≡ outcome (call (view d) c)) where
   call-piece : (next steps : ℕ) → piece (answerText (d .kind) (r .scheduler .clock) (r .answer)) (going next steps (r .scheduler)) ≡ callPiece next steps d c
   unfolding
@@ -125,30 +142,72 @@ module _ (d : Scheduler) (c : Call) (r : Outcome) (e : r ≡ outcome (call (view
       ap (λ (x : Outcome). piece (answerText (d .kind) (x .scheduler .clock) (x .answer)) (going next steps (x .scheduler))) e
       ∙ ap (λ t. piece t (going next steps (outcome (call (view d) c) .scheduler))) (answer-text (d .kind) (call (view d) c .model .clock) (call (view d) c .reply))
 
-  -- q is where the code stands then
-  pub called : (next steps : ℕ) (q : Play) → q ≡ going next steps (r .scheduler)
-      → piece (answerText (d .kind) (q .scheduler .clock) (r .answer)) q ≡ callPiece next steps d c
-  called next steps q h = ap (λ (x : Play). piece (answerText (d .kind) (x .scheduler .clock) (r .answer)) x) h ∙ call-piece next steps
-
   pub call-few : Premise d → (r .answer .ended .count ≤ 64) × (r .answer .started .count ≤ 64)
   unfolding tickets
   call-few h =
       let f = call-fits (view d) c (premise-sound d h .few) in
       subst (λ (x : Outcome). (x .answer .ended .count ≤ 64) × (x .answer .started .count ≤ 64)) (sym e) (f .ended, f .started)
 
-module _ (d : Scheduler) (next n : ℕ) (r : Refusal) (e : r ≡ waitRefusal (view d) n) where
-  pub wait-takes : accepts r ≡ true → piece [] (going next n d) ≡ requestPiece next d (some (wait n))
-  wait-takes a = let b : accepts (waitRefusal (view d) n) ≡ true = sym (ap accepts e) ∙ a in rw b
+module _ (s : List ℕ) (at steps : ℕ) (d : Scheduler) where
+  abbrev here : Piece
+  here = pieceOf s (going at steps d)
 
-  pub wait-refuses : accepts r ≡ false → piece (noRow (code r)) (going next 0 d) ≡ requestPiece next d (some (wait n))
-  wait-refuses a =
-      let b : accepts (waitRefusal (view d) n) ≡ false = sym (ap accepts e) ∙ a in
-      let here : piece (noRow (code (waitRefusal (view d) n))) (going next 0 d) ≡ requestPiece next d (some (wait n)) = rw b in
-      ap (λ (x : Refusal). piece (noRow (code x)) (going next 0 d)) e ∙ here
+  -- one step of a wait
+  step-piece : 0 < steps → callPiece at (steps - 1) d tick ≡ here
+  unfolding laterPiece
+  step-piece h = rw (ne-eqb steps 0 (λ q. omega arith))
 
--- what a line asks is what it means
-pub asked-as : (next : ℕ) (d : Scheduler) (a b : Asked) → a ≡ b → requestPiece next d (asks b) ≡ requestPiece next d (asks a)
-asked-as next d a b e = ap (λ (x : Asked). requestPiece next d (asks x)) (sym e)
+  pub step-turned : {page after : List ℕ} {out end : ℕ} (r : Outcome) → r ≡ outcome (call (view d) tick) → 0 < steps
+      → Wrote pageBytes page out (answerText (d .kind) (r .scheduler .clock) (r .answer)) after end
+      → Turned here page out after (record { end = end; play = going at (steps - 1) (r .scheduler) })
+  step-turned r e h w = turned-as (call-piece d tick r e at (steps - 1) ∙ step-piece h) (turned _ w)
 
-pub stage-as : (s : List ℕ) (p : Play) (g : Stage) → p .stage ≡ g → pieceBy g s p ≡ pieceOf s p
-stage-as s p g e = ap (λ (x : Stage). pieceBy x s p) (sym e)
+  none-left : steps ≡ 0 → laterBy 0 s (going at steps d) ≡ here
+  unfolding laterPiece
+  none-left z = ap (λ (n : ℕ). laterBy n s (going at steps d)) (sym z)
+
+  -- no line is left
+  pub end-turned : (page : List ℕ) (out : ℕ) → steps ≡ 0 → length s ≤ at → Turned here page out page (record { end = out; play = over (going at steps d) })
+  end-turned page out z h = turned-as ((rw (le-leb (length s) at h)) ∙ none-left z) (turned-none page out _)
+
+  -- the line at this place
+  module _ (n : Next) (l : Lined s at steps n) where
+    line-piece : requestPiece (n .at) d (asks (n .asked)) ≡ here
+    line-piece =
+        let line : requestPiece (past s at) d (requestOf (lineOf s at)) ≡ laterBy 0 s (going at steps d) = rw (lt-leb (length s) at (l .some-left)) in
+        (λ i. requestPiece (l .reads .past-is i) d (l .reads .asked-is i)) ∙ line ∙ none-left (l .no-steps)
+
+    pub line-calls : {page after : List ℕ} {out end : ℕ} (c : Call) → asks (n .asked) ≡ some (ask c) → (o : Outcome) → o ≡ outcome (call (view d) c)
+        → Wrote pageBytes page out (answerText (d .kind) (o .scheduler .clock) (o .answer)) after end
+        → Turned here page out after (record { end = end; play = going (n .at) steps (o .scheduler) })
+    line-calls c a o e w =
+        turned-as
+        (ap (λ (k : ℕ). piece (answerText (d .kind) (o .scheduler .clock) (o .answer)) (going (n .at) k (o .scheduler))) (l .no-steps)
+        ∙ call-piece d c o e (n .at) 0
+        ∙ ap (requestPiece (n .at) d) (sym a)
+        ∙ line-piece)
+        (turned _ w)
+
+    pub line-lacks : {page after : List ℕ} {out end : ℕ} → asks (n .asked) ≡ none → Wrote pageBytes page out malformed after end
+        → Turned here page out after (record { end = end; play = going (n .at) steps d })
+    line-lacks a w = turned-as (ap (λ (k : ℕ). piece malformed (going (n .at) k d)) (l .no-steps) ∙ ap (requestPiece (n .at) d) (sym a) ∙ line-piece) (turned _ w)
+
+    module _ (minutes : ℕ) (a : asks (n .asked) ≡ some (wait minutes)) (w : Refusal) (e : w ≡ waitRefusal (view d) minutes) where
+      pub line-waits : (page : List ℕ) (out : ℕ) → accepts w ≡ true → Turned here page out page (record { end = out; play = going (n .at) minutes d })
+      line-waits page out h =
+          let b : accepts (waitRefusal (view d) minutes) ≡ true = sym (ap accepts e) ∙ h in
+          let taken : piece [] (going (n .at) minutes d) ≡ requestPiece (n .at) d (some (wait minutes)) = rw b in
+          turned-as (taken ∙ ap (requestPiece (n .at) d) (sym a) ∙ line-piece) (turned-none page out _)
+
+      pub line-wait-refused : {page after : List ℕ} {out end : ℕ} → accepts w ≡ false → Wrote pageBytes page out (noRow (code w)) after end
+          → Turned here page out after (record { end = end; play = going (n .at) steps d })
+      line-wait-refused h v =
+          let b : accepts (waitRefusal (view d) minutes) ≡ false = sym (ap accepts e) ∙ h in
+          let refused : piece (noRow (code (waitRefusal (view d) minutes))) (going (n .at) 0 d) ≡ requestPiece (n .at) d (some (wait minutes)) = rw b in
+          turned-as
+          (ap (λ (k : ℕ). piece (noRow (code w)) (going (n .at) k d)) (l .no-steps)
+          ∙ ap (λ (x : Refusal). piece (noRow (code x)) (going (n .at) 0 d)) e
+          ∙ refused
+          ∙ ap (requestPiece (n .at) d) (sym a)
+          ∙ line-piece)
+          (turned _ v)

@@ -1,15 +1,19 @@
-// A script played one call at a time, by value in its state: what each call prints goes into a lent page.
+// A script played into a lent page, page after page: a line, or one step of a wait, is a turn, and its lines stand in the page after those
+// before.
 ghost use mathlib.Core.Path.{_≡_};
-ghost use mathlib.Core.Option.{some};
-ghost use Rattle.history.specs.Calls.{wait};
-ghost use Rattle.guarantees.specs.Premise.{Premise};
-ghost use Rattle.reading.specs.Meaning.{opens, asks};
-ghost use Rattle.pieces.specs.Pieces.{openingPiece, firstPiece, requestPiece, laterPiece, pieceOf, Stepped, beginning};
+ghost use Prim.Native.Nat.{_≤_, _<_};
+ghost use lib.ListN.{length};
+ghost use Rattle.scheduler.specs.Answers.{code};
+ghost use Rattle.script_rules.specs.Writing.{noRow};
+ghost use Rattle.reading.specs.Meaning.{opens};
+ghost use Rattle.writing.specs.Answered.{pageBytes};
+ghost use Rattle.pieces.specs.declared.Stage.the-variants.{Playing};
+ghost use Rattle.pieces.specs.Pieces.{piece, over, openingPiece, firstPiece, beginning};
 ghost use Rattle.pieces.specs.Ends.{Ready};
-ghost use Rattle.script.specs.PassOver.{PassesOver};
+ghost use Rattle.script.specs.Turns.{Turned, Reads};
+ghost use Rattle.script.specs.Filled.{Filled};
 use pieces::Play;
 use pieces::Stage;
-use pieces::Step;
 use reading::Asked;
 use reading::FirstLine;
 use scheduler::Kind;
@@ -20,9 +24,34 @@ use scheduler::Scheduler;
 // A longer script is not read.
 const LONGEST: usize = 65536;
 
+// Where the lines end in the page, and where the script stands then.
+pub struct Played {
+    pub end: usize,
+    pub play: Play,
+}
+
+// A first line that opens nothing prints why, and the script is over.
+fn refuse(p: Play, reason: Refusal, page: &mut [u8]) -> Played
+    requires { ⌜ pageBytes ≤ length (now page) ⌝ }
+    ensures { λ r. ⌜ Turned (piece (noRow (code reason)) (over p)) (now (page .entry)) 0 (now (page .exit)) r ⌝ }
+{
+    let d = p.scheduler;
+    let end = writing::put_refusal(page, 0, reason);
+    Played {
+        end: end,
+        play: Play {
+            stage: Stage::Over,
+            at: p.at,
+            steps: p.steps,
+            scheduler: d,
+        },
+    }
+}
+
 // What a first line asks.
-fn open(p: Play, next: usize, first: FirstLine, page: &mut [u8]) -> Step
-    ensures { λ r. ⌜ Stepped p (openingPiece p next (opens first)) (now (page .entry)) r (now (page .exit)) ⌝ }
+fn open(p: Play, next: usize, first: FirstLine, page: &mut [u8]) -> Played
+    requires { ⌜ pageBytes ≤ length (now page) ⌝ }
+    ensures { λ r. ⌜ Turned (openingPiece p next (opens first)) (now (page .entry)) 0 (now (page .exit)) r ⌝ }
 {
     match first {
         FirstLine::Opens(o) => {
@@ -30,24 +59,42 @@ fn open(p: Play, next: usize, first: FirstLine, page: &mut [u8]) -> Step
             let reason = opened.refusal;
             if reason.is_none() {
                 let d = opened.scheduler;
-                return pieces::silent(p, pieces::going(next, 0, d), page);
+                return Played {
+                    end: 0,
+                    play: Play {
+                        stage: Stage::Playing,
+                        at: next,
+                        steps: 0,
+                        scheduler: d,
+                    },
+                };
             }
-            pieces::refused(p, pieces::over(p), reason, page)
+            refuse(p, reason, page)
         }
-        FirstLine::Malformed => pieces::refused(p, pieces::over(p), Refusal::Malformed, page),
+        FirstLine::Malformed => refuse(p, Refusal::Malformed, page),
     }
 }
 
 // The first line; a script that is too long is not read, and an empty one is over.
-fn first(p: Play, script: &[u8], page: &mut [u8]) -> Step
-    ensures { λ r. ⌜ Stepped p (firstPiece (now (script .entry)) p) (now (page .entry)) r (now (page .exit)) ⌝ }
+fn first(p: Play, script: &[u8], page: &mut [u8]) -> Played
+    requires { ⌜ pageBytes ≤ length (now page) ⌝ }
+    ensures { λ r. ⌜ Turned (firstPiece (now (script .entry)) p) (now (page .entry)) 0 (now (page .exit)) r ⌝ }
 {
     if LONGEST < script.len() {
-        return pieces::refused(p, pieces::over(p), Refusal::Malformed, page);
+        return refuse(p, Refusal::Malformed, page);
     }
     let at = p.at;
     if script.len() <= at {
-        return pieces::silent(p, pieces::over(p), page);
+        let d = p.scheduler;
+        return Played {
+            end: 0,
+            play: Play {
+                stage: Stage::Over,
+                at: at,
+                steps: p.steps,
+                scheduler: d,
+            },
+        };
     }
     let line = text::next_line(script, at);
     let end = line.end;
@@ -55,112 +102,128 @@ fn first(p: Play, script: &[u8], page: &mut [u8]) -> Step
         let asked = reading::read_first(&script[at..end]);
         return open(p, end + 1, asked, page);
     }
-    pieces::refused(p, pieces::over(p), Refusal::Malformed, page)
+    refuse(p, Refusal::Malformed, page)
 }
 
-// A wait that is not refused prints nothing: its steps come next.
-fn wait(p: Play, next: usize, minutes: u32, page: &mut [u8]) -> Step
-    requires { ⌜ Premise (p .scheduler) ⌝ }
-    ensures { λ r. ⌜ Stepped p (requestPiece next (p .scheduler) (some (wait minutes))) (now (page .entry)) r (now (page .exit)) ⌝ }
-{
-    let d = p.scheduler;
-    let reason = calls::wait_refusal(d, minutes);
-    if reason.is_none() {
-        return pieces::silent(p, pieces::going(next, minutes, d), page);
-    }
-    pieces::refused(p, pieces::going(next, 0, d), reason, page)
+// What a later line asks, and where the line after it begins.
+struct Next {
+    asked: Asked,
+    at: usize,
 }
 
-// What a later line asks.
-fn ask(p: Play, next: usize, asked: Asked, page: &mut [u8]) -> Step
-    requires { ⌜ Premise (p .scheduler) ⌝ }
-    ensures { λ r. ⌜ Stepped p (requestPiece next (p .scheduler) (asks asked)) (now (page .entry)) r (now (page .exit)) ⌝ }
+// An unclosed line lacks the form.
+fn next_line(script: &[u8], at: usize) -> Next
+    requires { ⌜ at < length (now script) ⌝ }
+    ensures { λ r. ⌜ Reads (now (script .entry)) at r ⌝ }
 {
-    let d = p.scheduler;
-    match asked {
-        Asked::Submit(s) => {
-            let done = calls::submit(d, s);
-            let after = done.scheduler;
-            let answer = done.answer;
-            pieces::answered(p, pieces::going(next, 0, after), answer, page)
-        }
-        Asked::Complete(t) => {
-            let done = calls::complete(d, t);
-            let after = done.scheduler;
-            let answer = done.answer;
-            pieces::answered(p, pieces::going(next, 0, after), answer, page)
-        }
-        Asked::Wait(n) => wait(p, next, n, page),
-        Asked::Malformed => pieces::refused(p, pieces::going(next, 0, d), Refusal::Malformed, page),
-    }
-}
-
-// The next line; at the end the script is over.
-fn next_line(p: Play, script: &[u8], page: &mut [u8]) -> Step
-    requires { ⌜ Ready (now script) p × (p .steps ≡ 0) ⌝ }
-    ensures { λ r. ⌜ Stepped p (laterPiece (now (script .entry)) p) (now (page .entry)) r (now (page .exit)) ⌝ }
-{
-    let at = p.at;
-    if script.len() <= at {
-        return pieces::silent(p, pieces::over(p), page);
-    }
     let line = text::next_line(script, at);
     let end = line.end;
     if line.closed {
         let asked = reading::read_later(&script[at..end]);
-        return ask(p, end + 1, asked, page);
+        return Next {
+            asked: asked,
+            at: end + 1,
+        };
     }
-    let d = p.scheduler;
-    pieces::refused(p, pieces::going(end, 0, d), Refusal::Malformed, page)
+    Next {
+        asked: Asked::Malformed,
+        at: end,
+    }
 }
 
-// A step of a wait, or the next line.
-fn later(p: Play, script: &[u8], page: &mut [u8]) -> Step
-    requires { ⌜ Ready (now script) p ⌝ }
-    ensures { λ r. ⌜ Stepped p (laterPiece (now (script .entry)) p) (now (page .entry)) r (now (page .exit)) ⌝ }
+// Turn after turn, while the page has room for the longest answer. Whatever changes is a local of this one loop: a call by value copies the
+// scheduler, and a turn that makes no call does not.
+fn later(p: Play, script: &[u8], page: &mut [u8]) -> Played
+    requires { ⌜ Ready (now script) p × (p .stage ≡ Playing) × (pageBytes ≤ length (now page)) ⌝ }
+    ensures { λ r. ⌜ Filled (now (script .entry)) p (now (page .exit)) r ⌝ }
 {
-    let steps = p.steps;
-    if steps == 0 {
-        return next_line(p, script, page);
+    let last = page.len() - writing::page_len();
+    let mut d = p.scheduler;
+    let mut at = p.at;
+    let mut steps = p.steps;
+    let mut end: usize = 0;
+    while end <= last {
+        let kind = d.kind;
+        if 0 < steps {
+            // quiet minutes are passed over at once: their ticks print nothing
+            let minutes = quiet::quiet_minutes(d, steps);
+            d.clock += minutes;
+            steps -= minutes;
+            if steps == 0 {
+                continue;
+            }
+            let done = calls::tick(d);
+            d = done.scheduler;
+            let answer = done.answer;
+            end = writing::put_answer(page, end, kind, d.clock, answer);
+            steps -= 1;
+            continue;
+        }
+        if script.len() <= at {
+            return Played {
+                end: end,
+                play: Play {
+                    stage: Stage::Over,
+                    at: at,
+                    steps: steps,
+                    scheduler: d,
+                },
+            };
+        }
+        let line = next_line(script, at);
+        at = line.at;
+        let asked = line.asked;
+        match asked {
+            Asked::Submit(s) => {
+                let done = calls::submit(d, s);
+                d = done.scheduler;
+                let answer = done.answer;
+                end = writing::put_answer(page, end, kind, d.clock, answer);
+                continue;
+            }
+            Asked::Complete(t) => {
+                let done = calls::complete(d, t);
+                d = done.scheduler;
+                let answer = done.answer;
+                end = writing::put_answer(page, end, kind, d.clock, answer);
+                continue;
+            }
+            Asked::Wait(n) => {
+                let reason = calls::wait_refusal(d, n);
+                if reason.is_none() {
+                    steps = n;
+                    continue;
+                }
+                end = writing::put_refusal(page, end, reason);
+                continue;
+            }
+            Asked::Malformed => {
+                end = writing::put_refusal(page, end, Refusal::Malformed);
+                continue;
+            }
+        }
     }
-    let d = p.scheduler;
-    let done = calls::tick(d);
-    let after = done.scheduler;
-    let answer = done.answer;
-    pieces::answered(p, pieces::going(p.at, steps - 1, after), answer, page)
+    Played {
+        end: end,
+        play: Play {
+            stage: Stage::Playing,
+            at: at,
+            steps: steps,
+            scheduler: d,
+        },
+    }
 }
 
-// One call of a script: a line, or one step of a wait.
-pub fn advance(p: Play, script: &[u8], page: &mut [u8]) -> Step
-    requires { ⌜ Ready (now script) p ⌝ }
-    ensures { λ r. ⌜ Stepped p (pieceOf (now (script .entry)) p) (now (page .entry)) r (now (page .exit)) ⌝ }
+// The page filled from its start: until the script is over, its first line is played, or the page has no room for the longest answer any more.
+pub fn fill(p: Play, script: &[u8], page: &mut [u8]) -> Played
+    requires { ⌜ Ready (now script) p × (pageBytes ≤ length (now page)) ⌝ }
+    ensures { λ r. ⌜ Filled (now (script .entry)) p (now (page .exit)) r ⌝ }
 {
     let stage = p.stage;
     match stage {
         Stage::First => first(p, script, page),
         Stage::Playing => later(p, script, page),
-        Stage::Over => pieces::silent(p, p, page),
-    }
-}
-
-// Quiet minutes of a wait are passed over at once: their ticks print nothing.
-pub fn pass_over(p: Play) -> Play
-    requires { ⌜ Premise (p .scheduler) ⌝ }
-    ensures { λ r. ⌜ PassesOver p r ⌝ }
-{
-    let steps = p.steps;
-    if steps == 0 {
-        return p;
-    }
-    let stage = p.stage;
-    let mut d = p.scheduler;
-    let minutes = quiet::quiet_minutes(d, steps);
-    d.clock += minutes;
-    Play {
-        stage: stage,
-        at: p.at,
-        steps: steps - minutes,
-        scheduler: d,
+        Stage::Over => Played { end: 0, play: p },
     }
 }
 

@@ -154,19 +154,34 @@ pub fn put_word(out: &mut [u8], at: usize, word: &[u8]) -> usize
     at + i
 }
 
-// In decimal: first what stands before the last digit, then the last digit.
+// How many digits a number has.
+fn number_len(v: u32) -> usize
+    ensures { λ r. ⌜ r ≡ length (decimalOf v) ⌝ }
+{
+    let mut rest = v;
+    let mut n: usize = 1;
+    while 10 <= rest {
+        rest = rest / 10;
+        n += 1;
+    }
+    n
+}
+
+// In decimal, from the last digit to the first.
 pub fn put_number(out: &mut [u8], at: usize, v: u32) -> usize
     requires { ⌜ at + length (decimalOf v) ≤ length (now out) ⌝ }
     ensures { λ r. ⌜ (r ≡ at + length (decimalOf v)) × (now (out .exit) ≡ sets (now (out .entry)) at (decimalOf v)) ⌝ }
 {
-    if v < 10 {
-        out[at] = 48 + (v as u8);
-        at + 1
-    } else {
-        let p = put_number(out, at, v / 10);
-        out[p] = 48 + ((v % 10) as u8);
-        p + 1
+    let end = at + number_len(v);
+    let mut rest = v;
+    let mut i = end - 1;
+    while 10 <= rest {
+        out[i] = 48 + ((rest % 10) as u8);
+        rest = rest / 10;
+        i -= 1;
     }
+    out[i] = 48 + (rest as u8);
+    end
 }
 
 // Where a line ends, and whether byte 10 closes it there.

@@ -1,4 +1,4 @@
--- A list of tickets that a function is handed has 64 places.
+-- The lists of an answer that a function is handed have 64 places.
 -- Assumes nothing.
 use mathlib.Core.Path.{_≡_}
 use lib.ListN.{length}
@@ -6,10 +6,14 @@ use denote.Laws.{Is}
 use denote.Struct.Declared.{row}
 use denote.Struct.Laws as S
 use borrow.Author.Needs.{needs}
-use Rattle.scheduler.specs.declared.Tickets.{Tickets}
+use Rattle.scheduler.specs.declared.Answer.{Answer}
 use Rattle.scheduler.proofs.Whole.{length-mapped}
-use Rattle.scheduler.proofs.Tickets as K
-use Rattle.scheduler.proofs.Tickets.Laws as K′
+use Rattle.scheduler.proofs.Answer as K
+use Rattle.scheduler.proofs.Answer.Laws as K′
 
-pub whole : (t : Tickets) → Is (row K.the-type) t (S.vals K.the-type K′.the-laws t) → length (t .list) ≡ 64
-whole t h = search (needs, length-mapped)
+module _ (a : Answer) (h : Is (row K.the-type) a (S.vals K.the-type K′.the-laws a)) where
+  pub ended-whole : length (a .ended .list) ≡ 64
+  ended-whole = search (needs, length-mapped)
+
+  pub started-whole : length (a .started .list) ≡ 64
+  started-whole = search (needs, length-mapped)

@@ -1,4 +1,4 @@
--- What a writer leaves: bytes at a place of the page, and the place after them.
+-- What a writer leaves: bytes at a place of the page, at most so many, and the place after them.
 -- Assumes nothing.
 use mathlib.Core.Path.{_≡_, refl, sym, ap}
 use mathlib.Core.List.{List, [], _++_}
@@ -8,33 +8,35 @@ use lib.ListN.{length, length-append}
 use lib.Seq.{sets, length-sets}
 use Rattle.text.specs.WriterLaws.{sets-append}
 
--- there is room for the bytes at a place
-abbrev pub Room : List ℕ → ℕ → List ℕ → Type 0
-Room page at bytes = at + length bytes ≤ length page
-
-pub record Wrote (page : List ℕ) (at : ℕ) (bytes after : List ℕ) (end : ℕ) : Type 0 where
+pub record Wrote (most : ℕ) (page : List ℕ) (at : ℕ) (bytes after : List ℕ) (end : ℕ) : Type 0 where
   pub place : end ≡ at + length bytes
   pub left : after ≡ sets page at bytes
+  pub few : length bytes ≤ most
 
 -- what the writers of `text` say
-pub wrote : (page : List ℕ) (at : ℕ) (bytes after : List ℕ) (end : ℕ) → (end ≡ at + length bytes) × (after ≡ sets page at bytes) → Wrote page at bytes after end
-wrote page at bytes after end e = record { place = e .0; left = e .1 }
+pub wrote : (most : ℕ) (page : List ℕ) (at : ℕ) (bytes after : List ℕ) (end : ℕ)
+    → length bytes ≤ most → (end ≡ at + length bytes) × (after ≡ sets page at bytes) → Wrote most page at bytes after end
+wrote most page at bytes after end h e = record { place = e .0; left = e .1; few = h }
 
-pub wrote-none : (page : List ℕ) (at : ℕ) → Wrote page at [] page at
-wrote-none page at = record { place = omega arith; left = refl }
+pub wrote-none : (most : ℕ) (page : List ℕ) (at : ℕ) → Wrote most page at [] page at
+wrote-none most page at = record { place = omega arith; left = refl; few = omega arith }
 
-module _ {page p : List ℕ} {at a : ℕ} {xs : List ℕ} (w : Wrote page at xs p a) where
+module _ {most : ℕ} {page p : List ℕ} {at a : ℕ} {xs : List ℕ} (w : Wrote most page at xs p a) where
   pub same-size : length p ≡ length page
   same-size = omega (arith, ap length (w .left), length-sets page at xs)
 
   -- room is left for what follows
-  pub room-after : (ys : List ℕ) → Room page at (xs ++ ys) → Room p a ys
-  room-after ys h = omega (arith, w .place, same-size, length-append xs ys)
+  pub room-after : (more : ℕ) → at + (most + more) ≤ length page → a + more ≤ length p
+  room-after more h = omega (arith, w .place, w .few, same-size)
+
+  pub with-room : (more : ℕ) → most ≤ more → Wrote more page at xs p a
+  with-room more h = record { place = w .place; left = w .left; few = omega (arith, w .few) }
 
   -- what is written next to it is written with it
-  pub and-then : {ys q : List ℕ} {b : ℕ} → Wrote p a ys q b → Wrote page at (xs ++ ys) q b
-  and-then {ys} {q} {b} v =
+  pub and-then : {more : ℕ} {ys q : List ℕ} {b : ℕ} → Wrote more p a ys q b → Wrote (most + more) page at (xs ++ ys) q b
+  and-then {more} {ys} {q} {b} v =
       record {
         place = omega (arith, w .place, v .place, length-append xs ys);
         left = rw (v .left, w .left, w .place) (sym (sets-append page at xs ys));
+        few = omega (arith, w .few, v .few, length-append xs ys);
       }

@@ -1,11 +1,17 @@
 -- `reading::read_later` meets its contract.
 -- Assumes nothing.
-use mathlib.Core.Path.{_≡_, sym, _∙_}
-use mathlib.Core.Bool.{true}
-use Rattle.script_rules.specs.Reading.{hasForm, inWord, requestIn}
+use mathlib.Core.Path.{sym}
+use Rattle.script_rules.specs.Reading.{inWord, endWord, waitWord, requestIn}
+use Rattle.reading.specs.Meaning.{form-said}
 use borrow.Author.Needs.{needs}
 use Rattle.reading.proofs.read_later.Statement.{statement}
 use Rattle.reading.proofs.read_later.Tie as tie
+
+field-count-requires : tie.Need-field-count-requires
+field-count-requires c κs = search needs
+
+field-requires : tie.Need-field-requires
+field-requires c κs = search needs
 
 slice-aggregate-has-form : tie.Need-slice-aggregate-has-form
 slice-aggregate-has-form c = search needs
@@ -26,8 +32,13 @@ returns : tie.Need-returns
 unfolding requestIn
 returns c =
     let p = c .before .before .before in
-    let form : hasForm (p .before .before .before .before .args .line .now) 3 inWord ≡ true = sym (p .before .has-form .ensures) ∙ p .if1 .taken in
-    rw (form, sym (c .before .before .field-number .ensures), sym (c .before .field-number2 .ensures))
+    let read = p .before .before .before in
+    let line = read .before .before .before .args .line .now in
+    rw (
+      form-said line 3 inWord (read .before .field-count .ensures) (read .field .ensures) (p .before .has-form .ensures) (p .if1 .taken),
+      sym (c .before .before .field-number .ensures),
+      sym (c .before .field-number2 .ensures),
+    )
     (c .submission .ensures)
 
 slice-aggregate-has-form-2 : tie.Need-slice-aggregate-has-form-2
@@ -47,9 +58,11 @@ unfolding requestIn
 returns-2 c =
     let q = c .before .before in
     let p = q .before .before .before in
+    let read = p .before .before .before in
+    let line = read .before .before .before .args .line .now in
     rw (
-      sym (p .before .has-form .ensures) ∙ p .if1 .left,
-      sym (q .before .has-form2 .ensures) ∙ q .if2 .taken,
+      form-said line 3 inWord (read .before .field-count .ensures) (read .field .ensures) (p .before .has-form .ensures) (p .if1 .left),
+      form-said line 2 endWord (read .before .field-count .ensures) (read .field .ensures) (q .before .has-form2 .ensures) (q .if2 .taken),
       sym (c .before .field-number3 .ensures),
     )
     (c .completion .ensures)
@@ -72,10 +85,12 @@ returns-3 c =
     let t = c .before .before in
     let q = t .before .before .before in
     let p = q .before .before .before in
+    let read = p .before .before .before in
+    let line = read .before .before .before .args .line .now in
     rw (
-      sym (p .before .has-form .ensures) ∙ p .if1 .left,
-      sym (q .before .has-form2 .ensures) ∙ q .if2 .left,
-      sym (t .before .has-form3 .ensures) ∙ t .if3 .taken,
+      form-said line 3 inWord (read .before .field-count .ensures) (read .field .ensures) (p .before .has-form .ensures) (p .if1 .left),
+      form-said line 2 endWord (read .before .field-count .ensures) (read .field .ensures) (q .before .has-form2 .ensures) (q .if2 .left),
+      form-said line 2 waitWord (read .before .field-count .ensures) (read .field .ensures) (t .before .has-form3 .ensures) (t .if3 .taken),
       sym (c .before .field-number4 .ensures),
     )
     (c .waiting .ensures)
@@ -83,19 +98,22 @@ returns-3 c =
 returns-4 : tie.Need-returns-4
 unfolding requestIn
 returns-4 c =
-    let t = c in
-    let q = t .before .before .before in
+    let q = c .before .before .before in
     let p = q .before .before .before in
+    let read = p .before .before .before in
+    let line = read .before .before .before .args .line .now in
     rw (
-      sym (p .before .has-form .ensures) ∙ p .if1 .left,
-      sym (q .before .has-form2 .ensures) ∙ q .if2 .left,
-      sym (t .before .has-form3 .ensures) ∙ t .if3 .left,
+      form-said line 3 inWord (read .before .field-count .ensures) (read .field .ensures) (p .before .has-form .ensures) (p .if1 .left),
+      form-said line 2 endWord (read .before .field-count .ensures) (read .field .ensures) (q .before .has-form2 .ensures) (q .if2 .left),
+      form-said line 2 waitWord (read .before .field-count .ensures) (read .field .ensures) (c .before .has-form3 .ensures) (c .if3 .left),
     )
 
 pub read-later-spec : {M : Type 1} → statement M
 read-later-spec =
     tie.close
     (tie.spec
+    field-count-requires
+    field-requires
     slice-aggregate-has-form
     has-form-requires
     field-number-requires

@@ -11,16 +11,13 @@ returns : tie.Need-returns
 unfolding headText
 returns c =
     let a = c .before .before .args in
-    rw (eq-eqb (a .head) 0 (c .if1 .taken)) (wrote-none (a .page .now) (a .at))
+    rw (eq-eqb (a .head) 0 (c .if1 .taken)) (wrote-none 27 (a .page .now) (a .at))
 
 slice-aggregate-put-row : tie.Need-slice-aggregate-put-row
 slice-aggregate-put-row c = search needs
 
 put-row-requires : tie.Need-put-row-requires
-unfolding headText
-put-row-requires c κs =
-    let s = c .before .before .before .before in
-    rw (ne-eqb (s .args .head) 0 (c .before .before .if1 .left)) at (s .pre)
+put-row-requires c κs = search needs
 
 same-length : tie.Need-same-length
 same-length c = search needs

@@ -1,13 +1,13 @@
--- `writing::number_len` meets its contract: the digits counted and those of what is left are the number's, and one more.
+-- `text::number_len` meets its contract: the digits counted and those of what is left are the number's, and one more.
 -- Assumes nothing.
 use mathlib.Core.Path.{_≡_, ap}
 use Prim.Native.Nat.{_+_}
 use native.Mathlib.Omega.{arith}
 use lib.ListN.{length}
 use Rattle.text.specs.Numbers.{decimalOf}
 use Rattle.text.specs.NumberLaws.{decimal-one, decimal-some, decimal-length, decimal-ten}
-use Rattle.writing.proofs.number_len.Statement.{statement}
-use Rattle.writing.proofs.number_len.Tie as tie
+use Rattle.text.proofs.number_len.Statement.{statement}
+use Rattle.text.proofs.number_len.Tie as tie
 
 abbrev Inv-loop : tie.InvT-loop
 Inv-loop v rest₀ n₀ rest n = n + length (decimalOf rest) ≡ length (decimalOf v) + 1
@@ -28,9 +28,7 @@ loop-again : tie.Need-loop-again Inv-loop μ-loop
 loop-again c = omega (arith, decimal-length (c .before .loop .rest) (c .loop-test .taken))
 
 returns : tie.Need-returns Inv-loop μ-loop
-returns c =
-    let one = ap length (decimal-one (c .before .loop .rest) (c .loop-test .left)) in
-    (omega arith, omega (arith, decimal-ten (c .before .before .args .v) (omega arith)))
+returns c = omega (arith, ap length (decimal-one (c .before .loop .rest) (c .loop-test .left)))
 
 pub number-len-spec : {M : Type 1} → statement M
 number-len-spec =
