@@ -9,7 +9,8 @@ import subprocess
 import sys
 import tempfile
 
-LARGE = 1024  # no other value than a scheduler, whole or its records, is so long
+# A list of points or a table of free nodes is as long as a scheduler; on the heavy sheets neither is copied, only lengths of schedulers are.
+LARGE = 1024
 
 
 def lengths(program):
