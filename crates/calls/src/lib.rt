@@ -15,19 +15,28 @@ use profile::Profile;
 use scheduler::Kind;
 use scheduler::Outcome;
 use scheduler::Refusal;
+use scheduler::Request;
 use scheduler::Scheduler;
 use scheduler::Submission;
+
+// What is asked, by the kind's rules.
+pub fn call(d: Scheduler, request: Request) -> Outcome
+    requires { ⌜ Premise d ⌝ }
+    ensures { λ r. ⌜ r ≡ outcome (call (view d) (calls.asked request)) ⌝ }
+{
+    let kind = d.kind;
+    match kind {
+        Kind::Conservative => conservative::call(d, request),
+        Kind::Easy => easy::call(d, request),
+    }
+}
 
 // A job is submitted (document 01: "intake").
 pub fn submit(d: Scheduler, s: Submission) -> Outcome
     requires { ⌜ Premise d ⌝ }
     ensures { λ r. ⌜ r ≡ outcome (call (view d) (calls.submit (s .nodes) (s .estimate))) ⌝ }
 {
-    let kind = d.kind;
-    match kind {
-        Kind::Conservative => conservative::submit(d, s),
-        Kind::Easy => easy::submit(d, s),
-    }
+    call(d, Request::Submit(s))
 }
 
 // A running job is over before its wall time (document 01: "early end").
@@ -35,11 +44,7 @@ pub fn complete(d: Scheduler, ticket: u32) -> Outcome
     requires { ⌜ Premise d ⌝ }
     ensures { λ r. ⌜ r ≡ outcome (call (view d) (calls.complete ticket)) ⌝ }
 {
-    let kind = d.kind;
-    match kind {
-        Kind::Conservative => conservative::complete(d, ticket),
-        Kind::Easy => easy::complete(d, ticket),
-    }
+    call(d, Request::Complete(ticket))
 }
 
 // One minute passes (document 01: "minute step").
@@ -47,11 +52,7 @@ pub fn tick(d: Scheduler) -> Outcome
     requires { ⌜ Premise d ⌝ }
     ensures { λ r. ⌜ r ≡ outcome (call (view d) calls.tick) ⌝ }
 {
-    let kind = d.kind;
-    match kind {
-        Kind::Conservative => conservative::tick(d),
-        Kind::Easy => easy::tick(d),
-    }
+    call(d, Request::Tick)
 }
 
 // What a profile call answers: how many points it wrote.

@@ -18,6 +18,7 @@ use scheduler::Answer;
 use scheduler::Job;
 use scheduler::Outcome;
 use scheduler::Refusal;
+use scheduler::Request;
 use scheduler::Scheduler;
 use scheduler::Select;
 use scheduler::State;
@@ -185,4 +186,16 @@ pub fn tick(d: Scheduler) -> Outcome
     let left = later.remove(Select::EndingAt(now));
     let rest = left.scheduler;
     advance(left.tickets, rest, start_due(rest, now))
+}
+
+// What is asked, each by its function.
+pub fn call(d: Scheduler, request: Request) -> Outcome
+    requires { ⌜ Holds Valid d ⌝ }
+    ensures { λ r. ⌜ r ≡ outcome (call (view d) (calls.asked request)) ⌝ }
+{
+    match request {
+        Request::Submit(s) => submit(d, s),
+        Request::Complete(ticket) => complete(d, ticket),
+        Request::Tick => tick(d),
+    }
 }

@@ -28,7 +28,7 @@ use Rattle.jobs.specs.Premise.{Holds}
 use Rattle.easy_rules.specs.Easy.{newJob, submitRefusal}
 use Rattle.easy_rules.specs.Valid.{Valid, latestEnd}
 use Rattle.easy.specs.declared.Part.{Part}
-use Rattle.easy.specs.declared.Request.the-variants as request
+use Rattle.scheduler.specs.declared.Request.the-variants as request
 use Rattle.easy.specs.Parts.{Known, own, part}
 
 pub tests-by : (m : Model) (n e nodes live next latest : ℕ) → Known m e nodes live next latest

@@ -9,6 +9,8 @@ use lib.ListN.{length}
 use Rattle.lists.specs.Lists.{keep}
 use Rattle.scheduler.specs.declared.Refusal.{Refusal}
 use Rattle.scheduler.specs.declared.Refusal.the-variants as refusal
+use Rattle.scheduler.specs.declared.Request.{Request}
+use Rattle.scheduler.specs.declared.Request.the-variants as request
 use Rattle.scheduler.specs.declared.Select.{Select}
 use Rattle.scheduler.specs.declared.Select.the-variants as select
 use Rattle.scheduler.specs.Limits.{horizon}
@@ -17,11 +19,8 @@ use Rattle.scheduler.specs.Table.{ticketsOf, tickets}
 use Rattle.scheduler.specs.Model.{Model, store, view, joined, without}
 use Rattle.scheduler.specs.Answers.{Result, accepts}
 use Rattle.scheduler.specs.Refusals.{completeRefusal, tickRefusal}
-use Rattle.history.specs.Calls.{Call, submit, complete, tick}
 use Rattle.easy_rules.specs.Easy.{newJob, submitRefusal, finished}
 use Rattle.easy_rules.specs.Valid.{latestEnd}
-use Rattle.easy.specs.declared.Request.{Request}
-use Rattle.easy.specs.declared.Request.the-variants as request
 use Rattle.easy.specs.declared.Part.{Part}
 
 -- ## The own part
@@ -55,11 +54,6 @@ abbrev pub handed : Part → List ℕ → Own
 handed p ts = record { refusal = p .refusal; ticket = p .ticket; ended = ts; model = view (p .scheduler) }
 
 -- ## The call
-
-abbrev pub asked : Request → Call
-asked (request.Submit s) = submit (s .nodes) (s .estimate)
-asked (request.Complete t) = complete t
-asked request.Tick = tick
 
 -- it settles, and answers
 abbrev pub answering : Model → Own → Result

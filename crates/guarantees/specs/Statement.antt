@@ -11,7 +11,7 @@ use Rattle.scheduler.specs.declared.Opening.{Opening}
 use Rattle.scheduler.specs.Settings.{Settings, unit}
 use Rattle.scheduler.specs.Model.{Model}
 use Rattle.scheduler.specs.Opening.{opening}
-use Rattle.history.specs.Calls.{Call, Request, Event, events, allCalls}
+use Rattle.history.specs.Calls.{Call, Command, Event, events, allCalls}
 use Rattle.history.specs.Book.{Book, enterAll}
 use Rattle.history.specs.Guarantee.{Guarantee}
 use Rattle.history.specs.Lawful.{Lawful}
@@ -42,7 +42,7 @@ Demand3 = (o : Opening) (cs : List Call) → Guarantee (o .kind) (opening o .set
 -- the same with waits, "as its steps or as one refused call", after each single step
 abbrev pub Demand3WithWaits : Type 0
 Demand3WithWaits =
-    (o : Opening) (qs : List Request) (i : ℕ)
+    (o : Opening) (qs : List Command) (i : ℕ)
     → Guarantee (o .kind) (opening o .settings .nodes) (bookOf (opening o) (events call (opening o) (take i (allCalls call (opening o) qs))))
 
 module _ {k : Kind} {Valid : Model → Type 0} {OnCourse : Model → ℕ → ℕ → Type 0} (L : Lawful k (rulesOf k) Valid OnCourse) where

@@ -6,6 +6,8 @@ use mathlib.Core.List.{List, [], _∷_, _++_}
 use Prim.Native.Nat.{ℕ}
 use lib.ListN.{replicate}
 use Rattle.scheduler.specs.declared.Refusal.{Refusal}
+use Rattle.scheduler.specs.declared.Request.{Request}
+use Rattle.scheduler.specs.declared.Request.the-variants as request
 use Rattle.scheduler.specs.Model.{Model}
 use Rattle.scheduler.specs.Answers.{Reply, Result, accepts}
 use Rattle.scheduler.specs.Refusals.{waitRefusal}
@@ -18,6 +20,12 @@ pub data Call : Type 0 where
   profile : (room : ℕ) → Call
   -- a wait that was refused
   refusedWait : Refusal → Call
+
+-- the call that a request of the code asks for
+abbrev pub asked : Request → Call
+asked (request.Submit s) = submit (s .nodes) (s .estimate)
+asked (request.Complete t) = complete t
+asked request.Tick = tick
 
 -- what each call gives
 abbrev pub Rules : Type 0
@@ -41,15 +49,15 @@ eventsOf [] rs = []
 eventsOf (c ∷ cs) [] = []
 eventsOf (c ∷ cs) (r ∷ rs) = record { call = c; reply = r } ∷ eventsOf cs rs
 
--- what is asked of a scheduler from outside: a call, or a wait
-pub data Request : Type 0 where
-  ask : Call → Request
-  wait : (minutes : ℕ) → Request
+-- a command of a script's or a host's list: a call, or a wait
+pub data Command : Type 0 where
+  ask : Call → Command
+  wait : (minutes : ℕ) → Command
 
-abbrev pub callsOf : Model → Request → List Call
+abbrev pub callsOf : Model → Command → List Call
 callsOf m (ask c) = c ∷ []
 callsOf m (wait n) = cond (accepts (waitRefusal m n)) (replicate n tick) (refusedWait (waitRefusal m n) ∷ [])
 
-abbrev pub allCalls : Rules → Model → List Request → List Call
+abbrev pub allCalls : Rules → Model → List Command → List Call
 allCalls R m [] = []
 allCalls R m (q ∷ qs) = callsOf m q ++ allCalls R (after R m (callsOf m q)) qs

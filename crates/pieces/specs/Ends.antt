@@ -21,15 +21,15 @@ use Rattle.scheduler.specs.Opening.{openingRefusal}
 use Rattle.scheduler.specs.Answers.{accepts}
 use Rattle.scheduler.specs.Refusals.{waitRefusal}
 use Rattle.jobs.specs.Sound.{passed}
-use Rattle.history.specs.Calls.{Request, ask, wait, tick}
+use Rattle.history.specs.Calls.{Command, ask, wait, tick}
 use Rattle.guarantees.specs.Premise.{Premise, call-premise, opened-premise}
 use Rattle.script_rules.specs.Lines.{linesOf}
-use Rattle.script_rules.specs.Reading.{openingOf, requestOf}
+use Rattle.script_rules.specs.Reading.{openingOf, commandOf}
 use Rattle.script_rules.specs.Printout.{malformed, fromFirst, longestScript, printout}
 use Rattle.pieces.specs.declared.Play.{Play}
 use Rattle.pieces.specs.declared.Stage.the-variants.{First, Playing, Over}
 use Rattle.pieces.specs.declared.Stage.{Stage}
-use Rattle.pieces.specs.Pieces.{beginning, lineOf, past, over, going, openingPiece, firstPiece, requestPiece, laterPiece, pieceBy, pieceOf}
+use Rattle.pieces.specs.Pieces.{beginning, lineOf, past, over, going, openingPiece, firstPiece, commandPiece, laterPiece, pieceBy, pieceOf}
 use Rattle.pieces.specs.Whole.{left, leftBy, next-piece}
 
 -- what holds of a script that is being played
@@ -89,10 +89,10 @@ module _ (s : List ℕ) where
     past-at : Past s at
     past-at = past-line s at h
 
-    by-request : (d : Scheduler) → Premise d → (q : Option Request) → Onward s (suc ((length s - at) * suc longest)) (requestPiece (past s at) d q .play)
-    by-request d g none = onward at (past s at) 0 d g (past-at .further) (past-at .within) (omega arith)
-    by-request d g (some (ask c)) = onward at (past s at) 0 _ (call-premise d c g) (past-at .further) (past-at .within) (omega arith)
-    by-request d g (some (wait n)) =
+    by-command : (d : Scheduler) → Premise d → (q : Option Command) → Onward s (suc ((length s - at) * suc longest)) (commandPiece (past s at) 0 d q .play)
+    by-command d g none = onward at (past s at) 0 d g (past-at .further) (past-at .within) (omega arith)
+    by-command d g (some (ask c)) = onward at (past s at) 0 _ (call-premise d c g) (past-at .further) (past-at .within) (omega arith)
+    by-command d g (some (wait n)) =
         case (accepts (waitRefusal (view d) n))
         (λ e. rw e (onward at (past s at) n d g (past-at .further) (past-at .within) (wait-few (view d) n e)))
         (λ e. rw e (onward at (past s at) 0 d g (past-at .further) (past-at .within) (omega arith)))
@@ -126,7 +126,7 @@ module _ (s : List ℕ) where
       case (eqb (p .steps) 0)
       (λ e. rw e (case (leb (length s) (p .at))
       (λ q. rw q (over-onward _ p r))
-      (λ q. rw q (more _ _ _ (omega arith) (by-request (p .at) (leb-false (length s) (p .at) q) (p .scheduler) (r .premise) (requestOf (lineOf s (p .at))))))))
+      (λ q. rw q (more _ _ _ (omega arith) (by-command (p .at) (leb-false (length s) (p .at) q) (p .scheduler) (r .premise) (commandOf (lineOf s (p .at))))))))
       (λ e. rw e (record {
         ready = record { premise = call-premise (p .scheduler) tick (r .premise); inside = r .inside; few = omega (arith, r .few) };
         less = omega (arith, eqb-false (p .steps) 0 e);

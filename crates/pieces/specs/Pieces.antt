@@ -14,10 +14,10 @@ use Rattle.scheduler.specs.Model.{view}
 use Rattle.scheduler.specs.Opening.{openingRefusal, opened}
 use Rattle.scheduler.specs.Answers.{accepts, code, outcome}
 use Rattle.scheduler.specs.Refusals.{waitRefusal}
-use Rattle.history.specs.Calls.{Call, Request, ask, wait, tick}
+use Rattle.history.specs.Calls.{Call, Command, ask, wait, tick}
 use Rattle.guarantees.specs.Rules.{call}
 use Rattle.script_rules.specs.Lines.{Line}
-use Rattle.script_rules.specs.Reading.{openingOf, requestOf}
+use Rattle.script_rules.specs.Reading.{openingOf, commandOf}
 use Rattle.script_rules.specs.Writing.{noRow}
 use Rattle.script_rules.specs.Printout.{malformed, printed, longestScript}
 use Rattle.pieces.specs.declared.Play.{Play}
@@ -61,22 +61,22 @@ firstPiece s p =
 abbrev pub callPiece : ℕ → ℕ → Scheduler → Call → Piece
 callPiece at steps d c = record { text = printed (view d) c; play = going at steps (outcome (call (view d) c) .scheduler) }
 
--- a later line; a wait that is not refused is as many steps, which come next
-abbrev pub requestPiece : ℕ → Scheduler → Option Request → Piece
-requestPiece next d none = record { text = malformed; play = going next 0 d }
-requestPiece next d (some (ask c)) = callPiece next 0 d c
-requestPiece next d (some (wait n)) =
+-- what is asked with so many steps still to go after it; a wait that is not refused is as many steps, which come next
+abbrev pub commandPiece : ℕ → ℕ → Scheduler → Option Command → Piece
+commandPiece next steps d none = record { text = malformed; play = going next steps d }
+commandPiece next steps d (some (ask c)) = callPiece next steps d c
+commandPiece next steps d (some (wait n)) =
     cond
     (accepts (waitRefusal (view d) n))
     (record { text = []; play = going next n d })
-    (record { text = noRow (code (waitRefusal (view d) n)); play = going next 0 d })
+    (record { text = noRow (code (waitRefusal (view d) n)); play = going next steps d })
 
 -- with so many steps still to go, a step; with none, the next line
 abbrev pub laterBy : ℕ → List ℕ → Play → Piece
 laterBy n s p =
     cond
     (eqb n 0)
-    (cond (leb (length s) (p .at)) (record { text = []; play = over p }) (requestPiece (past s (p .at)) (p .scheduler) (requestOf (lineOf s (p .at)))))
+    (cond (leb (length s) (p .at)) (record { text = []; play = over p }) (commandPiece (past s (p .at)) 0 (p .scheduler) (commandOf (lineOf s (p .at)))))
     (callPiece (p .at) (n - 1) (p .scheduler) tick)
 
 unfoldable pub laterPiece : List ℕ → Play → Piece

@@ -22,20 +22,20 @@ use Rattle.scheduler.specs.Model.{Model, view, store}
 use Rattle.scheduler.specs.Opening.{opening, openingRefusal, opened}
 use Rattle.scheduler.specs.Answers.{Result, accepts, code, refuse}
 use Rattle.scheduler.specs.Refusals.{waitRefusal}
-use Rattle.history.specs.Calls.{Call, Request, ask, wait, tick, refusedWait, after}
+use Rattle.history.specs.Calls.{Call, Command, ask, wait, tick, refusedWait, after}
 use Rattle.conservative_rules.specs.Conservative as conservative
 use Rattle.easy_rules.specs.Easy as easy
 use Rattle.guarantees.specs.Rules.{rulesOf, call}
 use Rattle.guarantees.specs.Premise.{Premise, Valid, valid-view, call-valid, opening-valid}
 use Rattle.script_rules.specs.Lines.{linesOf}
 use Rattle.script_rules.specs.LineLaws.{lines-closed, lines-unclosed}
-use Rattle.script_rules.specs.Reading.{openingOf, requestOf}
+use Rattle.script_rules.specs.Reading.{openingOf, commandOf}
 use Rattle.script_rules.specs.Writing.{noRow, textOf}
 use Rattle.script_rules.specs.Printout.{malformed, printed, printedAll, calledBy, printedBy, played, openedBy, fromFirst, longestScript}
 use Rattle.pieces.specs.declared.Play.{Play}
 use Rattle.pieces.specs.declared.Stage.the-variants.{First, Playing, Over}
 use Rattle.pieces.specs.declared.Stage.{Stage}
-use Rattle.pieces.specs.Pieces.{lineOf, past, openingPiece, firstPiece, callPiece, requestPiece, laterBy, laterPiece, pieceBy, pieceOf}
+use Rattle.pieces.specs.Pieces.{lineOf, past, openingPiece, firstPiece, callPiece, commandPiece, laterBy, laterPiece, pieceBy, pieceOf}
 
 -- what a script has still to print
 abbrev pub fromHere : List ℕ → ℕ → ℕ → Model → List ℕ
@@ -104,13 +104,13 @@ module _ (s : List ℕ) where
     by-call : (steps : ℕ) (c : Call) → fromHere s at steps (call (view d) c .model) ≡ left s (callPiece at steps d c .play)
     by-call steps c = ap (fromHere s at steps) (sym (model-after (view d) c (h .holds)))
 
-    by-request : (q : Option Request)
+    by-command : (q : Option Command)
         → printedBy (view d) q ++ played (after call (view d) (calledBy (view d) q)) (linesOf (drop at s))
-        ≡ requestPiece at d q .text ++ left s (requestPiece at d q .play)
+        ≡ commandPiece at 0 d q .text ++ left s (commandPiece at 0 d q .play)
     unfolding printedAll
-    by-request none = refl
-    by-request (some (ask c)) = ap (λ t. t ++ played (call (view d) c .model) (linesOf (drop at s))) (append-nil (printed (view d) c)) ∙ ap (λ t. printed (view d) c ++ t) (by-call 0 c)
-    by-request (some (wait n)) =
+    by-command none = refl
+    by-command (some (ask c)) = ap (λ t. t ++ played (call (view d) c .model) (linesOf (drop at s))) (append-nil (printed (view d) c)) ∙ ap (λ t. printed (view d) c ++ t) (by-call 0 c)
+    by-command (some (wait n)) =
         case (accepts (waitRefusal (view d) n))
         (λ e. rw e)
         (λ e.
@@ -146,7 +146,7 @@ module _ (s : List ℕ) where
   by-steps zero p h =
       case (leb (length s) (p .at))
       (λ q. rw q (ap (played (view (p .scheduler))) (lines-done s (p .at) (leb-true (length s) (p .at) q))))
-      (λ q. rw q (ap (played (view (p .scheduler))) (lines-from s (p .at) (leb-false (length s) (p .at) q)) ∙ by-request (past s (p .at)) (p .scheduler) h (requestOf (lineOf s (p .at)))))
+      (λ q. rw q (ap (played (view (p .scheduler))) (lines-from s (p .at) (leb-false (length s) (p .at) q)) ∙ by-command (past s (p .at)) (p .scheduler) h (commandOf (lineOf s (p .at)))))
   by-steps (suc n) p h =
       let m = view (p .scheduler) in
       let some-left : suc n ≡ 0 → ⊥ = λ q. omega arith in

@@ -26,6 +26,9 @@ pub record Ahead (d : Scheduler) (most r : ℕ) : Type 0 where
   pub within : d .clock ≤ horizon → d .clock + r ≤ horizon
   pub quiet : Quiet (view d) r
 
+pub ahead-none : (d : Scheduler) (most : ℕ) → Ahead d most 0
+ahead-none d most = record { few = omega arith; within = λ h. omega arith; quiet = λ j x t a b. absurd (omega arith) }
+
 -- fewer minutes are quiet too
 less : (clock r k : ℕ) (j : Job) → r ≤ k → QuietFor clock k j → QuietFor clock r j
 less clock r k j l q t a b = q t a (omega arith)

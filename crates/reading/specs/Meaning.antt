@@ -12,12 +12,12 @@ use Rattle.text.specs.Fields.{fieldsOf, fieldOf}
 use Rattle.text.specs.Words.{isWord}
 use Rattle.scheduler.specs.declared.Kind.{Kind}
 use Rattle.scheduler.specs.declared.Opening.{Opening}
-use Rattle.history.specs.Calls.{Request, ask, wait, submit, complete}
+use Rattle.history.specs.Calls.{Command, ask, wait, submit, complete, asked}
 use Rattle.script_rules.specs.Reading.{hasForm, withNumber, withKind}
 use Rattle.reading.specs.declared.FirstLine.{FirstLine}
 use Rattle.reading.specs.declared.FirstLine.the-variants as first
 use Rattle.reading.specs.declared.Asked.{Asked}
-use Rattle.reading.specs.declared.Asked.the-variants as asked
+use Rattle.reading.specs.declared.Asked.the-variants as later
 use Rattle.reading.specs.declared.Named.{Named}
 use Rattle.reading.specs.declared.Named.the-variants as named
 
@@ -25,11 +25,10 @@ abbrev pub opens : FirstLine → Option Opening
 opens (first.Opens o) = some o
 opens first.Malformed = none
 
-abbrev pub asks : Asked → Option Request
-asks (asked.Submit s) = some (ask (submit (s .nodes) (s .estimate)))
-asks (asked.Complete t) = some (ask (complete t))
-asks (asked.Wait n) = some (wait n)
-asks asked.Malformed = none
+abbrev pub asks : Asked → Option Command
+asks (later.Call q) = some (ask (asked q))
+asks (later.Wait n) = some (wait n)
+asks later.Malformed = none
 
 abbrev pub follows : Named → Option Kind
 follows (named.Rules k) = some k
@@ -50,11 +49,11 @@ openingFrom kind nodes minute ticket =
     withKind kind (λ k. withNumber nodes (λ n. withNumber minute (λ m. withNumber ticket (λ t.
     some (record { kind = k; nodes = n; minute = m; ticket = t })))))
 
-abbrev pub submissionFrom : Parsed → Parsed → Option Request
+abbrev pub submissionFrom : Parsed → Parsed → Option Command
 submissionFrom nodes estimate = withNumber nodes (λ n. withNumber estimate (λ e. some (ask (submit n e))))
 
-abbrev pub completionFrom : Parsed → Option Request
+abbrev pub completionFrom : Parsed → Option Command
 completionFrom ticket = withNumber ticket (λ t. some (ask (complete t)))
 
-abbrev pub waitFrom : Parsed → Option Request
+abbrev pub waitFrom : Parsed → Option Command
 waitFrom minutes = withNumber minutes (λ n. some (wait n))

@@ -13,8 +13,8 @@ use Rattle.text.specs.NumberLaws.{number-most}
 use Rattle.text.specs.Fields.{fieldOf}
 use Rattle.scheduler.specs.declared.Kind.{Kind}
 use Rattle.scheduler.specs.declared.Opening.{Opening}
-use Rattle.history.specs.Calls.{Request, ask, wait, submit, complete, tick, profile, refusedWait}
-use Rattle.script_rules.specs.Reading.{numberAt, withNumber, withKind, kindOf, hasForm, inWord, endWord, waitWord, deskWord, openingIn, requestIn}
+use Rattle.history.specs.Calls.{Command, ask, wait, submit, complete, tick, profile, refusedWait}
+use Rattle.script_rules.specs.Reading.{numberAt, withNumber, withKind, kindOf, hasForm, inWord, endWord, waitWord, deskWord, openingIn, commandIn}
 
 abbrev pub Small : ℕ → Type 0
 Small n = n ≤ 9999999
@@ -22,13 +22,13 @@ Small n = n ≤ 9999999
 abbrev pub SmallOpening : Opening → Type 0
 SmallOpening o = Small (o .nodes) × Small (o .minute) × Small (o .ticket)
 
-abbrev pub SmallRequest : Request → Type 0
-SmallRequest (ask (submit n e)) = Small n × Small e
-SmallRequest (ask (complete t)) = Small t
-SmallRequest (ask tick) = ⊥
-SmallRequest (ask (profile room)) = ⊥
-SmallRequest (ask (refusedWait why)) = ⊥
-SmallRequest (wait n) = Small n
+abbrev pub SmallCommand : Command → Type 0
+SmallCommand (ask (submit n e)) = Small n × Small e
+SmallCommand (ask (complete t)) = Small t
+SmallCommand (ask tick) = ⊥
+SmallCommand (ask (profile room)) = ⊥
+SmallCommand (ask (refusedWait why)) = ⊥
+SmallCommand (wait n) = Small n
 
 -- what holds of an answer, where there is one
 abbrev pub Any : {A : Type 0} → (A → Type 0) → Option A → Type 0
@@ -65,15 +65,15 @@ opening-small s =
     any-some SmallOpening _ (small-n, small-m, small-t))))))
     (any-none SmallOpening)
 
-pub request-small : (s : List ℕ) (q : Request) → requestIn s ≡ some q → SmallRequest q
-unfolding requestIn
-request-small s =
-    any-cond SmallRequest (hasForm s 3 inWord) _ _
-    (any-field SmallRequest s 1 _ (λ n small-n. any-field SmallRequest s 2 _ (λ e small-e. any-some SmallRequest (ask (submit n e)) (small-n, small-e))))
-    (any-cond SmallRequest (hasForm s 2 endWord) _ _
-    (any-field SmallRequest s 1 _ (λ t small-t. any-some SmallRequest (ask (complete t)) small-t))
-    (any-cond SmallRequest (hasForm s 2 waitWord) _ none (any-field SmallRequest s 1 _ (λ n small-n. any-some SmallRequest (wait n) small-n)) (any-none SmallRequest)))
+pub command-small : (s : List ℕ) (q : Command) → commandIn s ≡ some q → SmallCommand q
+unfolding commandIn
+command-small s =
+    any-cond SmallCommand (hasForm s 3 inWord) _ _
+    (any-field SmallCommand s 1 _ (λ n small-n. any-field SmallCommand s 2 _ (λ e small-e. any-some SmallCommand (ask (submit n e)) (small-n, small-e))))
+    (any-cond SmallCommand (hasForm s 2 endWord) _ _
+    (any-field SmallCommand s 1 _ (λ t small-t. any-some SmallCommand (ask (complete t)) small-t))
+    (any-cond SmallCommand (hasForm s 2 waitWord) _ none (any-field SmallCommand s 1 _ (λ n small-n. any-some SmallCommand (wait n) small-n)) (any-none SmallCommand)))
 
 -- of a wait
-pub wait-small : (s : List ℕ) (n : ℕ) → requestIn s ≡ some (wait n) → n ≤ 9999999
-wait-small s n = request-small s (wait n)
+pub wait-small : (s : List ℕ) (n : ℕ) → commandIn s ≡ some (wait n) → n ≤ 9999999
+wait-small s n = command-small s (wait n)

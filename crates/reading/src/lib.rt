@@ -1,9 +1,10 @@
 // A line of a script, read into what it asks. Each field goes through the field reader to the number reader: there is no second parser.
 ghost use mathlib.Core.Path.{_≡_};
-ghost use Rattle.script_rules.specs.Reading.{kindOf, openingIn, requestIn};
+ghost use Rattle.script_rules.specs.Reading.{kindOf, openingIn, commandIn};
 ghost use Rattle.reading.specs.Meaning.{opens, asks, follows, formFrom, openingFrom, submissionFrom, completionFrom, waitFrom};
 use scheduler::Kind;
 use scheduler::Opening;
+use scheduler::Request;
 use scheduler::Submission;
 use text::Parsed;
 
@@ -15,8 +16,7 @@ pub enum FirstLine {
 
 // What a later line asks.
 pub enum Asked {
-    Submit(Submission),
-    Complete(u32),
+    Call(Request),
     Wait(u32),
     Malformed,
 }
@@ -81,17 +81,17 @@ fn submission(nodes: Parsed, estimate: Parsed) -> Asked
     let Parsed::Is(e) = estimate else {
         return Asked::Malformed;
     };
-    Asked::Submit(Submission {
+    Asked::Call(Request::Submit(Submission {
         nodes: n,
         estimate: e,
-    })
+    }))
 }
 
 fn completion(ticket: Parsed) -> Asked
     ensures { λ r. ⌜ asks r ≡ completionFrom ticket ⌝ }
 {
     match ticket {
-        Parsed::Is(t) => Asked::Complete(t),
+        Parsed::Is(t) => Asked::Call(Request::Complete(t)),
         Parsed::Not => Asked::Malformed,
     }
 }
@@ -124,7 +124,7 @@ pub fn read_first(line: &[u8]) -> FirstLine
 
 // A later line submits a job, completes one, or waits.
 pub fn read_later(line: &[u8]) -> Asked
-    ensures { λ r. ⌜ asks r ≡ requestIn (now (line .entry)) ⌝ }
+    ensures { λ r. ⌜ asks r ≡ commandIn (now (line .entry)) ⌝ }
 {
     let count = text::field_count(line);
     let first = text::field(line, 0);

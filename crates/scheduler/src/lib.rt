@@ -106,6 +106,13 @@ pub struct Submission {
     pub estimate: u32,
 }
 
+// What a call asks of a scheduler.
+pub enum Request {
+    Submit(Submission),
+    Complete(u32),
+    Tick,
+}
+
 // A test of a job, as a value.
 pub enum Select {
     Live,

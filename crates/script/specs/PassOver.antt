@@ -63,18 +63,6 @@ module _ (s : List ℕ) (at : ℕ) where
       ∙ quiet-left k n (passed m 1) (tick-valid m v (omega arith) h) (omega arith) (quiet-rest m k q)
       ∙ ap (fromHere s at n) (passed-more m k)
 
-pub passes-none : (p : Play) → Premise (p .scheduler) → PassesOver p p
-passes-none p h = record {
-  stage-is = refl;
-  at-is = refl;
-  minutes = 0;
-  steps-is = omega arith;
-  quiet = λ j i t a b. absurd (omega arith);
-  scheduler-is = refl;
-  premise = h;
-  left-is = λ s. refl;
-}
-
 module _ (p : Play) (h : Premise (p .scheduler)) {k : ℕ} (a : Ahead (p .scheduler) (p .steps) k) where
   pub in-time : p .scheduler .clock + k ≤ horizon
   unfolding view

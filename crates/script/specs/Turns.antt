@@ -4,7 +4,7 @@
 use mathlib.Core.Path.{_≡_, refl, sym, ap, subst, _∙_}
 use mathlib.Core.Bool.{true, false}
 use mathlib.Core.List.{List, []}
-use mathlib.Core.Option.{none, some}
+use mathlib.Core.Option.{some}
 use Prim.Native.Nat.{ℕ, _+_, _-_, _≤_, _<_}
 use native.Mathlib.Omega.{arith}
 use lib.ListN.{length, take, drop}
@@ -15,28 +15,34 @@ use Rattle.scheduler.specs.declared.Opening.{Opening}
 use Rattle.scheduler.specs.declared.Opened.{Opened}
 use Rattle.scheduler.specs.declared.Outcome.{Outcome}
 use Rattle.scheduler.specs.declared.Refusal.{Refusal}
+use Rattle.scheduler.specs.declared.Request.{Request}
+use Rattle.scheduler.specs.declared.Request.the-variants as request
 use Rattle.scheduler.specs.declared.Scheduler.{Scheduler}
 use Rattle.scheduler.specs.Table.{tickets}
 use Rattle.scheduler.specs.Model.{view, store}
 use Rattle.scheduler.specs.Opening.{openingRefusal, opened}
 use Rattle.scheduler.specs.Answers.{accepts, code, outcome}
 use Rattle.scheduler.specs.Refusals.{waitRefusal}
-use Rattle.history.specs.Calls.{Call, ask, wait, tick}
+use Rattle.history.specs.Calls.{Call, wait, asked}
 use Rattle.guarantees.specs.Rules.{call}
 use Rattle.guarantees.specs.Premise.{Premise, premise-sound}
 use Rattle.guarantees.specs.Named.{call-fits}
-use Rattle.script_rules.specs.Reading.{openingIn, requestIn, requestOf}
+use Rattle.script_rules.specs.Reading.{openingIn, commandIn}
 use Rattle.script_rules.specs.Writing.{noRow}
 use Rattle.script_rules.specs.Printout.{malformed, longestScript}
 use Rattle.writing.specs.Answered.{pageBytes, answerText, answer-text}
 use Rattle.writing.specs.Wrote.{Wrote, wrote-none}
 use Rattle.reading.specs.declared.FirstLine.{FirstLine}
 use Rattle.reading.specs.declared.FirstLine.the-variants as first
+use Rattle.reading.specs.declared.Asked.{Asked}
+use Rattle.reading.specs.declared.Asked.the-variants as later
 use Rattle.reading.specs.Meaning.{opens, asks}
 use Rattle.pieces.specs.declared.Play.{Play}
 use Rattle.pieces.specs.declared.Stage.{Stage}
-use Rattle.pieces.specs.Pieces.{Piece, piece, lineOf, past, over, going, openingPiece, firstPiece, callPiece, requestPiece, laterBy, laterPiece, pieceBy, pieceOf}
+use Rattle.pieces.specs.Pieces.{Piece, piece, over, going, openingPiece, firstPiece, callPiece, commandPiece, laterPiece, pieceBy, pieceOf}
 use Rattle.script.specs.declared.Played.{Played}
+use Rattle.script.specs.declared.Turn.{Turn}
+use Rattle.script.specs.declared.Turn.the-variants as turn
 use Rattle.script.specs.declared.Next.{Next}
 
 -- The lines of the piece x stand in the page from a place on, and the script stands where x leaves it.
@@ -103,32 +109,46 @@ module _ (s : List ℕ) (p : Play) where
           let d : lineAt s (p .at) .closed ≡ false = sym (ap (λ (x : Line). x .closed) e) ∙ c in
           rw (le-ltb longestScript (length s) short, lt-leb (length s) (p .at) some-left, d)
 
--- ## A later line, read
+-- ## The next turn
 
--- what the line at a place asks, and where the next one begins
-pub record Reads (s : List ℕ) (at : ℕ) (n : Next) : Type 0 where
-  pub asked-is : asks (n .asked) ≡ requestOf (lineOf s at)
-  pub past-is : n .at ≡ past s at
+-- a turn on a scheduler, with so many steps left after it
+abbrev pub turnPiece : Turn → ℕ → ℕ → Scheduler → Piece
+turnPiece (turn.Asks a) at steps d = commandPiece at steps d (asks a)
+turnPiece turn.Over at steps d = piece [] (over (going at steps d))
 
-module _ (s : List ℕ) (at : ℕ) (l : Line) (e : l ≡ lineAt s at) (n : Next) where
-  pub reads-closed : l .closed ≡ true → asks (n .asked) ≡ requestIn (take (l .end - at) (drop at s)) → n .at ≡ l .end + 1 → Reads s at n
-  reads-closed c g h =
-      let d : lineAt s at .closed ≡ true = sym (ap (λ (x : Line). x .closed) e) ∙ c in
-      record {
-        asked-is = rw d (g ∙ ap (λ (x : Line). requestIn (take (x .end - at) (drop at s))) e);
-        past-is = rw d (h ∙ ap (λ (x : Line). x .end + 1) e);
-      }
+-- it is the next one of a script that stands at a place with so many steps to go, on every scheduler
+pub record Comes (s : List ℕ) (at steps : ℕ) (n : Next) : Type 0 where
+  pub piece-is : (d : Scheduler) → turnPiece (n .turn) (n .at) (n .steps) d ≡ pieceOf s (going at steps d)
 
-  pub reads-unclosed : l .closed ≡ false → asks (n .asked) ≡ none → n .at ≡ l .end → Reads s at n
-  reads-unclosed c g h =
-      let d : lineAt s at .closed ≡ false = sym (ap (λ (x : Line). x .closed) e) ∙ c in
-      record { asked-is = rw d g; past-is = rw d (h ∙ ap (λ (x : Line). x .end) e) }
+module _ (s : List ℕ) (at : ℕ) where
+  pub comes-step : (steps : ℕ) → 0 < steps → Comes s at steps (record { turn = turn.Asks (later.Call request.Tick); at = at; steps = steps - 1 })
+  unfolding laterPiece
+  comes-step steps h = record { piece-is = λ d. rw (ne-eqb steps 0 (λ q. omega arith)) }
 
--- a line is left at a place, and is read where no step of a wait is left
-pub record Lined (s : List ℕ) (at steps : ℕ) (n : Next) : Type 0 where
-  pub no-steps : steps ≡ 0
-  pub some-left : at < length s
-  pub reads : Reads s at n
+  -- where no step is left
+  pub comes-as : (steps : ℕ) (n : Next) → steps ≡ 0 → Comes s at 0 n → Comes s at steps n
+  comes-as steps n z c = subst (λ (k : ℕ). Comes s at k n) (sym z) c
+
+  pub comes-over : length s ≤ at → Comes s at 0 (record { turn = turn.Over; at = at; steps = 0 })
+  unfolding laterPiece
+  comes-over h = record { piece-is = λ d. rw (le-leb (length s) at h) }
+
+  module _ (some-left : at < length s) (l : Line) (e : l ≡ lineAt s at) where
+    pub comes-closed : l .closed ≡ true → (a : Asked) → asks a ≡ commandIn (take (l .end - at) (drop at s)) → Comes s at 0 (record { turn = turn.Asks a; at = l .end + 1; steps = 0 })
+    unfolding laterPiece
+    comes-closed c a g =
+        let x : lineAt s at .closed ≡ true = sym (ap (λ (y : Line). y .closed) e) ∙ c in
+        record {
+          piece-is = λ d.
+              rw (lt-leb (length s) at some-left, x)
+              (ap (commandPiece (l .end + 1) 0 d) g ∙ ap (λ (y : Line). commandPiece (y .end + 1) 0 d (commandIn (take (y .end - at) (drop at s)))) e);
+        }
+
+    pub comes-unclosed : l .closed ≡ false → Comes s at 0 (record { turn = turn.Asks later.Malformed; at = l .end; steps = 0 })
+    unfolding laterPiece
+    comes-unclosed c =
+        let x : lineAt s at .closed ≡ false = sym (ap (λ (y : Line). y .closed) e) ∙ c in
+        record { piece-is = λ d. rw (lt-leb (length s) at some-left, x) (ap (λ (y : Line). piece malformed (going (y .end) 0 d)) e) }
 
 -- ## Turns of a script that is being played
 
@@ -148,66 +168,40 @@ module _ (d : Scheduler) (c : Call) (r : Outcome) (e : r ≡ outcome (call (view
       let f = call-fits (view d) c (premise-sound d h .few) in
       subst (λ (x : Outcome). (x .answer .ended .count ≤ 64) × (x .answer .started .count ≤ 64)) (sym e) (f .ended, f .started)
 
-module _ (s : List ℕ) (at steps : ℕ) (d : Scheduler) where
+-- each way through the loop leaves the lines of the next turn
+module _ (s : List ℕ) (at steps : ℕ) (d : Scheduler) (n : Next) (comes : Comes s at steps n) where
   abbrev here : Piece
   here = pieceOf s (going at steps d)
 
-  -- one step of a wait
-  step-piece : 0 < steps → callPiece at (steps - 1) d tick ≡ here
-  unfolding laterPiece
-  step-piece h = rw (ne-eqb steps 0 (λ q. omega arith))
+  known : (t : Turn) → n .turn ≡ t → turnPiece t (n .at) (n .steps) d ≡ here
+  known t e = ap (λ (x : Turn). turnPiece x (n .at) (n .steps) d) (sym e) ∙ comes .piece-is d
 
-  pub step-turned : {page after : List ℕ} {out end : ℕ} (r : Outcome) → r ≡ outcome (call (view d) tick) → 0 < steps
-      → Wrote pageBytes page out (answerText (d .kind) (r .scheduler .clock) (r .answer)) after end
-      → Turned here page out after (record { end = end; play = going at (steps - 1) (r .scheduler) })
-  step-turned r e h w = turned-as (call-piece d tick r e at (steps - 1) ∙ step-piece h) (turned _ w)
+  pub over-turned : (page : List ℕ) (out : ℕ) → n .turn ≡ turn.Over → Turned here page out page (record { end = out; play = over (going (n .at) (n .steps) d) })
+  over-turned page out e = turned-as (known turn.Over e) (turned-none page out _)
 
-  none-left : steps ≡ 0 → laterBy 0 s (going at steps d) ≡ here
-  unfolding laterPiece
-  none-left z = ap (λ (n : ℕ). laterBy n s (going at steps d)) (sym z)
+  module _ (a : Asked) (e : n .turn ≡ turn.Asks a) where
+    asked-piece : (b : Asked) → a ≡ b → commandPiece (n .at) (n .steps) d (asks b) ≡ here
+    asked-piece b f = known (turn.Asks b) (e ∙ ap turn.Asks f)
 
-  -- no line is left
-  pub end-turned : (page : List ℕ) (out : ℕ) → steps ≡ 0 → length s ≤ at → Turned here page out page (record { end = out; play = over (going at steps d) })
-  end-turned page out z h = turned-as ((rw (le-leb (length s) at h)) ∙ none-left z) (turned-none page out _)
-
-  -- the line at this place
-  module _ (n : Next) (l : Lined s at steps n) where
-    line-piece : requestPiece (n .at) d (asks (n .asked)) ≡ here
-    line-piece =
-        let line : requestPiece (past s at) d (requestOf (lineOf s at)) ≡ laterBy 0 s (going at steps d) = rw (lt-leb (length s) at (l .some-left)) in
-        (λ i. requestPiece (l .reads .past-is i) d (l .reads .asked-is i)) ∙ line ∙ none-left (l .no-steps)
-
-    pub line-calls : {page after : List ℕ} {out end : ℕ} (c : Call) → asks (n .asked) ≡ some (ask c) → (o : Outcome) → o ≡ outcome (call (view d) c)
+    pub call-turned : {page after : List ℕ} {out end : ℕ} (q : Request) → a ≡ later.Call q → (o : Outcome) → o ≡ outcome (call (view d) (asked q))
         → Wrote pageBytes page out (answerText (d .kind) (o .scheduler .clock) (o .answer)) after end
-        → Turned here page out after (record { end = end; play = going (n .at) steps (o .scheduler) })
-    line-calls c a o e w =
-        turned-as
-        (ap (λ (k : ℕ). piece (answerText (d .kind) (o .scheduler .clock) (o .answer)) (going (n .at) k (o .scheduler))) (l .no-steps)
-        ∙ call-piece d c o e (n .at) 0
-        ∙ ap (requestPiece (n .at) d) (sym a)
-        ∙ line-piece)
-        (turned _ w)
+        → Turned here page out after (record { end = end; play = going (n .at) (n .steps) (o .scheduler) })
+    call-turned q f o g w = turned-as (call-piece d (asked q) o g (n .at) (n .steps) ∙ asked-piece _ f) (turned _ w)
 
-    pub line-lacks : {page after : List ℕ} {out end : ℕ} → asks (n .asked) ≡ none → Wrote pageBytes page out malformed after end
-        → Turned here page out after (record { end = end; play = going (n .at) steps d })
-    line-lacks a w = turned-as (ap (λ (k : ℕ). piece malformed (going (n .at) k d)) (l .no-steps) ∙ ap (requestPiece (n .at) d) (sym a) ∙ line-piece) (turned _ w)
+    pub lacks-turned : {page after : List ℕ} {out end : ℕ} → a ≡ later.Malformed → Wrote pageBytes page out malformed after end
+        → Turned here page out after (record { end = end; play = going (n .at) (n .steps) d })
+    lacks-turned f w = turned-as (asked-piece _ f) (turned _ w)
 
-    module _ (minutes : ℕ) (a : asks (n .asked) ≡ some (wait minutes)) (w : Refusal) (e : w ≡ waitRefusal (view d) minutes) where
-      pub line-waits : (page : List ℕ) (out : ℕ) → accepts w ≡ true → Turned here page out page (record { end = out; play = going (n .at) minutes d })
-      line-waits page out h =
-          let b : accepts (waitRefusal (view d) minutes) ≡ true = sym (ap accepts e) ∙ h in
-          let taken : piece [] (going (n .at) minutes d) ≡ requestPiece (n .at) d (some (wait minutes)) = rw b in
-          turned-as (taken ∙ ap (requestPiece (n .at) d) (sym a) ∙ line-piece) (turned-none page out _)
+    module _ (minutes : ℕ) (f : a ≡ later.Wait minutes) (w : Refusal) (g : w ≡ waitRefusal (view d) minutes) where
+      pub wait-turned : (page : List ℕ) (out : ℕ) → accepts w ≡ true → Turned here page out page (record { end = out; play = going (n .at) minutes d })
+      wait-turned page out h =
+          let b : accepts (waitRefusal (view d) minutes) ≡ true = sym (ap accepts g) ∙ h in
+          let taken : piece [] (going (n .at) minutes d) ≡ commandPiece (n .at) (n .steps) d (some (wait minutes)) = rw b in
+          turned-as (taken ∙ asked-piece _ f) (turned-none page out _)
 
-      pub line-wait-refused : {page after : List ℕ} {out end : ℕ} → accepts w ≡ false → Wrote pageBytes page out (noRow (code w)) after end
-          → Turned here page out after (record { end = end; play = going (n .at) steps d })
-      line-wait-refused h v =
-          let b : accepts (waitRefusal (view d) minutes) ≡ false = sym (ap accepts e) ∙ h in
-          let refused : piece (noRow (code (waitRefusal (view d) minutes))) (going (n .at) 0 d) ≡ requestPiece (n .at) d (some (wait minutes)) = rw b in
-          turned-as
-          (ap (λ (k : ℕ). piece (noRow (code w)) (going (n .at) k d)) (l .no-steps)
-          ∙ ap (λ (x : Refusal). piece (noRow (code x)) (going (n .at) 0 d)) e
-          ∙ refused
-          ∙ ap (requestPiece (n .at) d) (sym a)
-          ∙ line-piece)
-          (turned _ v)
+      pub refused-turned : {page after : List ℕ} {out end : ℕ} → accepts w ≡ false → Wrote pageBytes page out (noRow (code w)) after end
+          → Turned here page out after (record { end = end; play = going (n .at) (n .steps) d })
+      refused-turned h v =
+          let b : accepts (waitRefusal (view d) minutes) ≡ false = sym (ap accepts g) ∙ h in
+          let refused : piece (noRow (code (waitRefusal (view d) minutes))) (going (n .at) (n .steps) d) ≡ commandPiece (n .at) (n .steps) d (some (wait minutes)) = rw b in
+          turned-as (ap (λ (x : Refusal). piece (noRow (code x)) (going (n .at) (n .steps) d)) g ∙ refused ∙ asked-piece _ f) (turned _ v)

@@ -10,7 +10,7 @@ ghost use Rattle.writing.specs.Answered.{pageBytes};
 ghost use Rattle.pieces.specs.declared.Stage.the-variants.{Playing};
 ghost use Rattle.pieces.specs.Pieces.{piece, over, openingPiece, firstPiece, beginning};
 ghost use Rattle.pieces.specs.Ends.{Ready};
-ghost use Rattle.script.specs.Turns.{Turned, Reads};
+ghost use Rattle.script.specs.Turns.{Turned, Comes};
 ghost use Rattle.script.specs.Filled.{Filled};
 use pieces::Play;
 use pieces::Stage;
@@ -19,6 +19,7 @@ use reading::FirstLine;
 use scheduler::Kind;
 use scheduler::Opening;
 use scheduler::Refusal;
+use scheduler::Request;
 use scheduler::Scheduler;
 
 // A longer script is not read.
@@ -105,34 +106,64 @@ fn first(p: Play, script: &[u8], page: &mut [u8]) -> Played
     refuse(p, Refusal::Malformed, page)
 }
 
-// What a later line asks, and where the line after it begins.
-struct Next {
-    asked: Asked,
-    at: usize,
+// What a turn comes to: what is asked, or that the script is over.
+enum Turn {
+    Asks(Asked),
+    Over,
 }
 
-// An unclosed line lacks the form.
+// A turn, where the line after it begins, and how many steps of a wait are left after it.
+struct Next {
+    turn: Turn,
+    at: usize,
+    steps: u32,
+}
+
+// The line at a place. An unclosed one lacks the form.
 fn next_line(script: &[u8], at: usize) -> Next
     requires { ⌜ at < length (now script) ⌝ }
-    ensures { λ r. ⌜ Reads (now (script .entry)) at r ⌝ }
+    ensures { λ r. ⌜ Comes (now (script .entry)) at 0 r ⌝ }
 {
     let line = text::next_line(script, at);
     let end = line.end;
     if line.closed {
         let asked = reading::read_later(&script[at..end]);
         return Next {
-            asked: asked,
+            turn: Turn::Asks(asked),
             at: end + 1,
+            steps: 0,
         };
     }
     Next {
-        asked: Asked::Malformed,
+        turn: Turn::Asks(Asked::Malformed),
         at: end,
+        steps: 0,
     }
 }
 
-// Turn after turn, while the page has room for the longest answer. Whatever changes is a local of this one loop: a call by value copies the
-// scheduler, and a turn that makes no call does not.
+// A step of the wait, or the next line.
+fn next_turn(script: &[u8], at: usize, steps: u32) -> Next
+    ensures { λ r. ⌜ Comes (now (script .entry)) at steps r ⌝ }
+{
+    if 0 < steps {
+        return Next {
+            turn: Turn::Asks(Asked::Call(Request::Tick)),
+            at: at,
+            steps: steps - 1,
+        };
+    }
+    if script.len() <= at {
+        return Next {
+            turn: Turn::Over,
+            at: at,
+            steps: 0,
+        };
+    }
+    next_line(script, at)
+}
+
+// Turn after turn, while the page has room for the longest answer. Whatever changes is a local of this one loop, which calls in one place: a
+// call by value copies the scheduler, and a turn that makes no call does not.
 fn later(p: Play, script: &[u8], page: &mut [u8]) -> Played
     requires { ⌜ Ready (now script) p × (p .stage ≡ Playing) × (pageBytes ≤ length (now page)) ⌝ }
     ensures { λ r. ⌜ Filled (now (script .entry)) p (now (page .exit)) r ⌝ }
@@ -143,63 +174,47 @@ fn later(p: Play, script: &[u8], page: &mut [u8]) -> Played
     let mut steps = p.steps;
     let mut end: usize = 0;
     while end <= last {
-        let kind = d.kind;
-        if 0 < steps {
-            // quiet minutes are passed over at once: their ticks print nothing
-            let minutes = quiet::quiet_minutes(d, steps);
-            d.clock += minutes;
-            steps -= minutes;
-            if steps == 0 {
-                continue;
-            }
-            let done = calls::tick(d);
-            d = done.scheduler;
-            let answer = done.answer;
-            end = writing::put_answer(page, end, kind, d.clock, answer);
-            steps -= 1;
-            continue;
-        }
-        if script.len() <= at {
-            return Played {
-                end: end,
-                play: Play {
-                    stage: Stage::Over,
-                    at: at,
-                    steps: steps,
-                    scheduler: d,
-                },
-            };
-        }
-        let line = next_line(script, at);
-        at = line.at;
-        let asked = line.asked;
-        match asked {
-            Asked::Submit(s) => {
-                let done = calls::submit(d, s);
-                d = done.scheduler;
-                let answer = done.answer;
-                end = writing::put_answer(page, end, kind, d.clock, answer);
-                continue;
-            }
-            Asked::Complete(t) => {
-                let done = calls::complete(d, t);
-                d = done.scheduler;
-                let answer = done.answer;
-                end = writing::put_answer(page, end, kind, d.clock, answer);
-                continue;
-            }
-            Asked::Wait(n) => {
-                let reason = calls::wait_refusal(d, n);
-                if reason.is_none() {
-                    steps = n;
+        // quiet minutes are passed over at once: their ticks print nothing
+        let minutes = quiet::quiet_minutes(d, steps);
+        d.clock += minutes;
+        let next = next_turn(script, at, steps - minutes);
+        at = next.at;
+        steps = next.steps;
+        let turn = next.turn;
+        match turn {
+            Turn::Asks(asked) => match asked {
+                Asked::Call(request) => {
+                    let kind = d.kind;
+                    let done = calls::call(d, request);
+                    d = done.scheduler;
+                    let answer = done.answer;
+                    end = writing::put_answer(page, end, kind, d.clock, answer);
                     continue;
                 }
-                end = writing::put_refusal(page, end, reason);
-                continue;
-            }
-            Asked::Malformed => {
-                end = writing::put_refusal(page, end, Refusal::Malformed);
-                continue;
+                Asked::Wait(n) => {
+                    let reason = calls::wait_refusal(d, n);
+                    if reason.is_none() {
+                        steps = n;
+                        continue;
+                    }
+                    end = writing::put_refusal(page, end, reason);
+                    continue;
+                }
+                Asked::Malformed => {
+                    end = writing::put_refusal(page, end, Refusal::Malformed);
+                    continue;
+                }
+            },
+            Turn::Over => {
+                return Played {
+                    end: end,
+                    play: Play {
+                        stage: Stage::Over,
+                        at: at,
+                        steps: steps,
+                        scheduler: d,
+                    },
+                };
             }
         }
     }

@@ -16,7 +16,7 @@ use Rattle.scheduler.specs.Answers.{Forecast, code, verdict}
 use Rattle.scheduler.specs.Refusals as refusals
 use Rattle.scheduler.specs.Model.{Model}
 use Rattle.scheduler.specs.Opening as opening
-use Rattle.history.specs.Calls.{Request, ask, submit, Event, events, after, allCalls}
+use Rattle.history.specs.Calls.{Command, ask, submit, Event, events, after, allCalls}
 use Rattle.conservative_rules.specs.Conservative as conservative
 use Rattle.easy_rules.specs.Easy as easy
 use Rattle.guarantees.specs.Rules.{call}
@@ -56,8 +56,8 @@ said e = record {
 abbrev fresh : Kind → Model
 fresh k = opening.opening (record { kind = k; nodes = 10; minute = 0; ticket = 1 })
 
--- what a list of requests is answered
-abbrev play : Kind → List Request → List Said
+-- what a list of commands is answered
+abbrev play : Kind → List Command → List Said
 play k qs = map said (events call (fresh k) (allCalls call (fresh k) qs))
 
 -- "after `in 6 20` and `in 8 10`": the answer to one submission more
@@ -65,7 +65,7 @@ abbrev third : Kind → ℕ → ℕ → List Said
 third k n e = drop 2 (play k (ask (submit 6 20) ∷ ask (submit 8 10) ∷ ask (submit n e) ∷ []))
 
 -- the scheduler after some submissions
-abbrev with-jobs : List Request → Model
+abbrev with-jobs : List Command → Model
 with-jobs qs = after call (fresh Easy) (allCalls call (fresh Easy) qs)
 
 pub data Value : Type 0 where
@@ -158,7 +158,7 @@ unfolding
     reading.hasForm
     reading.kindOf
     reading.openingIn
-    reading.requestIn
+    reading.commandIn
     writing.row
     writing.noRow
     writing.rowsOf

@@ -9,13 +9,13 @@ use Rattle.scheduler.specs.declared.Kind.{Kind}
 use Rattle.scheduler.specs.declared.Opening.{Opening}
 use Rattle.scheduler.specs.Model.{Model}
 use Rattle.scheduler.specs.Opening.{opening}
-use Rattle.history.specs.Calls.{Call, Request, Event, after, events, callsOf, allCalls}
+use Rattle.history.specs.Calls.{Call, Command, Event, after, events, callsOf, allCalls}
 use Rattle.history.specs.Guarantee.{Guarantee}
 use Rattle.guarantees.specs.Rules.{call}
 use Rattle.guarantees.specs.Statement.{bookOf}
 use Rattle.guarantees.specs.Proof.{demand3-with-waits}
 use Rattle.script_rules.specs.Lines.{Line}
-use Rattle.script_rules.specs.Reading.{requestOf}
+use Rattle.script_rules.specs.Reading.{commandOf}
 use Rattle.script_rules.specs.Writing.{textOf}
 use Rattle.script_rules.specs.Printout.{malformed, printedAll, calledBy, printedBy, played}
 
@@ -45,22 +45,22 @@ abbrev pub answers : Model → List Call → List Item
 answers m [] = []
 answers m (c ∷ cs) = let r = call m c in answered (m .settings .kind) (r .model .clock) (record { call = c; reply = r .reply }) ∷ answers (r .model) cs
 
-abbrev pub itemsBy : Model → Option Request → List Item
+abbrev pub itemsBy : Model → Option Command → List Item
 itemsBy m none = notRead ∷ []
 itemsBy m (some q) = answers m (callsOf m q)
 
 abbrev pub items : Model → List Line → List Item
 items m [] = []
-items m (l ∷ ls) = itemsBy m (requestOf l) ++ items (after call m (calledBy m (requestOf l))) ls
+items m (l ∷ ls) = itemsBy m (commandOf l) ++ items (after call m (calledBy m (commandOf l))) ls
 
--- the requests of the lines that have the form
-abbrev pub andRequest : Option Request → List Request → List Request
-andRequest none qs = qs
-andRequest (some q) qs = q ∷ qs
+-- the commands of the lines that have the form
+abbrev pub andCommand : Option Command → List Command → List Command
+andCommand none qs = qs
+andCommand (some q) qs = q ∷ qs
 
-abbrev pub requests : List Line → List Request
-requests [] = []
-requests (l ∷ ls) = andRequest (requestOf l) (requests ls)
+abbrev pub commands : List Line → List Command
+commands [] = []
+commands (l ∷ ls) = andCommand (commandOf l) (commands ls)
 
 texts-append : (is js : List Item) → texts (is ++ js) ≡ texts is ++ texts js
 texts-append [] js = refl
@@ -84,7 +84,7 @@ events-append : (m : Model) (cs ds : List Call) → events call m (cs ++ ds) ≡
 events-append m [] ds = refl
 events-append m (c ∷ cs) ds = ap (λ t. record { call = c; reply = call m c .reply } ∷ t) (events-append (call m c .model) cs ds)
 
-by-texts : (m : Model) (q : Option Request) → printedBy m q ≡ texts (itemsBy m q)
+by-texts : (m : Model) (q : Option Command) → printedBy m q ≡ texts (itemsBy m q)
 by-texts m none = sym (append-nil malformed)
 by-texts m (some q) = answers-texts m (callsOf m q)
 
@@ -93,19 +93,19 @@ pub prints : (m : Model) (ls : List Line) → played m ls ≡ texts (items m ls)
 unfolding played
 prints m [] = refl
 prints m (l ∷ ls) =
-    let q = requestOf l in
+    let q = commandOf l in
     let rest = after call m (calledBy m q) in
     ap (λ t. t ++ played rest ls) (by-texts m q)
     ∙ ap (λ t. texts (itemsBy m q) ++ t) (prints rest ls)
     ∙ sym (texts-append (itemsBy m q) (items rest ls))
 
 -- and the calls among these, with their answers, are a list of calls of the scheduler
-pub tells : (m : Model) (ls : List Line) → told (items m ls) ≡ events call m (allCalls call m (requests ls))
+pub tells : (m : Model) (ls : List Line) → told (items m ls) ≡ events call m (allCalls call m (commands ls))
 tells m [] = refl
-tells m (l ∷ ls) = line (requestOf l) (tells (after call m (calledBy m (requestOf l))) ls)
+tells m (l ∷ ls) = line (commandOf l) (tells (after call m (calledBy m (commandOf l))) ls)
   where
-    line : (q : Option Request) → told (items (after call m (calledBy m q)) ls) ≡ events call (after call m (calledBy m q)) (allCalls call (after call m (calledBy m q)) (requests ls))
-        → told (itemsBy m q ++ items (after call m (calledBy m q)) ls) ≡ events call m (allCalls call m (andRequest q (requests ls)))
+    line : (q : Option Command) → told (items (after call m (calledBy m q)) ls) ≡ events call (after call m (calledBy m q)) (allCalls call (after call m (calledBy m q)) (commands ls))
+        → told (itemsBy m q ++ items (after call m (calledBy m q)) ls) ≡ events call m (allCalls call m (andCommand q (commands ls)))
     line none e = e
     line (some q) e =
         let cs = callsOf m q in
@@ -113,7 +113,7 @@ tells m (l ∷ ls) = line (requestOf l) (tells (after call m (calledBy m (reques
         told-append (answers m cs) (items rest ls)
         ∙ ap (λ t. t ++ told (items rest ls)) (answers-told m cs)
         ∙ ap (λ t. events call m cs ++ t) e
-        ∙ sym (events-append m cs (allCalls call rest (requests ls)))
+        ∙ sym (events-append m cs (allCalls call rest (commands ls)))
 
 first-events : (m : Model) (cs : List Call) (i : ℕ) → take i (events call m cs) ≡ events call m (take i cs)
 first-events m cs zero = refl
@@ -132,7 +132,7 @@ script-keeps o ls = record {
   text = prints (opening o) ls;
   kept = λ i.
       let m = opening o in
-      let cs = allCalls call m (requests ls) in
+      let cs = allCalls call m (commands ls) in
       let same : events call m (take i cs) ≡ take i (told (items m ls)) = sym (first-events m cs i) ∙ ap (take i) (sym (tells m ls)) in
-      subst (λ (es : List Event). Guarantee (o .kind) (m .settings .nodes) (bookOf m es)) same (demand3-with-waits o (requests ls) i);
+      subst (λ (es : List Event). Guarantee (o .kind) (m .settings .nodes) (bookOf m es)) same (demand3-with-waits o (commands ls) i);
 }

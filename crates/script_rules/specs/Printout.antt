@@ -11,10 +11,10 @@ use Rattle.scheduler.specs.declared.Refusal.the-variants as refusal
 use Rattle.scheduler.specs.Model.{Model}
 use Rattle.scheduler.specs.Opening.{opening, openingRefusal}
 use Rattle.scheduler.specs.Answers.{accepts, code}
-use Rattle.history.specs.Calls.{Call, Request, after, callsOf}
+use Rattle.history.specs.Calls.{Call, Command, after, callsOf}
 use Rattle.guarantees.specs.Rules.{call}
 use Rattle.script_rules.specs.Lines.{Line, linesOf}
-use Rattle.script_rules.specs.Reading.{openingOf, requestOf}
+use Rattle.script_rules.specs.Reading.{openingOf, commandOf}
 use Rattle.script_rules.specs.Writing.{textOf, noRow}
 
 -- 9: "the line lacks the form above, or is a second `desk` line"
@@ -30,17 +30,17 @@ printedAll m [] = []
 printedAll m (c ∷ cs) = printed m c ++ printedAll (call m c .model) cs
 
 -- the later lines, from a model on: "later ones print it and go on"
-abbrev pub calledBy : Model → Option Request → List Call
+abbrev pub calledBy : Model → Option Command → List Call
 calledBy m none = []
 calledBy m (some q) = callsOf m q
 
-abbrev pub printedBy : Model → Option Request → List ℕ
+abbrev pub printedBy : Model → Option Command → List ℕ
 printedBy m none = malformed
 printedBy m (some q) = printedAll m (callsOf m q)
 
 unfoldable pub played : Model → List Line → List ℕ
 played m [] = []
-played m (l ∷ ls) = printedBy m (requestOf l) ++ played (after call m (calledBy m (requestOf l))) ls
+played m (l ∷ ls) = printedBy m (commandOf l) ++ played (after call m (calledBy m (commandOf l))) ls
 
 -- "A refused first line prints `no` and its number and stops"
 abbrev pub openedBy : Option Opening → List Line → List ℕ

@@ -15,7 +15,7 @@ use Rattle.text.specs.Words.{isWord}
 use Rattle.scheduler.specs.declared.Kind.{Kind}
 use Rattle.scheduler.specs.declared.Kind.the-variants.{Conservative, Easy}
 use Rattle.scheduler.specs.declared.Opening.{Opening}
-use Rattle.history.specs.Calls.{Request, ask, wait, submit, complete}
+use Rattle.history.specs.Calls.{Command, ask, wait, submit, complete}
 use Rattle.script_rules.specs.Lines.{Line}
 
 abbrev pub deskWord : List ℕ
@@ -64,8 +64,8 @@ openingIn s =
     some (record { kind = k; nodes = n; minute = m; ticket = t }))))))
     none
 
-unfoldable pub requestIn : List ℕ → Option Request
-requestIn s =
+unfoldable pub commandIn : List ℕ → Option Command
+commandIn s =
     cond
     (hasForm s 3 inWord)
     (withNumber (numberAt s 1) (λ n. withNumber (numberAt s 2) (λ e. some (ask (submit n e)))))
@@ -82,5 +82,5 @@ closedOnly false a = none
 abbrev pub openingOf : Line → Option Opening
 openingOf l = closedOnly (l .closed) (openingIn (l .bytes))
 
-abbrev pub requestOf : Line → Option Request
-requestOf l = closedOnly (l .closed) (requestIn (l .bytes))
+abbrev pub commandOf : Line → Option Command
+commandOf l = closedOnly (l .closed) (commandIn (l .bytes))

@@ -3,7 +3,7 @@
 use mathlib.Core.Path.{sym, ap, _∙_}
 use borrow.Author.Needs.{needs}
 use Rattle.scheduler.specs.Model.{view}
-use Rattle.easy.specs.declared.Request.{Request}
+use Rattle.scheduler.specs.declared.Request.{Request}
 use Rattle.easy.specs.Parts.{own, part}
 use Rattle.easy.proofs.own_part.Statement.{statement}
 use Rattle.easy.proofs.own_part.Tie as tie

@@ -1,7 +1,7 @@
 -- `reading::read_later` meets its contract.
 -- Assumes nothing.
 use mathlib.Core.Path.{sym}
-use Rattle.script_rules.specs.Reading.{inWord, endWord, waitWord, requestIn}
+use Rattle.script_rules.specs.Reading.{inWord, endWord, waitWord, commandIn}
 use Rattle.reading.specs.Meaning.{form-said}
 use borrow.Author.Needs.{needs}
 use Rattle.reading.proofs.read_later.Statement.{statement}
@@ -29,7 +29,7 @@ submission-requires : tie.Need-submission-requires
 submission-requires c κs = search needs
 
 returns : tie.Need-returns
-unfolding requestIn
+unfolding commandIn
 returns c =
     let p = c .before .before .before in
     let read = p .before .before .before in
@@ -54,7 +54,7 @@ completion-requires : tie.Need-completion-requires
 completion-requires c κs = search needs
 
 returns-2 : tie.Need-returns-2
-unfolding requestIn
+unfolding commandIn
 returns-2 c =
     let q = c .before .before in
     let p = q .before .before .before in
@@ -80,7 +80,7 @@ waiting-requires : tie.Need-waiting-requires
 waiting-requires c κs = search needs
 
 returns-3 : tie.Need-returns-3
-unfolding requestIn
+unfolding commandIn
 returns-3 c =
     let t = c .before .before in
     let q = t .before .before .before in
@@ -96,7 +96,7 @@ returns-3 c =
     (c .waiting .ensures)
 
 returns-4 : tie.Need-returns-4
-unfolding requestIn
+unfolding commandIn
 returns-4 c =
     let q = c .before .before .before in
     let p = q .before .before .before in

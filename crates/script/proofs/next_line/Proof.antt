@@ -1,9 +1,8 @@
 -- `script::next_line` meets its contract.
 -- Assumes nothing.
-use mathlib.Core.Path.{refl}
 use native.Mathlib.Omega.{arith}
 use Rattle.text.specs.LineLaws.{line-ends}
-use Rattle.script.specs.Turns.{reads-closed, reads-unclosed}
+use Rattle.script.specs.Turns.{comes-closed, comes-unclosed}
 use borrow.Author.Needs.{needs}
 use Rattle.script.proofs.next_line.Statement.{statement}
 use Rattle.script.proofs.next_line.Tie as tie
@@ -29,10 +28,10 @@ add-t8 : tie.Need-add-t8
 add-t8 c = omega (arith, line-ends _ _ _ (c .before .before .before .next-line .ensures) (omega (arith, c .before .before .before .before .before .pre)) .within)
 
 returns : tie.Need-returns
-returns c = reads-closed _ _ _ (c .before .before .before .next-line .ensures) _ (c .before .before .if1 .taken) (c .read-later .ensures) refl
+returns c = comes-closed _ _ (c .before .before .before .before .before .pre) _ (c .before .before .before .next-line .ensures) (c .before .before .if1 .taken) (c .read-later .result) (c .read-later .ensures)
 
 returns-2 : tie.Need-returns-2
-returns-2 c = reads-unclosed _ _ _ (c .before .next-line .ensures) _ (c .if1 .left) refl refl
+returns-2 c = comes-unclosed _ _ (c .before .before .before .pre) _ (c .before .next-line .ensures) (c .if1 .left)
 
 pub next-line-spec : {M : Type 1} → statement M
 next-line-spec =
