@@ -1,6 +1,6 @@
 -- A span laid over a table, or taken out of it.
 -- Assumes nothing.
-use Prim.Native.Nat.{ℕ, _+_, max, _≤_, _<_}
+use Prim.Native.Nat.{ℕ, _+_, _-_, max, _≤_, _<_}
 use native.Mathlib.Omega.{arith}
 use mathlib.Core.Path.{_≡_, sym, ap, subst, _∙_}
 use mathlib.Core.Bool.{Bool, true, false}
@@ -89,12 +89,13 @@ module _ {ms fs : List ℕ} {n : ℕ} {x : Span} {release : Bool} (l : Lays ms f
 
 module _ {ms fs : List ℕ} {a : Row} {x : Span} {release : Bool} (l : LaysAt ms fs a x release) where
   -- its end gets a place
-  pub end-ascends : Ascends ms (a .count) (x .until)
+  pub end-ascends : Ascends ms (a .at + 1) (a .count) (x .until)
   end-ascends = record {
     long = l .table .minutes-long;
-    some = l .table .some;
+    some = omega arith;
+    low = omega (arith, l .inside);
     fit = omega (arith, l .fits);
-    first = omega (arith, l .some, l .begins, l .table .first);
+    last = let e : a .at + 1 - 1 ≡ a .at = omega arith in omega (arith, l .some, ap (λ (k : ℕ). getD ms k 0) e);
   }
 
   module _ {b : Row} {ms₂ fs₂ : List ℕ} (u : Split ms fs (a .count) (x .until) b ms₂ fs₂) where

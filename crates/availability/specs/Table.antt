@@ -60,12 +60,13 @@ table-same e q = record {
   value = λ i t l a b. e t (omega (arith, q .first, table-rise q 0 i (omega arith) l)) ∙ q .value i t l a b;
 }
 
--- a search for the place of minute t ends, and stays inside
-pub record Ascends (ms : List ℕ) (n t : ℕ) : Type 0 where
+-- a search for the place of minute t, from place a on, stays inside
+pub record Ascends (ms : List ℕ) (a n t : ℕ) : Type 0 where
   pub long : length ms ≡ rows
-  pub some : 1 ≤ n
+  pub some : 1 ≤ a
+  pub low : a ≤ n
   pub fit : n ≤ rows
-  pub first : getD ms 0 0 ≤ t
+  pub last : getD ms (a - 1) 0 ≤ t
 
 -- r is the place after the last minute that is not later than t
 pub record Place (ms : List ℕ) (n t r : ℕ) : Type 0 where

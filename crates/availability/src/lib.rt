@@ -24,16 +24,22 @@ pub fn idle(minutes: &mut [u32; 385], free: &mut [u32; 385], nodes: u32, minute:
     free[0] = nodes;
 }
 
-// The place after the last minute that is not later than t.
-fn place_after(minutes: &[u32; 385], count: usize, t: u32) -> usize
-    requires { ⌜ Ascends (now minutes) count t ⌝ }
+// The place after the last minute that is not later than t, by halves: the minute before the first place is not later than t.
+fn place_after(minutes: &[u32; 385], first: usize, count: usize, t: u32) -> usize
+    requires { ⌜ Ascends (now minutes) first count t ⌝ }
     ensures { λ r. ⌜ Place (now (minutes .entry)) count t r ⌝ }
 {
-    let mut k = count;
-    while t < minutes[k - 1] {
-        k -= 1;
+    let mut low = first;
+    let mut high = count;
+    while low < high {
+        let mid = (low + high) / 2;
+        if minutes[mid] <= t {
+            low = mid + 1;
+        } else {
+            high = mid;
+        }
     }
-    k
+    low
 }
 
 // The value goes into this place; what stood there and after it moves up.
@@ -49,9 +55,15 @@ fn insert(list: &mut [u32; 385], count: usize, at: usize, value: u32)
     list[at] = value;
 }
 
-// The table has a place for minute t, and says the same as before.
-pub fn split(minutes: &mut [u32; 385], free: &mut [u32; 385], count: usize, t: u32) -> Row
-    requires { ⌜ Ascends (now minutes) count t × (length (now free) ≡ rows) × (count < rows) ⌝ }
+// The table has a place for minute t, and says the same as before. The minute before the first place is not later than t.
+pub fn split(
+    minutes: &mut [u32; 385],
+    free: &mut [u32; 385],
+    first: usize,
+    count: usize,
+    t: u32,
+) -> Row
+    requires { ⌜ Ascends (now minutes) first count t × (length (now free) ≡ rows) × (count < rows) ⌝ }
     ensures { λ r. ⌜ Split (now (minutes .entry)) (now (free .entry)) count t r (now (minutes .exit)) (now (free .exit)) ⌝ }
 {
     if minutes[0] == t {
@@ -60,7 +72,7 @@ pub fn split(minutes: &mut [u32; 385], free: &mut [u32; 385], count: usize, t: u
             count: count,
         };
     }
-    let k = place_after(minutes, count, t);
+    let k = place_after(minutes, first, count, t);
     let last = k - 1;
     if minutes[last] == t {
         return Row {
@@ -104,7 +116,7 @@ pub fn lay_at(
     requires { ⌜ LaysAt (now minutes) (now free) begin x release ⌝ }
     ensures { λ r. ⌜ ((l : LaysAt (now (minutes .entry)) (now (free .entry)) begin x release) → LaidAt l r (now (minutes .exit)) (now (free .exit))) ⌝ }
 {
-    let end = split(minutes, free, begin.count, x.until);
+    let end = split(minutes, free, begin.at + 1, begin.count, x.until);
     adjust(free, begin.at, end.at, x.nodes, release);
     end.count
 }
@@ -127,7 +139,7 @@ pub fn lay(
     if x.until <= from {
         return count;
     }
-    let begin = split(minutes, free, count, from);
+    let begin = split(minutes, free, 1, count, from);
     lay_at(minutes, free, begin, x, release)
 }
 

@@ -96,8 +96,8 @@ module _ {ms fs : List ℕ} {n : ℕ} {j : Job} {now : ℕ} (q : Replans ms fs n
   startAt = earliest (S .nodes) (spans S others) now (j .nodes) (wallTime (j .estimate))
 
   -- its start gets a place
-  pub ascends : Ascends ms n (j .start)
-  ascends = record { long = q .table .minutes-long; some = q .table .some; fit = omega (arith, q .room-left); first = omega (arith, q .table .first, q .ahead) }
+  pub ascends : Ascends ms 1 n (j .start)
+  ascends = record { long = q .table .minutes-long; some = omega arith; low = q .table .some; fit = omega (arith, q .room-left); last = omega (arith, q .table .first, q .ahead) }
 
   module _ {r : Row} {ms₁ fs₁ : List ℕ} (s : Split ms fs n (j .start) r ms₁ fs₁) where
     pub own-table : Table (with j) now (r .count) ms₁ fs₁

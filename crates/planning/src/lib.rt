@@ -124,7 +124,7 @@ fn replan(
     requires { ⌜ Replans (now minutes) (now free) count job clock × (hold ≡ wallTime (job .estimate)) ⌝ }
     ensures { λ r. ⌜ ((q : Replans (now (minutes .entry)) (now (free .entry)) count job clock) → Turned q r (now (minutes .exit)) (now (free .exit))) ⌝ }
 {
-    let own = availability::split(minutes, free, count, job.start);
+    let own = availability::split(minutes, free, 1, count, job.start);
     let start = availability::search(minutes, free, own.at, job.nodes, hold);
     if start == job.start {
         return Replanned {

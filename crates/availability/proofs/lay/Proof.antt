@@ -28,7 +28,7 @@ split-requires c κs =
     let from-is : j .if1 .from ≡ max (getD (s .args .minutes .now) 0 0) (s .args .x .from) =
     ⊎-elim (λ w. omega (arith, w .1, w .0 .taken)) (λ w. omega (arith, w .1, w .0 .left)) (j .if1 .came) in
     let l = s .pre in
-    (record { long = l .table .minutes-long; some = l .table .some; fit = omega (arith, l .fits); first = omega arith }, l .table .free-long, omega (arith, l .fits))
+    (record { long = l .table .minutes-long; some = omega arith; low = l .table .some; fit = omega (arith, l .fits); last = omega arith }, l .table .free-long, omega (arith, l .fits))
 
 lay-at-requires : tie.Need-lay-at-requires
 lay-at-requires c κs =

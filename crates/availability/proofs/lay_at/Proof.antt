@@ -2,19 +2,23 @@
 -- Assumes nothing.
 use native.Mathlib.Omega.{arith}
 use Rattle.availability.specs.Laid.{end-ascends, lay-adjustable, laid-at}
+use borrow.Author.Needs.{needs}
 use Rattle.availability.proofs.lay_at.Statement.{statement}
 use Rattle.availability.proofs.lay_at.Tie as tie
 
+add-split : tie.Need-add-split
+add-split c = search needs
+
 split-requires : tie.Need-split-requires
 split-requires c κs =
-    let l = c .before .before .pre in
+    let l = c .before .before .before .pre in
     (end-ascends l, l .table .free-long, omega (arith, l .fits))
 
 adjust-requires : tie.Need-adjust-requires
-adjust-requires c κs = lay-adjustable (c .before .before .before .before .pre) (c .before .split .ensures)
+adjust-requires c κs = lay-adjustable (c .before .before .before .before .before .pre) (c .before .split .ensures)
 
 returns : tie.Need-returns
 returns c = λ l. laid-at l (c .before .before .split .ensures) (c .adjust .ensures)
 
 pub lay-at-spec : {M : Type 1} → statement M
-lay-at-spec = tie.close (tie.spec split-requires adjust-requires returns)
+lay-at-spec = tie.close (tie.spec add-split split-requires adjust-requires returns)

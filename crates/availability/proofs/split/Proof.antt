@@ -10,7 +10,7 @@ element-copy-out-if1 : tie.Need-element-copy-out-if1
 element-copy-out-if1 c = search needs
 
 returns : tie.Need-returns
-returns c = split-found 0 (c .before .before .pre .0 .some) (omega arith)
+returns c = split-found 0 (omega (arith, c .before .before .pre .0 .some, c .before .before .pre .0 .low)) (omega arith)
 
 place-after-requires : tie.Need-place-after-requires
 place-after-requires c κs = search needs
@@ -41,8 +41,8 @@ insert-requires c κs = search needs
 insert-requires-2 : tie.Need-insert-requires-2
 insert-requires-2 c κs = search needs
 
-add-t13 : tie.Need-add-t13
-add-t13 c = search needs
+add-t14 : tie.Need-add-t14
+add-t14 c = search needs
 
 returns-3 : tie.Need-returns-3
 returns-3 c =
@@ -64,5 +64,5 @@ split-spec =
     element-copy-out-left
     insert-requires
     insert-requires-2
-    add-t13
+    add-t14
     returns-3)
