@@ -40,9 +40,6 @@ pub fn quiet_minutes(d: Scheduler, most: u32) -> u32
     requires { ⌜ Premise d ⌝ }
     ensures { λ r. ⌜ Ahead d most r ⌝ }
 {
-    if most == 0 {
-        return 0;
-    }
     let mut k = before(Scheduler::HORIZON + 1, d.clock, most);
     let mut i: usize = 0;
     while i < Scheduler::LIVE {

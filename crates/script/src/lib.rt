@@ -175,7 +175,10 @@ fn later(p: Play, script: &[u8], page: &mut [u8]) -> Played
     let mut end: usize = 0;
     while end <= last {
         // quiet minutes are passed over at once: their ticks print nothing
-        let minutes = quiet::quiet_minutes(d, steps);
+        let mut minutes: u32 = 0;
+        if 0 < steps {
+            minutes = quiet::quiet_minutes(d, steps);
+        }
         d.clock += minutes;
         let next = next_turn(script, at, steps - minutes);
         at = next.at;

@@ -5,7 +5,7 @@ use Prim.Native.Nat.{_-_}
 use Rattle.scheduler.proofs.Whole.{whole}
 use Rattle.guarantees.specs.Premise.{premise-sound}
 use Rattle.jobs.specs.Slots.{slots-low}
-use Rattle.quiet.specs.Ahead.{ahead-none, Asked, asked-none, asked-more, asked-all}
+use Rattle.quiet.specs.Ahead.{Asked, asked-none, asked-more, asked-all}
 use borrow.Author.Needs.{needs}
 use Rattle.quiet.proofs.quiet_minutes.Statement.{statement}
 use Rattle.quiet.proofs.quiet_minutes.Tie as tie
@@ -16,9 +16,6 @@ Inv-loop most d k₀ i₀ k i = Asked d most k i
 abbrev μ-loop : tie.MeasureT-loop
 μ-loop most d k₀ i₀ k i = 64 - i
 
-returns : tie.Need-returns Inv-loop μ-loop
-returns c = ahead-none _ _
-
 add-before : tie.Need-add-before Inv-loop μ-loop
 add-before c = search needs
 
@@ -26,7 +23,7 @@ before-requires : tie.Need-before-requires Inv-loop μ-loop
 before-requires c κs = search needs
 
 loop-holds : tie.Need-loop-holds Inv-loop μ-loop
-loop-holds c = asked-none (c .before .before .args .t1) (c .before .before .args .most) (c .before2 .result) (c .before2 .ensures .0) (c .before2 .ensures .1)
+loop-holds c = asked-none (c .before .args .t1) (c .before .args .most) (c .before2 .result) (c .before2 .ensures .0) (c .before2 .ensures .1)
 
 mul-j : tie.Need-mul-j Inv-loop μ-loop
 mul-j c = search needs
@@ -36,7 +33,7 @@ element-copy-out-j c = search needs
 
 quiet-of-requires : tie.Need-quiet-of-requires Inv-loop μ-loop
 quiet-of-requires c κs =
-    let s = c .before .before .before .before .before in
+    let s = c .before .before .before .before in
     let len = whole (s .args .t1) (s .good .0) in
     slots-low (s .args .t1) (record { stored = s .pre .stored; holds = premise-sound (s .args .t1) (s .pre) }) (c .before .before .loop .i) (omega arith)
 
@@ -48,14 +45,14 @@ loop-less c = search needs
 
 loop-again : tie.Need-loop-again Inv-loop μ-loop
 loop-again c =
-    let s = c .before .before .before .before .before .before in
+    let s = c .before .before .before .before .before in
     let l = c .before .before .before .loop in
     let len = whole (s .args .t1) (s .good .0) in
     asked-more (s .args .t1) (s .args .most) (l .k) (c .quiet-of .result) (l .i) len (omega arith) (l .inv) (c .quiet-of .ensures .0) (c .quiet-of .ensures .1)
 
-returns-2 : tie.Need-returns-2 Inv-loop μ-loop
-returns-2 c =
-    let s = c .before .before .before .before in
+returns : tie.Need-returns Inv-loop μ-loop
+returns c =
+    let s = c .before .before .before in
     let l = c .before .loop in
     asked-all (s .args .t1) (s .args .most) (l .k) (l .i) (whole (s .args .t1) (s .good .0)) (omega arith) (l .inv)
 
@@ -65,7 +62,6 @@ quiet-minutes-spec =
     (tie.spec
     Inv-loop
     μ-loop
-    returns
     add-before
     before-requires
     loop-holds
@@ -75,4 +71,4 @@ quiet-minutes-spec =
     add-i
     loop-less
     loop-again
-    returns-2)
+    returns)

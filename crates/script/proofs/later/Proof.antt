@@ -2,11 +2,13 @@
 -- Assumes nothing.
 use mathlib.Core.Path.{refl, sym, _∙_}
 use mathlib.Core.List.{List}
+use mathlib.Core.Logic.{⊎-elim}
 use Prim.Native.Nat.{ℕ, _+_, _-_, _≤_, _<_}
 use native.Mathlib.Omega.{arith}
 use lib.ListN.{length}
 use borrow.Author.Needs.{needs}
 use Rattle.scheduler.specs.declared.Scheduler.{Scheduler}
+use Rattle.quiet.specs.Ahead.{Ahead, ahead-none}
 use Rattle.quiet.specs.Ticks.{passedOver}
 use Rattle.writing.specs.Answered.{pageBytes}
 use Rattle.pieces.specs.Pieces.{going, pieceOf}
@@ -30,51 +32,76 @@ begun c = let r = c .pre .0 in record { premise = r .premise; inside = r .inside
 room : (c : tie.In-loop Inv-loop μ-loop) → c .before .loop .end + pageBytes ≤ length (c .before .loop .page)
 room c = omega (arith, c .before .loop .inv .whole, c .before .before .before .page-len .ensures, c .before .before .before .before .before .before .pre .2, c .loop-test .taken)
 
--- with quiet minutes passed over
-passing : (c : tie.After-quiet-minutes Inv-loop μ-loop)
-    → let l = c .before .before .loop in
-    let k = c .quiet-minutes .result in
-    PassesOver (going (l .at) (l .steps) (l .d)) (going (l .at) (l .steps - k) (passedOver (l .d) k))
-passing c = passes-quiet _ (c .before .before .loop .inv .ready .premise) (c .quiet-minutes .ensures)
+-- the minutes passed over are quiet: there are none where no step of a wait is left
+ahead : (c : tie.Joined1 Inv-loop μ-loop) → let l = c .before .before .loop in Ahead (l .d) (l .steps) (c .if1 .minutes)
+ahead c = ⊎-elim (λ w. rw (w .2) (w .1 .ensures)) (λ w. rw (w .1) (ahead-none _ _)) (c .if1 .came)
 
-quiet-filling : (c : tie.After-quiet-minutes Inv-loop μ-loop)
+passing : (c : tie.Joined1 Inv-loop μ-loop)
+    → let l = c .before .before .loop in
+    let k = c .if1 .minutes in
+    PassesOver (going (l .at) (l .steps) (l .d)) (going (l .at) (l .steps - k) (passedOver (l .d) k))
+passing c = passes-quiet _ (c .before .before .loop .inv .ready .premise) (ahead c)
+
+quiet-filling : (c : tie.Joined1 Inv-loop μ-loop)
     → let a = c .before .before .before .before .before .before .before .args in
     let l = c .before .before .loop in
-    let k = c .quiet-minutes .result in
+    let k = c .if1 .minutes in
     Filling (a .script .now) (going (a .p .at) (a .p .steps) (a .p .scheduler)) (length (a .page .now)) (l .page) (l .end) (going (l .at) (l .steps - k) (passedOver (l .d) k))
 quiet-filling c = filling-quiet (c .before .before .loop .inv) (passing c)
 
--- the turn that is then taken leaves the page, the place in it, the steps and the scheduler so
-abbrev Turn : (c : tie.After-next-turn Inv-loop μ-loop) (after : List ℕ) (end steps : ℕ) (d : Scheduler) → Type 0
-Turn c after end steps d =
-    let l = c .before .before .before .before .loop in
-    let k = c .before .before .quiet-minutes .result in
-    Turned (pieceOf (c .before .before .before .before .before .before .before .before .before .args .script .now) (going (l .at) (l .steps - k) (passedOver (l .d) k))) (l .page) (l .end) after
-    (record { end = end; play = going (c .next-turn .result .at) steps d })
+-- where the turn that is then taken is known
+abbrev passed : tie.After-next-turn Inv-loop μ-loop → tie.Joined1 Inv-loop μ-loop
+passed n = n .before .before .before
 
-more : (c : tie.After-next-turn Inv-loop μ-loop) {after : List ℕ} {end steps : ℕ} {d : Scheduler} → Turn c after end steps d
-    → let a = c .before .before .before .before .before .before .before .before .before .args in
-    Filling (a .script .now) (going (a .p .at) (a .p .steps) (a .p .scheduler)) (length (a .page .now)) after end (going (c .next-turn .result .at) steps d)
-more c t = filling-more (quiet-filling (c .before .before)) refl t (room (c .before .before .before))
+-- it leaves the page, the place in it, the steps and the scheduler so
+abbrev Turn : (n : tie.After-next-turn Inv-loop μ-loop) (after : List ℕ) (end steps : ℕ) (d : Scheduler) → Type 0
+Turn n after end steps d =
+    let l = passed n .before .before .loop in
+    let k = passed n .if1 .minutes in
+    Turned (pieceOf (n .before .before .before .before .before .before .before .before .before .before .args .script .now) (going (l .at) (l .steps - k) (passedOver (l .d) k))) (l .page) (l .end) after
+    (record { end = end; play = going (n .next-turn .result .at) steps d })
 
-less : (c : tie.After-next-turn Inv-loop μ-loop) {after : List ℕ} {end steps : ℕ} {d : Scheduler} → Turn c after end steps d
-    → let s = c .before .before .before .before .before .before .before .before .before .args .script .now in
-    let l = c .before .before .before .before .loop in
-    weight s (going (c .next-turn .result .at) steps d) < weight s (going (l .at) (l .steps) (l .d))
-less c t =
-    omega (arith, filling-less (quiet-filling (c .before .before)) refl t (room (c .before .before .before)), passes-no-more (c .before .before .before .before .before .before .before .before .before .args .script .now) _ _ (passing (c .before .before)))
+-- the scheduler that it finds
+abbrev found : tie.After-next-turn Inv-loop μ-loop → Scheduler
+found n = passedOver (passed n .before .before .loop .d) (passed n .if1 .minutes)
 
-call-turn : (c : tie.After-put-answer Inv-loop μ-loop) → let n = c .before .before .before .before .before .before .before .before .before .before .before in Turn n (c .put-answer .last .0) (c .put-answer .result) (n .next-turn .result .steps) (c .before .before .before .before .call .result .scheduler)
-call-turn c = call-turned _ _ _ _ _ (c .before .before .before .before .before .before .before .before .before .before .before .next-turn .ensures) _ (c .before .before .before .before .before .before .before .before .before .turn .given .1) _ (c .before .before .before .before .before .before .asked .given .1) _ (c .before .before .before .before .call .ensures) (c .put-answer .ensures)
+more : (n : tie.After-next-turn Inv-loop μ-loop) {after : List ℕ} {end steps : ℕ} {d : Scheduler} → Turn n after end steps d
+    → let a = n .before .before .before .before .before .before .before .before .before .before .args in
+    Filling (a .script .now) (going (a .p .at) (a .p .steps) (a .p .scheduler)) (length (a .page .now)) after end (going (n .next-turn .result .at) steps d)
+more n t = filling-more (quiet-filling (passed n)) refl t (room (passed n .before))
 
-wait-turn : (c : tie.Then1 Inv-loop μ-loop) → let n = c .before .before .before .before .before .before .before .before .before in let l = n .before .before .before .before .loop in Turn n (l .page) (l .end) (c .before .before .before .before .asked2 .given .0 .0) (passedOver (l .d) (n .before .before .quiet-minutes .result))
-wait-turn c = wait-turned _ _ _ _ _ (c .before .before .before .before .before .before .before .before .before .next-turn .ensures) _ (c .before .before .before .before .before .before .before .turn .given .1) _ (c .before .before .before .before .asked2 .given .1) _ (c .before .before .wait-refusal .ensures) _ _ (sym (c .before .is-none .ensures) ∙ c .if1 .taken)
+less : (n : tie.After-next-turn Inv-loop μ-loop) {after : List ℕ} {end steps : ℕ} {d : Scheduler} → Turn n after end steps d
+    → let s = n .before .before .before .before .before .before .before .before .before .before .args .script .now in
+    let l = passed n .before .before .loop in
+    weight s (going (n .next-turn .result .at) steps d) < weight s (going (l .at) (l .steps) (l .d))
+less n t = omega (arith, filling-less (quiet-filling (passed n)) refl t (room (passed n .before)), passes-no-more (n .before .before .before .before .before .before .before .before .before .before .args .script .now) _ _ (passing (passed n)))
 
-refused-turn : (c : tie.After-put-refusal Inv-loop μ-loop) → let n = c .before .before .before .before .before .before .before .before .before .before .before in let l = n .before .before .before .before .loop in Turn n (c .put-refusal .last .0) (c .put-refusal .result) (n .next-turn .result .steps) (passedOver (l .d) (n .before .before .quiet-minutes .result))
-refused-turn c = refused-turned _ _ _ _ _ (c .before .before .before .before .before .before .before .before .before .before .before .next-turn .ensures) _ (c .before .before .before .before .before .before .before .before .before .turn .given .1) _ (c .before .before .before .before .before .before .asked2 .given .1) _ (c .before .before .before .before .wait-refusal .ensures) (sym (c .before .before .before .is-none .ensures) ∙ c .before .before .if1 .left) (c .put-refusal .ensures)
+call-turn : (c : tie.After-put-answer Inv-loop μ-loop)
+    → let n = c .before .before .before .before .before .before .before .before .before .before .before in
+    Turn n (c .put-answer .last .0) (c .put-answer .result) (n .next-turn .result .steps) (c .before .before .before .before .call .result .scheduler)
+call-turn c =
+    let n = c .before .before .before .before .before .before .before .before .before .before .before in
+    call-turned _ _ _ _ _ (n .next-turn .ensures) _ (c .before .before .before .before .before .before .before .before .before .turn .given .1) _ (c .before .before .before .before .before .before .asked .given .1) _ (c .before .before .before .before .call .ensures) (c .put-answer .ensures)
 
-lacks-turn : (c : tie.After-put-refusal2 Inv-loop μ-loop) → let n = c .before .before .before .before .before .before .before in let l = n .before .before .before .before .loop in Turn n (c .put-refusal2 .last .0) (c .put-refusal2 .result) (n .next-turn .result .steps) (passedOver (l .d) (n .before .before .quiet-minutes .result))
-lacks-turn c = lacks-turned _ _ _ _ _ (c .before .before .before .before .before .before .before .next-turn .ensures) _ (c .before .before .before .before .before .turn .given .1) (c .before .before .enum-told .given .1) (c .put-refusal2 .ensures)
+wait-turn : (c : tie.Then2 Inv-loop μ-loop) → let n = c .before .before .before .before .before .before .before .before .before in let l = passed n .before .before .loop in Turn n (l .page) (l .end) (c .before .before .before .before .asked2 .given .0 .0) (found n)
+wait-turn c =
+    let n = c .before .before .before .before .before .before .before .before .before in
+    wait-turned _ _ _ _ _ (n .next-turn .ensures) _ (c .before .before .before .before .before .before .before .turn .given .1) _ (c .before .before .before .before .asked2 .given .1) _ (c .before .before .wait-refusal .ensures) _ _
+    (sym (c .before .is-none .ensures) ∙ c .if2 .taken)
+
+refused-turn : (c : tie.After-put-refusal Inv-loop μ-loop)
+    → let n = c .before .before .before .before .before .before .before .before .before .before .before in
+    Turn n (c .put-refusal .last .0) (c .put-refusal .result) (n .next-turn .result .steps) (found n)
+refused-turn c =
+    let n = c .before .before .before .before .before .before .before .before .before .before .before in
+    refused-turned _ _ _ _ _ (n .next-turn .ensures) _ (c .before .before .before .before .before .before .before .before .before .turn .given .1) _ (c .before .before .before .before .before .before .asked2 .given .1) _ (c .before .before .before .before .wait-refusal .ensures)
+    (sym (c .before .before .before .is-none .ensures) ∙ c .before .before .if2 .left)
+    (c .put-refusal .ensures)
+
+lacks-turn : (c : tie.After-put-refusal2 Inv-loop μ-loop)
+    → let n = c .before .before .before .before .before .before .before in
+    Turn n (c .put-refusal2 .last .0) (c .put-refusal2 .result) (n .next-turn .result .steps) (found n)
+lacks-turn c = let n = c .before .before .before .before .before .before .before in lacks-turned _ _ _ _ _ (n .next-turn .ensures) _ (c .before .before .before .before .before .turn .given .1) (c .before .before .enum-told .given .1) (c .put-refusal2 .ensures)
 
 page-len-requires : tie.Need-page-len-requires Inv-loop μ-loop
 page-len-requires c κs = search needs
@@ -86,15 +113,15 @@ loop-holds : tie.Need-loop-holds Inv-loop μ-loop
 loop-holds c = filling-none _ _ _ (begun (c .before .before .before .before))
 
 quiet-minutes-requires : tie.Need-quiet-minutes-requires Inv-loop μ-loop
-quiet-minutes-requires c κs = c .before .loop .inv .ready .premise
+quiet-minutes-requires c κs = c .before .before .loop .inv .ready .premise
 
 add-d : tie.Need-add-d Inv-loop μ-loop
 add-d c =
     let l = c .before .before .before .loop in
-    omega (arith, in-time (going (l .at) (l .steps) (l .d)) (l .inv .ready .premise) (c .before .quiet-minutes .ensures))
+    omega (arith, in-time (going (l .at) (l .steps) (l .d)) (l .inv .ready .premise) (ahead (c .before)))
 
 sub-next-turn : tie.Need-sub-next-turn Inv-loop μ-loop
-sub-next-turn c = omega (arith, c .before .quiet-minutes .ensures .few)
+sub-next-turn c = omega (arith, ahead (c .before .before) .few)
 
 next-turn-requires : tie.Need-next-turn-requires Inv-loop μ-loop
 next-turn-requires c κs = search needs
@@ -106,12 +133,12 @@ enum-known-asked : tie.Need-enum-known-asked Inv-loop μ-loop
 enum-known-asked c = search needs
 
 call-requires : tie.Need-call-requires Inv-loop μ-loop
-call-requires c κs = quiet-filling (c .before .before .before .before .before .before .before .before) .ready .premise
+call-requires c κs = quiet-filling (passed (c .before .before .before .before .before .before)) .ready .premise
 
 put-answer-requires : tie.Need-put-answer-requires Inv-loop μ-loop
 put-answer-requires c κs =
-    let f = call-few _ _ _ (c .before .before .before .call .ensures) (quiet-filling (c .before .before .before .before .before .before .before .before .before .before .before .before) .ready .premise) in
-    (f .0, f .1, room (c .before .before .before .before .before .before .before .before .before .before .before .before .before))
+    let f = call-few _ _ _ (c .before .before .before .call .ensures) (quiet-filling (passed (c .before .before .before .before .before .before .before .before .before .before)) .ready .premise) in
+    (f .0, f .1, room (passed (c .before .before .before .before .before .before .before .before .before .before) .before))
 
 loop-less : tie.Need-loop-less Inv-loop μ-loop
 loop-less c = less (c .before .before .before .before .before .before .before .before .before .before .before .before .before) (call-turn (c .before .before))
@@ -123,7 +150,7 @@ enum-known-asked-2 : tie.Need-enum-known-asked-2 Inv-loop μ-loop
 enum-known-asked-2 c = search needs
 
 wait-refusal-requires : tie.Need-wait-refusal-requires Inv-loop μ-loop
-wait-refusal-requires c κs = quiet-filling (c .before .before .before .before .before .before .before .before) .ready .premise
+wait-refusal-requires c κs = quiet-filling (passed (c .before .before .before .before .before .before)) .ready .premise
 
 is-none-requires : tie.Need-is-none-requires Inv-loop μ-loop
 is-none-requires c κs = search needs
@@ -135,7 +162,7 @@ loop-again-2 : tie.Need-loop-again-2 Inv-loop μ-loop
 loop-again-2 c = more (c .before .before .before .before .before .before .before .before .before) (wait-turn c)
 
 put-refusal-requires : tie.Need-put-refusal-requires Inv-loop μ-loop
-put-refusal-requires c κs = omega (arith, room (c .before .before .before .before .before .before .before .before .before .before .before .before .before))
+put-refusal-requires c κs = omega (arith, room (passed (c .before .before .before .before .before .before .before .before .before .before) .before))
 
 loop-less-3 : tie.Need-loop-less-3 Inv-loop μ-loop
 loop-less-3 c = less (c .before .before .before .before .before .before .before .before .before .before .before .before .before) (refused-turn (c .before .before))
@@ -147,7 +174,7 @@ enum-told : tie.Need-enum-told Inv-loop μ-loop
 enum-told c = search needs
 
 put-refusal-requires-2 : tie.Need-put-refusal-requires-2 Inv-loop μ-loop
-put-refusal-requires-2 c κs = omega (arith, room (c .before .before .before .before .before .before .before .before .before))
+put-refusal-requires-2 c κs = omega (arith, room (passed (c .before .before .before .before .before .before) .before))
 
 loop-less-4 : tie.Need-loop-less-4 Inv-loop μ-loop
 loop-less-4 c = less (c .before .before .before .before .before .before .before .before .before) (lacks-turn (c .before .before))
@@ -159,12 +186,13 @@ enum-told-2 : tie.Need-enum-told-2 Inv-loop μ-loop
 enum-told-2 c = search needs
 
 same-length : tie.Need-same-length Inv-loop μ-loop
-same-length c = c .before .before .before .before .before .before .loop .inv .whole
+same-length c = passed (c .before .before) .before .before .loop .inv .whole
 
 returns : tie.Need-returns Inv-loop μ-loop
 returns c =
-    filled-as (c .before .before .before .before .before .before .before .before .before .before .before .pre .1)
-    (filled-over (filling-more (quiet-filling (c .before .before .before .before)) refl (over-turned _ _ _ _ _ (c .before .before .next-turn .ensures) _ _ (c .enum-told2 .given .1)) (room (c .before .before .before .before .before))) refl)
+    let n = c .before .before in
+    filled-as (n .before .before .before .before .before .before .before .before .before .before .pre .1)
+    (filled-over (filling-more (quiet-filling (passed n)) refl (over-turned _ _ _ _ _ (n .next-turn .ensures) _ _ (c .enum-told2 .given .1)) (room (passed n .before))) refl)
 
 same-length-2 : tie.Need-same-length-2 Inv-loop μ-loop
 same-length-2 c = c .before .loop .inv .whole
