@@ -48,6 +48,24 @@ pub record LaysAt (ms fs : List ℕ) (a : Row) (x : Span) (release : Bool) : Typ
 pub record LaidAt {ms fs : List ℕ} {a : Row} {x : Span} {release : Bool} (l : LaysAt ms fs a x release) (r : ℕ) (ms′ fs′ : List ℕ) : Type 0 where
   pub table : Table (l .g) (l .now) r ms′ fs′
   pub most : r ≤ a .count + 1
+  pub grows : a .count ≤ r
+  pub kept : (j : ℕ) → j < a .count → getD ms j 0 ≤ x .until → getD ms′ j 0 ≡ getD ms j 0
+
+-- the lists are a table from which x can be taken out; then y can be laid in from an earlier place on, and the table is that of h
+pub record Shifts (ms fs : List ℕ) (own : Row) (x : Span) (at : ℕ) (y : Span) : Type 0 where
+  pub out : LaysAt ms fs own x true
+  pub h : ℕ → ℕ
+  pub change : (t : ℕ) → out .now ≤ t → h t ≡ changed false (takes t y) (out .g t)
+  pub room : (t : ℕ) → out .now ≤ t → Room false (takes t y) (out .g t)
+  pub until : y .until ≤ horizon
+  pub earlier : at ≤ own .at
+  pub begins : getD ms at 0 ≡ y .from
+  pub some : y .from < y .until
+  pub fits : own .count + 2 ≤ rows
+
+pub record Shifted {ms fs : List ℕ} {own : Row} {x : Span} {at : ℕ} {y : Span} (s : Shifts ms fs own x at y) (r : ℕ) (ms′ fs′ : List ℕ) : Type 0 where
+  pub table : Table (s .h) (s .out .now) r ms′ fs′
+  pub most : r ≤ own .count + 2
 
 changed-nothing : (release : Bool) (v : ℕ) → changed release 0 v ≡ v
 changed-nothing true v = omega arith
@@ -159,6 +177,8 @@ module _ {ms fs : List ℕ} {a : Row} {x : Span} {release : Bool} (l : LaysAt ms
         value = λ i t h d e. go i t h d e (le-or (a .at) i) (le-or (b .at) i);
       };
       most = u .most;
+      grows = u .grows;
+      kept = u .kept (l .f) (l .now) (l .table);
     }
       where
         go : (i t : ℕ) → i < b .count → getD ms₂ i 0 ≤ t → (i + 1 < b .count → t < getD ms₂ (i + 1) 0) → (a .at ≤ i) ⊎ (i < a .at) → (b .at ≤ i) ⊎ (i < b .at) → l .g t ≡ getD fs₃ i 0
@@ -169,3 +189,33 @@ module _ {ms fs : List ℕ} {a : Row} {x : Span} {release : Bool} (l : LaysAt ms
             ∙ ap (λ (k : ℕ). changed release k (l .f t)) (takes-inside i t h d e v z)
             ∙ ap (λ (k : ℕ). changed release (x .nodes) k) (old i t h d e)
             ∙ sym (w .inside i v z)
+
+module _ {ms fs : List ℕ} {own : Row} {x : Span} {at : ℕ} {y : Span} (s : Shifts ms fs own x at y) {n : ℕ} {ms₁ fs₁ : List ℕ} (f : (l : LaysAt ms fs own x true) → LaidAt l n ms₁ fs₁) where
+  -- x is out
+  pub shift-in : LaysAt ms₁ fs₁ (record { at = at; count = n }) y false
+  shift-in = record {
+    f = s .out .g;
+    g = s .h;
+    now = s .out .now;
+    table = o .table;
+    change = s .change;
+    room = s .room;
+    until = s .until;
+    inside = omega (arith, inside, o .grows);
+    begins = omega (arith, stands, s .begins, s .out .table .first, table-rise (s .out .table) 0 at (omega arith) inside);
+    some = omega (arith, stands, s .begins, s .some);
+    fits = omega (arith, o .most, s .fits);
+  }
+    where
+      o : LaidAt (s .out) n ms₁ fs₁
+      o = f (s .out)
+
+      inside : at < own .count
+      inside = omega (arith, s .earlier, s .out .inside)
+
+      stands : getD ms₁ at 0 ≡ getD ms at 0
+      stands = o .kept at inside (omega (arith, table-rise (s .out .table) at (own .at) (s .earlier) (s .out .inside), s .out .some))
+
+  pub shifted : {r : ℕ} {ms′ fs′ : List ℕ} → ((l : LaysAt ms₁ fs₁ (record { at = at; count = n }) y false) → LaidAt l r ms′ fs′) → Shifted s r ms′ fs′
+  unfolding shift-in
+  shifted g = record { table = g shift-in .table; most = omega (arith, g shift-in .most, f (s .out) .most) }

@@ -6,8 +6,8 @@ ghost use Prim.Native.Nat.{_<_, _≤_};
 ghost use lib.ListN.{length};
 ghost use Rattle.availability.specs.Lists.{rows, Inserted, Adjusted, Adjustable};
 ghost use Rattle.availability.specs.Table.{Opened, Ascends, Place, Split};
-ghost use Rattle.availability.specs.Laid.{LaysAt, LaidAt, Lays, Laid};
-ghost use Rattle.availability.specs.Search.{Seeks, found};
+ghost use Rattle.availability.specs.Laid.{LaysAt, LaidAt, Lays, Laid, Shifts, Shifted};
+ghost use Rattle.availability.specs.Search.{Seeks, Found, Reached};
 
 // The place of a minute in the table, and how many places are used.
 pub struct Row {
@@ -143,22 +143,72 @@ pub fn lay(
     lay_at(minutes, free, begin, x, release)
 }
 
-// The earliest minute for a job that from the minute in this place on has its nodes: one pass over the places before. The anchor is the
-// minute from which on they have been free so far.
-pub fn search(minutes: &[u32; 385], free: &[u32; 385], at: usize, nodes: u32, hold: u32) -> u32
-    requires { ⌜ Seeks (now minutes) (now free) at nodes hold ⌝ }
-    ensures { λ r. ⌜ ((s : Seeks (now (minutes .entry)) (now (free .entry)) at nodes hold) → r ≡ found s) ⌝ }
+// The span x, which begins in its own place, is taken out, and y is laid in from an earlier place on.
+pub fn shift(
+    minutes: &mut [u32; 385],
+    free: &mut [u32; 385],
+    own: Row,
+    x: plan::Span,
+    at: usize,
+    y: plan::Span,
+) -> usize
+    requires { ⌜ Shifts (now minutes) (now free) own x at y ⌝ }
+    ensures { λ r. ⌜ ((s : Shifts (now (minutes .entry)) (now (free .entry)) own x at y) → Shifted s r (now (minutes .exit)) (now (free .exit))) ⌝ }
 {
-    let mut anchor = minutes[0];
+    let count = lay_at(minutes, free, own, x, true);
+    let begin = Row {
+        at: at,
+        count: count,
+    };
+    lay_at(minutes, free, begin, y, false)
+}
+
+// The first place after this one that is the last to look at, or whose minute is not before the end, or at which too few nodes are free.
+fn reach(
+    minutes: &[u32; 385],
+    free: &[u32; 385],
+    from: usize,
+    at: usize,
+    nodes: u32,
+    until: u32,
+) -> usize
+    requires { ⌜ (length (now minutes) ≡ rows) × (length (now free) ≡ rows) × (from < at) × (at < rows) ⌝ }
+    ensures { λ r. ⌜ Reached (now (minutes .entry)) (now (free .entry)) from at nodes until r ⌝ }
+{
+    let mut k = from + 1;
+    while k < at {
+        if until <= minutes[k] {
+            return k;
+        }
+        if free[k] < nodes {
+            return k;
+        }
+        k += 1;
+    }
+    k
+}
+
+// The place of the earliest minute for a job that from the minute in this place on has its nodes: one pass over the places before. No
+// minute before that of place i will do.
+pub fn search(minutes: &[u32; 385], free: &[u32; 385], at: usize, nodes: u32, hold: u32) -> usize
+    requires { ⌜ Seeks (now minutes) (now free) at nodes hold ⌝ }
+    ensures { λ r. ⌜ ((s : Seeks (now (minutes .entry)) (now (free .entry)) at nodes hold) → Found s r) ⌝ }
+{
     let mut i: usize = 0;
     while i < at {
-        let next = minutes[i + 1];
         if free[i] < nodes {
-            anchor = next;
-        } else if anchor + hold <= next {
-            return anchor;
+            i += 1;
+        } else {
+            let until = minutes[i] + hold;
+            let k = reach(minutes, free, i, at, nodes, until);
+            if k == at {
+                return i;
+            }
+            if until <= minutes[k] {
+                return i;
+            }
+            i = k + 1;
         }
-        i += 1;
     }
-    anchor
+    at
 }

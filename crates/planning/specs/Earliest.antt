@@ -11,7 +11,7 @@ use Rattle.scheduler.specs.declared.Scheduler.{Scheduler}
 use Rattle.scheduler.specs.Limits.{longest}
 use Rattle.scheduler.specs.Model.{Model, view}
 use Rattle.jobs.specs.Premise.{Holds}
-use Rattle.availability.specs.Search.{Seeks, found}
+use Rattle.availability.specs.Search.{Seeks, Found}
 use Rattle.conservative_rules.specs.Conservative.{spans}
 use Rattle.planning.specs.Slots.{Planned, Tabulated, used-held}
 
@@ -53,6 +53,9 @@ module _ {d : Scheduler} {n h : ℕ} (a : Askable d n h) {k : ℕ} {ms fs : List
       value : (r : ℕ) → getD ms (k - 1) 0 ≤ r → free (view d .settings .nodes) (spans (view d .settings) (d .jobs)) r ≡ getD fs (k - 1) 0
       value r l = t .table .value (k - 1) r inside l (λ z. absurd (omega arith))
 
-  pub last-found : {s : ℕ} → ((q : Seeks ms fs (k - 1) n h) → s ≡ found q) → s ≡ startFor (view d) n h
+  pub last-found : {s : ℕ} → ((q : Seeks ms fs (k - 1) n h) → Found q s) → getD ms s 0 ≡ startFor (view d) n h
   unfolding seeks-last view
-  last-found f = f seeks-last
+  last-found f = f seeks-last .minute
+
+  pub last-low : {s : ℕ} → ((q : Seeks ms fs (k - 1) n h) → Found q s) → s < 129
+  last-low f = omega (arith, f seeks-last .inside, t .most, t .table .some)

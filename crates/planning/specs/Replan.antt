@@ -6,7 +6,7 @@ use mathlib.Core.List.{List, [], _∷_, _++_, map-append}
 use Prim.Native.Nat.{ℕ, _+_, _≤_, _<_}
 use native.Mathlib.Omega.{arith}
 use lib.Dec.{eqb}
-use lib.ListN.{length-append}
+use lib.ListN.{getD, length-append}
 use borrow.Author.Tests.{ne-eqb}
 use Rattle.lists.specs.Tests.{case, true-false}
 use Rattle.lists.specs.Lists.{All, here, all-in, in-right}
@@ -20,8 +20,8 @@ use Rattle.scheduler.specs.Settings.{Settings, horizon, until}
 use Rattle.availability.specs.declared.Row.{Row}
 use Rattle.availability.specs.Lists.{rows}
 use Rattle.availability.specs.Table.{Table, Ascends, Split}
-use Rattle.availability.specs.Laid.{LaysAt, LaidAt, Lays, Laid}
-use Rattle.availability.specs.Search.{Seeks, found}
+use Rattle.availability.specs.Laid.{LaysAt, Shifts, Shifted}
+use Rattle.availability.specs.Search.{Seeks, Found}
 use Rattle.conservative_rules.specs.Conservative.{span, spans, placed, moved}
 use Rattle.conservative_rules.specs.Valid.{Follows, follows-start, moved-follows}
 use Rattle.planning.specs.declared.Replanned.{Replanned}
@@ -120,10 +120,6 @@ module _ {ms fs : List ℕ} {n : ℕ} {j : Job} {now : ℕ} (q : Replans ms fs n
       hold-to = wallTime-le (j .estimate);
     }
 
-    pub start-is : {k : ℕ} → ((l : Seeks ms₁ fs₁ (r .at) (j .nodes) (wallTime (j .estimate))) → k ≡ found l) → k ≡ startAt
-    unfolding seeks
-    start-is f = f seeks
-
   pub moved-is : movedTo ≡ placed now startAt j
   moved-is = rw (q .waits)
 
@@ -163,19 +159,6 @@ module _ {ms fs : List ℕ} {n : ℕ} {j : Job} {now : ℕ} (q : Replans ms fs n
     fits = omega (arith, q .room-left, s .most);
   }
 
-  -- and laid in again
-  pub lay-in : {n₂ : ℕ} {ms₂ fs₂ : List ℕ} → Table without now n₂ ms₂ fs₂ → n₂ ≤ n + 2 → Lays ms₂ fs₂ n₂ (span S movedTo) false
-  lay-in t l = record {
-    f = without;
-    g = with movedTo;
-    now = now;
-    table = t;
-    change = λ t l. free-less t (S .nodes) (span S movedTo) (spans S others) (spans S (q .xs ++ movedTo ∷ q .ys)) (among t movedTo);
-    room = λ t l. omega (arith, room-after t l);
-    until = end-after;
-    fits = omega (arith, q .room-left);
-  }
-
   pub moved-span : span S movedTo ≡ spanAt (j .nodes) startAt (wallTime (j .estimate))
   moved-span = ap (span S) moved-is ∙ placed-span S now startAt j
 
@@ -199,19 +182,70 @@ module _ {ms fs : List ℕ} {n : ℕ} {j : Job} {now : ℕ} (q : Replans ms fs n
       state-live : isLive (placed now startAt j) ≡ true
       state-live = case (eqb startAt now) (λ e. rw e) (λ e. rw e)
 
-  module _ {r : Row} {ms₁ fs₁ : List ℕ} (s : Split ms fs n (j .start) r ms₁ fs₁) where
-    pub turned-stays : startAt ≡ j .start → Turned (record { job = j; count = r .count }) ms₁ fs₁
-    turned-stays e = record {
-      job-is = stays-put e;
-      table = subst (λ (k : Job). Table (with k) now (r .count) ms₁ fs₁) (stays-put e) (own-table s);
-      most = omega (arith, s .most);
-    }
+-- its start has got the place r, and the search has found the place k
+pub record Moves (ms₁ fs₁ : List ℕ) (r : Row) (k : ℕ) (j : Job) (hold now : ℕ) : Type 0 where
+  pub ms : List ℕ
+  pub fs : List ℕ
+  pub n : ℕ
+  pub replans : Replans ms fs n j now
+  pub hold-is : hold ≡ wallTime (j .estimate)
+  pub split : Split ms fs n (j .start) r ms₁ fs₁
+  pub place : Found (seeks replans split) k
 
-    module _ {n₂ : ℕ} {ms₂ fs₂ : List ℕ} (f : (l : LaysAt ms₁ fs₁ r (span S j) true) → LaidAt l n₂ ms₂ fs₂) where
-      pub back : Lays ms₂ fs₂ n₂ (span S movedTo) false
-      unfolding take-out
-      back = lay-in (f (take-out s) .table) (omega (arith, f (take-out s) .most, s .most))
+module _ {ms fs : List ℕ} {n : ℕ} {j : Job} {hold now : ℕ} (q : Replans ms fs n j now) (w : hold ≡ wallTime (j .estimate)) {r : Row} {ms₁ fs₁ : List ℕ} (s : Split ms fs n (j .start) r ms₁ fs₁) where
+  pub seeks-hold : Seeks ms₁ fs₁ (r .at) (j .nodes) hold
+  seeks-hold = rw w (seeks q s)
 
-      pub turned-moves : {n₃ : ℕ} {ms₃ fs₃ : List ℕ} → ((l : Lays ms₂ fs₂ n₂ (span S movedTo) false) → Laid l n₃ ms₃ fs₃) → Turned (record { job = movedTo; count = n₃ }) ms₃ fs₃
-      unfolding back lay-in
-      turned-moves g = record { job-is = refl; table = g back .table; most = omega (arith, g back .most, f (take-out s) .most, s .most) }
+  pub moves : {k : ℕ} → ((l : Seeks ms₁ fs₁ (r .at) (j .nodes) hold) → Found l k) → Moves ms₁ fs₁ r k j hold now
+  moves f = record { ms = ms; fs = fs; n = n; replans = q; hold-is = w; split = s; place = (rw w at f) (seeks q s) }
+
+  pub turned-as : {k : ℕ} (f : (l : Seeks ms₁ fs₁ (r .at) (j .nodes) hold) → Found l k) {z : Replanned} {ms₂ fs₂ : List ℕ} → ((m : Moves ms₁ fs₁ r k j hold now) → Turned (m .replans) z ms₂ fs₂) → Turned q z ms₂ fs₂
+  unfolding moves
+  turned-as f g = g (moves f)
+
+module _ {ms₁ fs₁ : List ℕ} {r : Row} {k : ℕ} {j : Job} {hold now : ℕ} (m : Moves ms₁ fs₁ r k j hold now) where
+  abbrev q : Replans (m .ms) (m .fs) (m .n) j now
+  q = m .replans
+
+  start-is : getD ms₁ k 0 ≡ startAt q
+  unfolding seeks
+  start-is = m .place .minute
+
+  pub start-to : getD ms₁ k 0 ≤ horizon (q .settings)
+  start-to = omega (arith, start-is, moved-low q)
+
+  pub turned-stays : k ≡ r .at → Turned q (record { job = j; count = r .count }) ms₁ fs₁
+  turned-stays z =
+      let e : startAt q ≡ j .start = sym start-is ∙ ap (λ (i : ℕ). getD ms₁ i 0) z ∙ m .split .minute in
+      record {
+        job-is = stays-put q e;
+        table = subst (λ (i : Job). Table (with q i) now (r .count) ms₁ fs₁) (stays-put q e) (own-table q (m .split));
+        most = omega (arith, m .split .most);
+      }
+
+  -- it is taken out, and laid in from there
+  from-own : Shifts ms₁ fs₁ r (span (q .settings) j) k (span (q .settings) (movedTo q))
+  unfolding take-out
+  from-own = record {
+    out = take-out q (m .split);
+    h = with q (movedTo q);
+    change = λ t l. free-less t (q .settings .nodes) (span (q .settings) (movedTo q)) (spans (q .settings) (others q)) (spans (q .settings) (q .xs ++ movedTo q ∷ q .ys)) (among q t (movedTo q));
+    room = λ t l. omega (arith, room-after q t l);
+    until = end-after q;
+    earlier = m .place .inside;
+    begins = start-is ∙ sym (ap (λ (i : Job). i .start) (moved-is q));
+    some = omega (arith, q .hold-from, ap wallTime (same-hold q));
+    fits = omega (arith, m .split .most, q .room-left);
+  }
+
+  abbrev Shift : Type 0
+  Shift = Shifts ms₁ fs₁ r (spanAt (j .nodes) (j .start) hold) k (spanAt (j .nodes) (getD ms₁ k 0) hold)
+
+  pub shifts : Shift
+  shifts = rw (m .hold-is, start-is, ← moved-span q) from-own
+
+  pub turned-moves : {n₂ : ℕ} {ms₂ fs₂ : List ℕ} → ((l : Shift) → Shifted l n₂ ms₂ fs₂) → Turned q (record { job = placed now (getD ms₁ k 0) j; count = n₂ }) ms₂ fs₂
+  unfolding from-own take-out
+  turned-moves g =
+      let u = (rw (m .hold-is, start-is, ← moved-span q) at g) from-own in
+      record { job-is = ap (λ (i : ℕ). placed now i j) start-is ∙ sym (moved-is q); table = u .table; most = omega (arith, u .most, m .split .most) }

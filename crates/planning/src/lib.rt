@@ -14,7 +14,7 @@ ghost use Rattle.availability.specs.Lists.{rows};
 ghost use Rattle.profile.specs.Stored.{stored};
 ghost use Rattle.planning.specs.Slots.{spanAt, Planned, Tabulated, HoldsTo};
 ghost use Rattle.planning.specs.Earliest.{Askable, startFor};
-ghost use Rattle.planning.specs.Replan.{Replans, Turned};
+ghost use Rattle.planning.specs.Replan.{Replans, Moves, Turned};
 ghost use Rattle.planning.specs.Pass.{Replannable};
 use profile::Profile;
 use scheduler::Job;
@@ -79,7 +79,8 @@ pub fn earliest(d: Scheduler, nodes: u32, hold: u32) -> u32
     let mut free = [0u32; 385];
     let mut holds = [0u32; 64];
     let count = tabulate(d, &mut minutes, &mut free, &mut holds);
-    availability::search(&minutes, &free, count - 1, nodes, hold)
+    let at = availability::search(&minutes, &free, count - 1, nodes, hold);
+    minutes[at]
 }
 
 // The job with the planned start s; it runs if that is now.
@@ -112,6 +113,29 @@ pub struct Replanned {
     pub count: usize,
 }
 
+// A waiting job, which stands in its own place of the table, is taken out and put in again from an earlier place on.
+fn move_to(
+    job: Job,
+    hold: u32,
+    clock: u32,
+    minutes: &mut [u32; 385],
+    free: &mut [u32; 385],
+    own: availability::Row,
+    at: usize,
+) -> Replanned
+    requires { ⌜ Moves (now minutes) (now free) own at job hold clock ⌝ }
+    ensures { λ r. ⌜ ((m : Moves (now (minutes .entry)) (now (free .entry)) own at job hold clock) → Turned (m .replans) r (now (minutes .exit)) (now (free .exit))) ⌝ }
+{
+    let start = minutes[at];
+    let before = span(job.nodes, job.start, hold);
+    let after = span(job.nodes, start, hold);
+    let count = availability::shift(minutes, free, own, before, at, after);
+    Replanned {
+        job: place(job, clock, start),
+        count: count,
+    }
+}
+
 // A waiting job is taken out of the plan and put in again at its smallest minute, if that is another.
 fn replan(
     job: Job,
@@ -125,19 +149,14 @@ fn replan(
     ensures { λ r. ⌜ ((q : Replans (now (minutes .entry)) (now (free .entry)) count job clock) → Turned q r (now (minutes .exit)) (now (free .exit))) ⌝ }
 {
     let own = availability::split(minutes, free, 1, count, job.start);
-    let start = availability::search(minutes, free, own.at, job.nodes, hold);
-    if start == job.start {
+    let at = availability::search(minutes, free, own.at, job.nodes, hold);
+    if at == own.at {
         return Replanned {
             job: job,
             count: own.count,
         };
     }
-    let out = availability::lay_at(minutes, free, own, span(job.nodes, job.start, hold), true);
-    let back = availability::lay(minutes, free, out, span(job.nodes, start, hold), false);
-    Replanned {
-        job: place(job, clock, start),
-        count: back,
-    }
+    move_to(job, hold, clock, minutes, free, own, at)
 }
 
 // Each waiting job, once, in ticket order, is taken out of the plan and put in again, the others staying at their places.

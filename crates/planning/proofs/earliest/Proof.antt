@@ -1,6 +1,7 @@
 -- `planning::earliest` meets its contract: from the last place of the table on all nodes are free.
 -- Assumes nothing.
-use Rattle.planning.specs.Earliest.{seeks-last, last-found}
+use native.Mathlib.Omega.{arith}
+use Rattle.planning.specs.Earliest.{seeks-last, last-found, last-low}
 use borrow.Author.Needs.{needs}
 use Rattle.planning.proofs.earliest.Statement.{statement}
 use Rattle.planning.proofs.earliest.Tie as tie
@@ -17,5 +18,11 @@ search-requires c κs = seeks-last (c .before .before .before .before .before .b
 returns : tie.Need-returns
 returns c = last-found (c .before .before .before .before .before .before .before .pre) (c .before .before .before .tabulate .ensures .0) (c .search .ensures)
 
+mul-result : tie.Need-mul-result
+mul-result c = omega (arith, last-low (c .before .before .before .before .before .before .before .pre) (c .before .before .before .tabulate .ensures .0) (c .search .ensures))
+
+array-read-result : tie.Need-array-read-result
+array-read-result c = omega (arith, last-low (c .before .before .before .before .before .before .before .pre) (c .before .before .before .tabulate .ensures .0) (c .search .ensures))
+
 pub earliest-spec : {M : Type 1} → statement M
-earliest-spec = tie.close (tie.spec tabulate-requires sub-search search-requires returns)
+earliest-spec = tie.close (tie.spec tabulate-requires sub-search search-requires mul-result array-read-result returns)
