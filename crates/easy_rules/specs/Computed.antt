@@ -1,10 +1,11 @@
 -- Document 01's slips of the Loose Desk, and one where two jobs might pass the head in one call, computed from the definitions.
 -- Assumes nothing.
 use mathlib.Core.Path.{_≡_, refl}
-use mathlib.Core.List.{List, [], _∷_}
+use mathlib.Core.List.{List, [], _∷_, map}
 use mathlib.Core.Option.{some}
 use Prim.Native.Nat.{ℕ}
 use Rattle.scheduler.specs.declared.Kind.the-variants.{Easy}
+use Rattle.scheduler.specs.declared.Job.{Job}
 use Rattle.scheduler.specs.declared.Refusal.{Refusal}
 use Rattle.scheduler.specs.declared.Refusal.the-variants as refusal
 use Rattle.scheduler.specs.Model.{Model}
@@ -12,7 +13,7 @@ use Rattle.scheduler.specs.Answers.{verdict}
 use Rattle.scheduler.specs.Refusals as refusals
 use Rattle.scheduler.specs.Opening.{openingRefusal, opening}
 use Rattle.history.specs.Calls.{Call, submit, complete, after}
-use Rattle.easy_rules.specs.Easy.{shadow, extra, qualifies, pick, settle, forecast, finished, submitRefusal, advanced, call}
+use Rattle.easy_rules.specs.Easy.{rank, shadow, extra, qualifies, pick, settle, forecast, finished, submitRefusal, advanced, call}
 
 abbrev fresh : ℕ → ℕ → Model
 fresh nodes minute = opening (record { kind = Easy; nodes = nodes; minute = minute; ticket = 1 })
@@ -20,6 +21,10 @@ fresh nodes minute = opening (record { kind = Easy; nodes = nodes; minute = minu
 -- "on a rack of 10 at minute 0, after `in 6 20` and `in 8 10`"
 abbrev waited-for : Model
 waited-for = after call (fresh 10 0) (submit 6 20 ∷ submit 8 10 ∷ [])
+
+-- the start and the promise in each record
+abbrev stored : Model → List (ℕ × ℕ)
+stored m = map (λ (j : Job). (j .start, j .promise)) (m .jobs)
 
 abbrev started : Model → Call → List ℕ
 started m c = call m c .reply .started
@@ -37,6 +42,11 @@ abbrev alone : ℕ → ℕ → Refusal
 alone minute e = call (fresh 4 minute) (submit 1 e) .reply .refusal
 
 pub examples : (call (call (fresh 10 0) (submit 6 20) .model) (submit 8 10) .reply .head ≡ some (record { ticket = 2; minute = 20 }))
+    -- "on the Loose Desk the promise, and a waiting stack's start, are 0"
+    × (stored (after call (fresh 10 5) (submit 6 20 ∷ submit 8 10 ∷ [])) ≡ (5, 0) ∷ (0, 0) ∷ [])
+    -- "r being the number waiting before plus one"
+    × (rank waited-for ≡ 2)
+    × (shadow waited-for 8 ≡ 20)
     × (extra waited-for 8 ≡ 2)
     × (started waited-for (submit 4 20) ≡ 3 ∷ [])
     × (started waited-for (submit 2 100) ≡ 3 ∷ [])
@@ -62,4 +72,4 @@ unfolding
     submitRefusal
     advanced
     call
-examples = (refl, refl, refl, refl, refl, refl, refl, refl, refl)
+examples = (refl, refl, refl, refl, refl, refl, refl, refl, refl, refl, refl, refl)
