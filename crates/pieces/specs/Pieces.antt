@@ -71,7 +71,7 @@ commandPiece next steps d (some (wait n)) =
     (record { text = []; play = going next n d })
     (record { text = noRow (code (waitRefusal (view d) n)); play = going next steps d })
 
--- with so many steps still to go, a step; with none, the next line
+-- with n steps of a wait still to go, a step; with none, the next line
 abbrev pub laterBy : ℕ → List ℕ → Play → Piece
 laterBy n s p =
     cond

@@ -63,7 +63,7 @@ module _ (f : ℕ → ℕ) (now t : ℕ) (l : now ≤ t) where
   unfolding changes
   false-changes p = rw (ne-eqb t now (λ q. omega arith), eq-eqb (f t) (f (t - 1)) (p .1))
 
--- The points of so many minutes
+-- The points of the k minutes from now on
 
 module _ (f : ℕ → ℕ) (now : ℕ) where
   pub points-append : (k j : ℕ) → points f now (k + j) ≡ points f now k ++ map (point f) (keep (changes f now) (minutes (now + k) j))

@@ -20,7 +20,7 @@ use Rattle.scheduler.specs.Model.{view}
 use Rattle.walltime.specs.WallTime.{wallTime}
 use Rattle.quiet.specs.Due.{QuietFor, Quiet, Until}
 
--- r of the next minutes, at most so many, are quiet and lie by the last minute
+-- r of the next minutes, at most `most`, are quiet and lie by the last minute
 pub record Ahead (d : Scheduler) (most r : ℕ) : Type 0 where
   pub few : r ≤ most
   pub within : d .clock ≤ horizon → d .clock + r ≤ horizon

@@ -32,7 +32,7 @@ none-any : {A : Type 0} (p : A → Bool) (xs : List A) → ((a : A) → In a xs 
 none-any p [] f = refl
 none-any p (x ∷ xs) f = rw (f x (here refl)) (none-any p xs (λ a i. f a (there i)))
 
--- so many minutes later, with the same jobs
+-- k minutes later, with the same jobs
 abbrev pub passed : Model → ℕ → Model
 passed m k = record { settings = m .settings; clock = m .clock + k; next = m .next; jobs = m .jobs }
 
@@ -88,7 +88,7 @@ passed-after (suc k) m v l q =
     ∙ passed-after k (passed m 1) (tick-valid m v (omega arith) h) (omega arith) (quiet-rest m k q)
     ∙ passed-more m k
 
--- the scheduler so many minutes later
+-- the scheduler k minutes later
 abbrev pub passedOver : Scheduler → ℕ → Scheduler
 passedOver d k = record { kind = d .kind; nodes = d .nodes; clock = d .clock + k; next = d .next; jobs = d .jobs }
 

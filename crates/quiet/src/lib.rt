@@ -8,7 +8,7 @@ use scheduler::Job;
 use scheduler::Scheduler;
 use scheduler::State;
 
-// How many minutes there are before this one, at most so many; if it is past, it does not count.
+// How many minutes lie between `clock` and `minute`, at most `most`; a `minute` that is past does not count.
 fn before(minute: u32, clock: u32, most: u32) -> u32
     ensures { λ r. ⌜ (r ≤ most) × Until minute clock r ⌝ }
 {
@@ -22,7 +22,7 @@ fn before(minute: u32, clock: u32, most: u32) -> u32
     most
 }
 
-// How many minutes there are before this job ends or starts, at most so many.
+// How many minutes lie between `clock` and the end or start of `job`, at most `most`.
 fn quiet_of(job: Job, clock: u32, most: u32) -> u32
     requires { ⌜ job .start ≤ horizon ⌝ }
     ensures { λ r. ⌜ (r ≤ most) × QuietFor clock r job ⌝ }
@@ -35,7 +35,7 @@ fn quiet_of(job: Job, clock: u32, most: u32) -> u32
     }
 }
 
-// So many of the next minutes are quiet, at most so many: no job ends or starts in them, and none lies past the last minute.
+// How many of the next minutes are quiet, at most `most`: no job ends or starts in them, and none lies past the last minute.
 pub fn quiet_minutes(d: Scheduler, most: u32) -> u32
     requires { ⌜ Premise d ⌝ }
     ensures { λ r. ⌜ Ahead d most r ⌝ }

@@ -27,7 +27,7 @@ enum Named {
     Nothing,
 }
 
-// So many fields, the first of them this word, of a line whose fields are counted. A trailing tab is a field more.
+// Whether a line of `count` fields, `first` the first of them, has `fields` fields and begins with `word`. A trailing tab is a field more.
 fn has_form(count: usize, first: &[u8], fields: usize, word: &[u8]) -> bool
     ensures { λ r. ⌜ r ≡ formFrom count (now (first .entry)) fields (now (word .entry)) ⌝ }
 {

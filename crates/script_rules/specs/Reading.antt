@@ -40,7 +40,7 @@ waitWord = 119 ∷ 97 ∷ 105 ∷ 116 ∷ []
 abbrev pub numberAt : List ℕ → ℕ → Parsed
 numberAt s k = numberOf (fieldOf s k)
 
--- so many fields, the first of them this word
+-- n fields, the first of them the word w
 unfoldable pub hasForm : List ℕ → ℕ → List ℕ → Bool
 hasForm s n w = eqb (length (fieldsOf s)) n && isWord w (fieldOf s 0)
 

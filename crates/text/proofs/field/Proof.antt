@@ -1,4 +1,4 @@
--- `text::field` meets its contract: the field wanted is the one that is so many fields further on from here.
+-- `text::field` meets its contract: the field wanted is the one that is k - n fields further on from `start`.
 -- Assumes nothing.
 use mathlib.Core.Path.{_≡_, ap, sym, _∙_}
 use mathlib.Core.List.{[]}
