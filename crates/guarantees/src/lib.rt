@@ -1,1 +1,1 @@
-// The guarantees of both kinds of scheduler, and document 01's marked examples, all in specs/: there is no code here.
+// The guarantees of both kinds of scheduler, and the one premise of their calls, all in specs/: there is no code here.
