@@ -4,5 +4,6 @@ pub mod Book
 pub mod Guarantee
 pub mod Lawful
 pub mod Leaving
+pub mod Seen
 pub mod Proof
 pub mod Breaks

@@ -150,6 +150,14 @@ module _ {A : Type 0} where
   keep-keep p q [] = refl
   keep-keep p q (x ∷ xs) = case (q x) (λ e. rw e (case (p x) (λ k. rw (k, keep-keep p q xs)) (λ k. rw (k, keep-keep p q xs)))) (λ e. rw (e, keep-keep p q xs))
 
+  pub keep-map : {B : Type 0} (p : B → Bool) (f : A → B) (xs : List A) → keep p (map f xs) ≡ map f (keep (λ (a : A). p (f a)) xs)
+  keep-map p f [] = refl
+  keep-map p f (x ∷ xs) = case (p (f x)) (λ e. rw (e, keep-map p f xs)) (λ e. rw (e, keep-map p f xs))
+
+  pub map-cong : {B : Type 0} (f g : A → B) (xs : List A) → ((a : A) → In a xs → f a ≡ g a) → map f xs ≡ map g xs
+  map-cong f g [] h = refl
+  map-cong f g (x ∷ xs) h = rw (h x (here refl), map-cong f g xs (λ a i. h a (there i)))
+
   pub map-same : (f : A → A) (xs : List A) → ((a : A) → In a xs → f a ≡ a) → map f xs ≡ xs
   map-same f [] g = refl
   map-same f (x ∷ xs) g = rw (g x (here refl), map-same f xs (λ a i. g a (there i)))
