@@ -1,0 +1,4 @@
+// Plays the day sheets that the arguments name, each after its name.
+fn main() {
+    runner::run_files();
+}
