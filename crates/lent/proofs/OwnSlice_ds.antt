@@ -13,12 +13,12 @@ use mir.Val.{Val, vptr, vstruct, vcons, vnil, WT, hasTy}
 use base.Logic.{SProp, ent, sep, id⊢}
 use base.Fml.{GName, fsep, ftrue, fat, flft, flent}
 use prog.Model.{Model}
-use prog.Routine.{Name, Routine, Env}
-use prog.Wp.{Heap, Calls, Loops, WpFn, Closed, Tables}
+use prog.Routine.{Name}
+use prog.Wp.{Heap, Calls, Loops, WpFn}
 use ghost.Atoms.{Atoms, sem}
 use contract.Monad.{fact}
-use contract.Running.{Running, GhostRules, givenOf, tables, tablesOf}
-use sound.WpLaws.{FmC, fmOf, WpFn-mono}
+use contract.Running.{Running, GhostRules, givenOf}
+use sound.WpLaws.{FmC}
 use types.Kit.{Given, ‵, raw, some, later, _⊛_, _$_, _∵_, !, qed, by, move, keep, drop, use1, use2, use3, split, join, pick, rewrite, fsplit, fjoin, fpick, fpack, feqL, feqI, suffices, frame, await, done}
 use types.Run.{look, init, forget, stop, from, load, lit, addr, of-opd, and-then, no-more, assigns, land, returns, enter, alloc1, alloc0, params1, pass1, pass0, free1, free0}
 use types.Part.{agg}
@@ -41,14 +41,14 @@ use denote.Struct.Declared.{Declared, fields, shape, row}
 use denote.Struct.Steps.{spelt}
 use denote.Struct.Laws as LL
 use denote.Triple.Entry.{onEntry}
-use denote.Triple.Spec.{Meets, tripleOf}
+use denote.Triple.Spec.{tripleOf}
 use denote.Triple.Statement.{Contract, Triple}
 use denote.Triple.Call.{calls-at}
 use denote.Triple.Clauses.{Ended, Clauses, closing, ensured, lasts}
-use denote.Triple.Table.{entered, cited}
-use denote.Triple.Walked.{says, Stays, stay-none, walkOf, goes-none, Walks, ends-at, walked, walk-meets}
+use denote.Triple.Walked.{says, Stays, stay-none, walkOf, goes-none, ends-at, walked}
 use denote.Exit.{yes}
 use Rattle.lent.proofs.Thin.{Flat, flat, rowOf, struct-flat, FlatLaws, asks, asked, tells-it}
+use Rattle.lent.proofs.Body.{valued, lies-in, Walk, Theorem, enters}
 
 -- the result: a struct of the answer and the array, and how it is made of them at any machine values
 pub record Holds (N : Flat) (R : Declared) (m : ℕ) : Type 2 where
@@ -150,17 +150,10 @@ module _ (R : Declared) (L : LL.Laws R) (pl : Plains (fields R)) (m : ℕ) (smal
         suffices ! _ (ends-at 𝓤 H A theEnded stayed (clauses 𝓤) W y (rv r zs) (S .make r zs) (tt, (tt, tt)) (tt, (tt, tt))) $ says ! (shows h ys r zs len pre en) $
         owned ! AA (Is AA) amakes ys _ isy $ fjoin ! $ owned ! DD (Is DD) (LL.makes D plD 𝓤 H A) h _ isd $ fjoin ! $ owned ! (S .whole) (Is (S .whole)) (S .makes 𝓤 H A W) (S .make r zs) _ (S .is-made r _ zs _ isr isz) $ move ! (1 ∷ 0 ∷ []) $ nothing ! $ done !
 
-    -- the struct in its own local, as a borrow holds it
-    lies-d : (b : ℕ) → ent 𝓤 (sem 𝓤 H A (fat fullShare τD b 0 (LL.val D LD h))) (sem 𝓤 H A (partAt (row D) fullShare h b 0))
-    unfolding partOf
-    lies-d b =
-        qed W (‵ (fat fullShare τD b 0 (LL.val D LD h)) ∷ []) ∵ use1 W (‵ (cellAt fullShare (row D .mir) (LL.vals D LD h) b 0)) (W .laws .at-raw fullShare τD b 0 (LL.val D LD h)) $
-        owned ! (row D) (Is (row D)) (LL.makes D plD 𝓤 H A) h _ isd $ move ! (1 ∷ 0 ∷ []) $ fjoin ! $ fpack ! (List Val) (λ us. fsep (cellAt fullShare (row D .mir) us b 0) (row D .own h us)) (LL.vals D LD h) $ done !
-
     -- the array in its own local, as a slice's borrow holds it
-    lies-in : (b : ℕ) → ent 𝓤 (sem 𝓤 H A (fat fullShare τA b 0 (only (av ys)))) (sem 𝓤 H A (cells (mem RR) ys b 0))
+    array-lies : (b : ℕ) → ent 𝓤 (sem 𝓤 H A (fat fullShare τA b 0 (only (av ys)))) (sem 𝓤 H A (cells (mem RR) ys b 0))
     unfolding partOf
-    lies-in b =
+    array-lies b =
         qed W (‵ (fat fullShare τA b 0 (only (av ys))) ∷ []) ∵ use1 W (‵ (cellAt fullShare (AR .mir) (av ys) b 0)) (W .laws .at-raw fullShare τA b 0 (only (av ys))) $
         owned ! AR (Is AR) amakes ys _ isy $ move ! (1 ∷ 0 ∷ []) $ fjoin ! $ fpack ! (List Val) (λ us. fsep (cellAt fullShare (AR .mir) us b 0) (AR .own ys us)) (av ys) $
         use1 W (‵ (arr-parts (shares RR) m .part fullShare ys b 0)) (array-apart 𝓤 H A W RR fullShare tt m ys b 0) $ fsplit ! $ drop ! $ use1 W (‵ (cells (mem RR) ys b 0)) (whole-in 𝓤 H A W RR ys b 0) $ done !
@@ -186,10 +179,10 @@ module _ (R : Declared) (L : LL.Laws R) (pl : Plains (fields R)) (m : ℕ) (smal
           assigns ! (agg ! (and-then ! (load ! (from ! (stop !)) (look ! 4 refl)) (and-then ! (lit ! small) (no-more !)))) (from ! (stop !)) (init ! 2 refl (tt, (tt, (record { fits = room .0 }, tt)))) $
           rewrite ! 2 (λ (c : ℕ). ‵ (fat fullShare (sliceTy (tyRef erased mut (pointee (RR .written)))) l8 0 (sliceVal (l4, 0) c))) (sym len) refl $
           -- the struct is lent, for a lifetime of the call
-          move ! (12 ∷ []) $ use1 W (‵ (partAt (row D) fullShare h l3 0)) (lies-d l3) $ lft-new ! tt (λ β. move ! (1 ∷ []) $
+          move ! (12 ∷ []) $ use1 W (‵ (partAt (row D) fullShare h l3 0)) (lies-in D LD plD 𝓤 H A W h isd l3) $ lft-new ! tt (λ β. move ! (1 ∷ []) $
           use1 W (later (some (λ (ε : GName). ‵ (ShrRef (named 0) (β ∷ []) (row D) .own (record { ptr = (l3, 0); name = ε; now = h }) (vptr l3 0 ∷ [])) ⊛ ‵ (flent (β ∷ []) (partAt (row D) fullShare h l3 0))))) (lends-shr 𝓤 H A W (row D) (named 0) (β ∷ []) fullShare h l3 0) $ await ! tt $ pick ! (λ ε. split ! $
           -- the array is lent as a slice, for another
-          move ! (13 ∷ []) $ use1 W (‵ (cells (mem RR) ys l4 0)) (lies-in l4) $ lft-new ! tt (λ α. move ! (1 ∷ []) $
+          move ! (13 ∷ []) $ use1 W (‵ (cells (mem RR) ys l4 0)) (array-lies l4) $ lft-new ! tt (λ α. move ! (1 ∷ []) $
           use1 W (later (some (λ (δ : GName). ‵ (MutSlice (named 1) (α ∷ []) RR .own (record { ptr = (l4, 0); name = δ; now = ys }) (sliceVal (l4, 0) (length ys) ∷ [])) ⊛ ‵ (flent (α ∷ []) (Held RR (length ys) l4 0 δ))))) (lends-slice 𝓤 H A W RR (named 1) (α ∷ []) ys l4 0 (subst (Room RR) (sym len) room)) $ await ! tt $ pick ! (λ δ. split ! $
           move ! (2 ∷ 0 ∷ []) $ join ! $ move ! (4 ∷ 2 ∷ []) $ join ! $ move ! (0 ∷ 1 ∷ []) $ use2 W (raw (Callee 𝓤 H A .pre (to-callee l3 β ε l4 α δ))) (goes l3 β ε l4 α δ) $
           calls-at ! fm (Callee 𝓤 H A) known (to-callee l3 β ε l4 α δ) (and-then ! (load ! (from ! (stop !)) (look ! 9 refl)) (and-then ! (load ! (from ! (stop !)) (look ! 5 refl)) (no-more !))) (λ v.
@@ -209,26 +202,19 @@ module _ (R : Declared) (L : LL.Laws R) (pl : Plains (fields R)) (m : ℕ) (smal
           fpick ! (λ us. fsplit ! $ spelt ! AR (Is AR) (is-shown 𝓤 H A AR) av (array-tells RR (LL.vals R L) (LL.tells R L) m) fullShare (ws .1 .0) us l4 0 $
           move ! (1 ∷ []) $ peeks ! AR (Is AR) (is-shown 𝓤 H A AR) (ws .1 .0) (av (ws .1 .0)) (λ isz. drop ! $ use1 W (‵ (fat fullShare τA l4 0 (only (av (ws .1 .0))))) (W .laws .raw-at fullShare τA l4 0 (only (av (ws .1 .0)))) $
           assigns ! (of-opd ! (load ! (from ! (stop !)) (look ! 0 refl))) (from ! (stop !)) (init ! 4 refl (atyped (ws .1 .0) isz)) $
-          assigns ! (agg ! (and-then ! (load ! (from ! (stop !)) (look ! 12 refl)) (and-then ! (load ! (from ! (stop !)) (look ! 4 refl)) (no-more !)))) (from ! (stop !)) (init ! 20 refl (S .typed 𝓤 H A W (S .make r (ws .1 .0)) _ (S .is-made r _ (ws .1 .0) _ (is-answer r v isv) isz))) $
+          assigns ! (agg ! (and-then ! (load ! (from ! (stop !)) (look ! 12 refl)) (and-then ! (load ! (from ! (stop !)) (look ! 4 refl)) (no-more !)))) (from ! (stop !)) (init ! 20 refl (S .typed 𝓤 H A W (S .make r (ws .1 .0)) _ (S .is-made r _ (ws .1 .0) _ (valued N LN r v isv) isz))) $
           returns ! (look ! 20 refl) $ forget ! 20 refl $ forget ! 18 refl $ forget ! 16 refl $ forget ! 2 refl $ forget ! 0 refl $ forget ! 12 refl $ forget ! 10 refl $ forget ! 8 refl $ forget ! 6 refl $ forget ! 4 refl $
           move ! (20 ∷ 21 ∷ []) $ free1 ! $ move ! (18 ∷ 19 ∷ []) $ free1 ! $ move ! (16 ∷ 17 ∷ []) $ free1 ! $ move ! (2 ∷ 15 ∷ []) $ free1 ! $ move ! (0 ∷ 13 ∷ []) $ free1 ! $ move ! (10 ∷ 11 ∷ []) $ free1 ! $ move ! (8 ∷ 9 ∷ []) $ free1 ! $ move ! (6 ∷ 7 ∷ []) $ free1 ! $ move ! (4 ∷ 5 ∷ []) $ free1 ! $ move ! (2 ∷ 3 ∷ []) $ free1 ! $ free0 ! $
-          keep ! (2 ∷ []) $ by ! (exits r (ws .1 .0) (is-answer r v isv) isz en))))))))))))))))))))))))
-        where
-          is-answer : (r : N .Denot) (v : Val) → Is (rowOf N) r (v ∷ []) → Is (rowOf N) r (N .val r ∷ [])
-          is-answer r v isv = subst (Is (rowOf N) r) (LN .tells r _ isv) isv
+          keep ! (2 ∷ []) $ by ! (exits r (ws .1 .0) (valued N LN r v isv) isz en))))))))))))))))))))))))
 
   module _ {M : Type 1} (𝓤 : URA M) (H : Heap 𝓤) (A : Atoms 𝓤) (W : Given 𝓤 H A) where
-    walks : (C : Calls 𝓤 H) (Λ : Loops 𝓤 H) → FmC 𝓤 H (W .laws) C → Triple 𝓤 (C f) (Callee 𝓤 H A) → Walks 𝓤 H A theEnded stayed (WpFn 𝓤 H C Λ function) (clauses 𝓤)
+    walks : Walk 𝓤 H theEnded (clauses 𝓤) function f (Callee 𝓤 H A) A W stayed
     walks C Λ fm known = walked 𝓤 H A theEnded stayed (clauses 𝓤) (WpFn 𝓤 H C Λ function) (λ κs. (LL.vals D LD, (av, tt))) (λ κs. (LL.tells D LD, (array-tells RR (LL.vals R L) (LL.tells R L) m, tt)))
         (λ κs qs bounds a g are. asked 𝓤 t (Pre (a .0) (a .1 .0)) (free (a .0) (a .1 .0) (are .1 .0 .1 .0 .1)) _ (λ pre. walk 𝓤 H A W (a .0) (a .1 .0) (are .0) (are .1 .0) pre C Λ fm known))
 
-    meets : (𝓣 : Tables 𝓤 H) → Triple 𝓤 (𝓣 .C f) (Callee 𝓤 H A) → Meets 𝓤 H A (theEnded .signature) (WpFn 𝓤 H (𝓣 .C) (𝓣 .Λ) function) (closing 𝓤 H A theEnded (clauses 𝓤))
-    meets 𝓣 known = walk-meets 𝓤 H A theEnded stayed W (goes-none 𝓤 H A W 0 (λ _. DD) yes (λ κs x f. refl), (goes-none 𝓤 H A W 0 (λ _. AA) yes (λ κs x f. refl), tt)) (clauses 𝓤) (WpFn 𝓤 H (𝓣 .C) (𝓣 .Λ) function) (WpFn-mono 𝓤 H (W .laws) 𝓣 function) (walks (𝓣 .C) (𝓣 .Λ) (fmOf 𝓤 H (W .laws) 𝓣) known)
-
   module _ {M : Type 1} (𝓤 : URA M) (H : Heap 𝓤) (𝓜 : Model 𝓤 H) (𝓖 : GhostRules 𝓤 H) (𝓡 : Running 𝓤 H 𝓜) where
-    pub own-ds : (env : Env) (own : Name) → Closed 𝓤 H (tables 𝓤 H 𝓜 𝓡 env .C) (tables 𝓤 H 𝓜 𝓡 env .Λ) own function → (routine : Routine) → env f ≡ routine → Triple 𝓤 (𝓡 .run routine) (Callee 𝓤 H (𝓖 .A))
-        → Meets 𝓤 H (𝓖 .A) (theEnded .signature) (𝓡 .run (env own)) (closing 𝓤 H (𝓖 .A) theEnded (clauses 𝓤))
-    unfolding tablesOf
-    own-ds env own unfolded routine calls met =
-        entered 𝓤 H (tripleOf 𝓤 H (𝓖 .A) (theEnded .signature) (closing 𝓤 H (𝓖 .A) theEnded (clauses 𝓤))) (tables 𝓤 H 𝓜 𝓡 env .C) (tables 𝓤 H 𝓜 𝓡 env .Λ) own function unfolded
-        (meets 𝓤 H (𝓖 .A) (givenOf 𝓤 H 𝓜 𝓖) (tablesOf 𝓤 H 𝓜 (tables 𝓤 H 𝓜 𝓡 env)) (cited 𝓤 H (Callee 𝓤 H (𝓖 .A)) 𝓜 𝓡 env f routine calls met))
+    pub own-ds : Theorem 𝓤 H theEnded (clauses 𝓤) function f (Callee 𝓤 H (𝓖 .A)) 𝓜 𝓖 𝓡
+    own-ds =
+        enters 𝓤 H theEnded (clauses 𝓤) function f (Callee 𝓤 H (𝓖 .A)) 𝓜 𝓖 𝓡 stayed
+        (goes-none 𝓤 H (𝓖 .A) (givenOf 𝓤 H 𝓜 𝓖) 0 (λ _. DD) yes (λ κs x f. refl), (goes-none 𝓤 H (𝓖 .A) (givenOf 𝓤 H 𝓜 𝓖) 0 (λ _. AA) yes (λ κs x f. refl), tt))
+        (walks 𝓤 H (𝓖 .A) (givenOf 𝓤 H 𝓜 𝓖))
