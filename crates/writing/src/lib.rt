@@ -1,5 +1,6 @@
 // The lines of an answer, written into a page of bytes.
 ghost use mathlib.Core.Path.{_≡_};
+ghost use mathlib.Core.List.{[], _∷_, _++_};
 ghost use Prim.Native.Nat.{_+_, _*_, _≤_};
 ghost use lib.ListN.{length, take};
 ghost use Rattle.text.specs.Numbers.{decimalOf};
@@ -43,15 +44,23 @@ fn put_field(page: &mut [u8], at: usize, v: u32) -> usize
     text::put_number(page, p, v)
 }
 
+// The last field of a line, and the line's end.
+fn put_last(page: &mut [u8], at: usize, v: u32) -> usize
+    requires { ⌜ at + 12 ≤ length (now page) ⌝ }
+    ensures { λ r. ⌜ Wrote 12 (now (page .entry)) at (andField (decimalOf v) ++ (10 ∷ [])) (now (page .exit)) r ⌝ }
+{
+    let p = put_field(page, at, v);
+    let end = text::put_byte(page, p, NEWLINE);
+    end
+}
+
 fn put_row(page: &mut [u8], at: usize, word: &[u8], a: u32, b: u32) -> usize
     requires { ⌜ at + (length (now word) + 23) ≤ length (now page) ⌝ }
     ensures { λ r. ⌜ Wrote (length (now (word .entry)) + 23) (now (page .entry)) at (row (now (word .entry)) (decimalOf a) (decimalOf b)) (now (page .exit)) r ⌝ }
 {
     let p = text::put_word(page, at, word);
     let q = put_field(page, p, a);
-    let s = put_field(page, q, b);
-    let end = text::put_byte(page, s, NEWLINE);
-    end
+    put_last(page, q, b)
 }
 
 // A line for each of the first tickets of a list.
@@ -75,14 +84,15 @@ fn put_rows(
     p
 }
 
+// The promise, which is the last field of its line.
 fn put_promise(page: &mut [u8], at: usize, kind: Kind, promise: u32) -> usize
-    requires { ⌜ at + 11 ≤ length (now page) ⌝ }
-    ensures { λ r. ⌜ Wrote 11 (now (page .entry)) at (andField (promiseField kind promise)) (now (page .exit)) r ⌝ }
+    requires { ⌜ at + 12 ≤ length (now page) ⌝ }
+    ensures { λ r. ⌜ Wrote 12 (now (page .entry)) at (andField (promiseField kind promise) ++ (10 ∷ [])) (now (page .exit)) r ⌝ }
 {
     if promises(kind) {
-        return put_field(page, at, promise);
+        return put_last(page, at, promise);
     }
-    text::put_word(page, at, b"\t-")
+    text::put_word(page, at, b"\t-\n")
 }
 
 fn put_took(page: &mut [u8], at: usize, kind: Kind, ticket: u32, promise: u32) -> usize
@@ -94,8 +104,7 @@ fn put_took(page: &mut [u8], at: usize, kind: Kind, ticket: u32, promise: u32) -
     }
     let p = text::put_word(page, at, b"took");
     let q = put_field(page, p, ticket);
-    let s = put_promise(page, q, kind, promise);
-    text::put_byte(page, s, NEWLINE)
+    put_promise(page, q, kind, promise)
 }
 
 fn put_head(page: &mut [u8], at: usize, head: u32, forecast: u32) -> usize
@@ -126,8 +135,7 @@ pub fn put_refusal(page: &mut [u8], at: usize, r: Refusal) -> usize
     ensures { λ n. ⌜ Wrote pageBytes (now (page .entry)) at (noRow (code r)) (now (page .exit)) n ⌝ }
 {
     let p = text::put_word(page, at, b"no");
-    let q = put_field(page, p, r.code());
-    text::put_byte(page, q, NEWLINE)
+    put_last(page, p, r.code())
 }
 
 // The lines of an answer, with the clock after the call.

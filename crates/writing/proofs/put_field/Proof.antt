@@ -9,14 +9,8 @@ use borrow.Author.Needs.{needs}
 use Rattle.writing.proofs.put_field.Statement.{statement}
 use Rattle.writing.proofs.put_field.Tie as tie
 
-put-byte-requires : tie.Need-put-byte-requires
-put-byte-requires c κs = search needs
-
 put-number-requires : tie.Need-put-number-requires
 put-number-requires c κs = omega (arith, decimal-ten (c .before .before .before .before .before .before .args .v) (omega arith))
-
-same-length : tie.Need-same-length
-same-length c = search needs
 
 returns : tie.Need-returns
 returns c =
@@ -24,4 +18,4 @@ returns c =
     and-then (wrote 1 _ _ (9 ∷ []) _ _ (omega arith) (c .before .before .before .before .before .before .put-byte .ensures)) (wrote 10 _ _ (decimalOf v) _ _ (decimal-ten v (omega arith)) (c .before .before .put-number .ensures))
 
 pub put-field-spec : {M : Type 1} → statement M
-put-field-spec = tie.close (tie.spec put-byte-requires put-number-requires same-length returns)
+put-field-spec = tie.close (tie.spec (λ c κs. search needs) put-number-requires (λ c. search needs) returns)

@@ -13,21 +13,11 @@ returns c =
     let a = c .before .before .args in
     rw (eq-eqb (a .head) 0 (c .if1 .taken)) (wrote-none 27 (a .page .now) (a .at))
 
-slice-aggregate-put-row : tie.Need-slice-aggregate-put-row
-slice-aggregate-put-row c = search needs
-
-put-row-requires : tie.Need-put-row-requires
-put-row-requires c κs = search needs
-
-same-length : tie.Need-same-length
-same-length c = search needs
-
 returns-2 : tie.Need-returns-2
 unfolding headText
 returns-2 c =
-    let a = c .before .before .before .before .before .before .before .args in
-    rw (ne-eqb (a .head) 0 (c .before .before .before .before .before .if1 .left)) (c .before .before .put-row .ensures)
+    let some = c .before .before .before .before .before in
+    rw (ne-eqb (some .before .before .args .head) 0 (some .if1 .left)) (c .before .before .put-row .ensures)
 
 pub put-head-spec : {M : Type 1} → statement M
-put-head-spec =
-    tie.close (tie.spec returns slice-aggregate-put-row put-row-requires same-length returns-2)
+put-head-spec = tie.close (tie.spec returns (λ c. search needs) (λ c κs. search needs) (λ c. search needs) returns-2)

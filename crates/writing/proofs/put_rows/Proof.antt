@@ -27,24 +27,12 @@ loop-holds c =
     let a = c .before .before .args in
     record { low = search needs; written = rw (rows-none (a .word .now) (a .minute) (a .list .now)) (wrote-none _ (a .page .now) (a .at)) }
 
-mul-put-row : tie.Need-mul-put-row Inv-loop μ-loop
-mul-put-row c = search needs
-
-element-copy-out-put-row : tie.Need-element-copy-out-put-row Inv-loop μ-loop
-element-copy-out-put-row c = search needs
-
 put-row-requires : tie.Need-put-row-requires Inv-loop μ-loop
 put-row-requires c κs =
     let s = c .before .before .before .before .before .before in
     let l = c .before .before .before .loop in
     let w = l .inv .written in
     omega (arith, w .place, w .few, same-size w, s .pre .2, one-row (length (s .args .word .now) + 23) (l .i) (s .args .count) (omega arith))
-
-add-i : tie.Need-add-i Inv-loop μ-loop
-add-i c = search needs
-
-loop-less : tie.Need-loop-less Inv-loop μ-loop
-loop-less c = search needs
 
 loop-again : tie.Need-loop-again Inv-loop μ-loop
 loop-again c =
@@ -69,16 +57,5 @@ returns c =
 
 pub put-rows-spec : {M : Type 1} → statement M
 put-rows-spec =
-    tie.close
-    (tie.spec
-    Inv-loop
-    μ-loop
-    loop-holds
-    mul-put-row
-    element-copy-out-put-row
-    put-row-requires
-    add-i
-    loop-less
-    loop-again
-    same-length
-    returns)
+    tie.close (tie.spec Inv-loop μ-loop loop-holds (λ c. search needs) (λ c. search needs) put-row-requires (λ c. search needs)
+    (λ c. search needs) loop-again same-length returns)
