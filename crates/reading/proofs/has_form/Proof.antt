@@ -11,13 +11,10 @@ returns c =
     let a = c .before .before .before .args in
     rw (ne-eqb (a .count) (a .fields) (λ e. omega (arith, c .if1 .taken)))
 
-is-word-requires : tie.Need-is-word-requires
-is-word-requires c κs = search needs
-
 returns-2 : tie.Need-returns-2
 returns-2 c =
     let a = c .before .before .before .before .args in
     rw (eq-eqb (a .count) (a .fields) (omega (arith, c .before .if1 .left))) (c .is-word .ensures)
 
 pub has-form-spec : {M : Type 1} → statement M
-has-form-spec = tie.close (tie.spec returns is-word-requires returns-2)
+has-form-spec = tie.close (tie.spec returns (λ c κs. search needs) returns-2)

@@ -7,36 +7,6 @@ use borrow.Author.Needs.{needs}
 use Rattle.reading.proofs.read_first.Statement.{statement}
 use Rattle.reading.proofs.read_first.Tie as tie
 
-field-count-requires : tie.Need-field-count-requires
-field-count-requires c κs = search needs
-
-field-requires : tie.Need-field-requires
-field-requires c κs = search needs
-
-slice-aggregate-has-form : tie.Need-slice-aggregate-has-form
-slice-aggregate-has-form c = search needs
-
-has-form-requires : tie.Need-has-form-requires
-has-form-requires c κs = search needs
-
-field-requires-2 : tie.Need-field-requires-2
-field-requires-2 c κs = search needs
-
-read-kind-requires : tie.Need-read-kind-requires
-read-kind-requires c κs = search needs
-
-field-number-requires : tie.Need-field-number-requires
-field-number-requires c κs = search needs
-
-field-number-requires-2 : tie.Need-field-number-requires-2
-field-number-requires-2 c κs = search needs
-
-field-number-requires-3 : tie.Need-field-number-requires-3
-field-number-requires-3 c κs = search needs
-
-opening-requires : tie.Need-opening-requires
-opening-requires c κs = search needs
-
 returns : tie.Need-returns
 unfolding openingIn
 returns c =
@@ -64,17 +34,5 @@ returns-2 c =
 
 pub read-first-spec : {M : Type 1} → statement M
 read-first-spec =
-    tie.close
-    (tie.spec
-    field-count-requires
-    field-requires
-    slice-aggregate-has-form
-    has-form-requires
-    field-requires-2
-    read-kind-requires
-    field-number-requires
-    field-number-requires-2
-    field-number-requires-3
-    opening-requires
-    returns
-    returns-2)
+    tie.close (tie.spec (λ c κs. search needs) (λ c κs. search needs) (λ c. search needs) (λ c κs. search needs) (λ c κs. search needs)
+    (λ c κs. search needs) (λ c κs. search needs) (λ c κs. search needs) (λ c κs. search needs) (λ c κs. search needs) returns returns-2)

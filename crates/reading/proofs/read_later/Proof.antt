@@ -1,133 +1,66 @@
--- `reading::read_later` meets its contract.
+-- `reading::read_later` meets its contract: the forms are tried one after the other.
 -- Assumes nothing.
-use mathlib.Core.Path.{sym}
-use Rattle.script_rules.specs.Reading.{inWord, endWord, waitWord, commandIn}
-use Rattle.reading.specs.Meaning.{form-said}
+use mathlib.Core.Path.{_≡_, sym}
+use mathlib.Core.Bool.{Bool, false}
+use mathlib.Core.List.{List}
+use Prim.Native.Nat.{ℕ}
+use Rattle.script_rules.specs.Reading.{hasForm, inWord, endWord, waitWord, commandIn}
+use Rattle.reading.specs.Meaning.{formFrom, form-said}
 use borrow.Author.Needs.{needs}
 use Rattle.reading.proofs.read_later.Statement.{statement}
 use Rattle.reading.proofs.read_later.Tie as tie
 
-field-count-requires : tie.Need-field-count-requires
-field-count-requires c κs = search needs
+abbrev line : tie.After-field → List ℕ
+line c = c .before .before .before .args .line .now
 
-field-requires : tie.Need-field-requires
-field-requires c κs = search needs
+-- what a test says of the line, once its fields are counted and the first is read
+form : (c : tie.After-field) (n : ℕ) (w : List ℕ) {r b : Bool} → r ≡ formFrom (c .before .field-count .result) (c .field .result .now) n w → r ≡ b → hasForm (line c) n w ≡ b
+form c n w = form-said (line c) n w (c .before .field-count .ensures) (c .field .ensures)
 
-slice-aggregate-has-form : tie.Need-slice-aggregate-has-form
-slice-aggregate-has-form c = search needs
+not-in : (c : tie.Else1) → hasForm (line (c .before .before .before)) 3 inWord ≡ false
+not-in c = form (c .before .before .before) 3 inWord (c .before .has-form .ensures) (c .if1 .left)
 
-has-form-requires : tie.Need-has-form-requires
-has-form-requires c κs = search needs
-
-field-number-requires : tie.Need-field-number-requires
-field-number-requires c κs = search needs
-
-field-number-requires-2 : tie.Need-field-number-requires-2
-field-number-requires-2 c κs = search needs
-
-submission-requires : tie.Need-submission-requires
-submission-requires c κs = search needs
+not-end : (c : tie.Else2) → hasForm (line (c .before .before .before .before .before .before)) 2 endWord ≡ false
+not-end c = form (c .before .before .before .before .before .before) 2 endWord (c .before .has-form2 .ensures) (c .if2 .left)
 
 returns : tie.Need-returns
 unfolding commandIn
 returns c =
     let p = c .before .before .before in
-    let read = p .before .before .before in
-    let line = read .before .before .before .args .line .now in
     rw (
-      form-said line 3 inWord (read .before .field-count .ensures) (read .field .ensures) (p .before .has-form .ensures) (p .if1 .taken),
+      form (p .before .before .before) 3 inWord (p .before .has-form .ensures) (p .if1 .taken),
       sym (c .before .before .field-number .ensures),
       sym (c .before .field-number2 .ensures),
     )
     (c .submission .ensures)
 
-slice-aggregate-has-form-2 : tie.Need-slice-aggregate-has-form-2
-slice-aggregate-has-form-2 c = search needs
-
-has-form-requires-2 : tie.Need-has-form-requires-2
-has-form-requires-2 c κs = search needs
-
-field-number-requires-3 : tie.Need-field-number-requires-3
-field-number-requires-3 c κs = search needs
-
-completion-requires : tie.Need-completion-requires
-completion-requires c κs = search needs
-
 returns-2 : tie.Need-returns-2
 unfolding commandIn
 returns-2 c =
-    let q = c .before .before in
-    let p = q .before .before .before in
-    let read = p .before .before .before in
-    let line = read .before .before .before .args .line .now in
-    rw (
-      form-said line 3 inWord (read .before .field-count .ensures) (read .field .ensures) (p .before .has-form .ensures) (p .if1 .left),
-      form-said line 2 endWord (read .before .field-count .ensures) (read .field .ensures) (q .before .has-form2 .ensures) (q .if2 .taken),
-      sym (c .before .field-number3 .ensures),
-    )
+    let p = c .before .before in
+    let q = p .before .before .before in
+    rw (not-in q, form (q .before .before .before) 2 endWord (p .before .has-form2 .ensures) (p .if2 .taken), sym (c .before .field-number3 .ensures))
     (c .completion .ensures)
-
-slice-aggregate-has-form-3 : tie.Need-slice-aggregate-has-form-3
-slice-aggregate-has-form-3 c = search needs
-
-has-form-requires-3 : tie.Need-has-form-requires-3
-has-form-requires-3 c κs = search needs
-
-field-number-requires-4 : tie.Need-field-number-requires-4
-field-number-requires-4 c κs = search needs
-
-waiting-requires : tie.Need-waiting-requires
-waiting-requires c κs = search needs
 
 returns-3 : tie.Need-returns-3
 unfolding commandIn
 returns-3 c =
-    let t = c .before .before in
-    let q = t .before .before .before in
-    let p = q .before .before .before in
-    let read = p .before .before .before in
-    let line = read .before .before .before .args .line .now in
-    rw (
-      form-said line 3 inWord (read .before .field-count .ensures) (read .field .ensures) (p .before .has-form .ensures) (p .if1 .left),
-      form-said line 2 endWord (read .before .field-count .ensures) (read .field .ensures) (q .before .has-form2 .ensures) (q .if2 .left),
-      form-said line 2 waitWord (read .before .field-count .ensures) (read .field .ensures) (t .before .has-form3 .ensures) (t .if3 .taken),
-      sym (c .before .field-number4 .ensures),
-    )
+    let p = c .before .before in
+    let q = p .before .before .before in
+    let r = q .before .before .before in
+    rw (not-in r, not-end q, form (r .before .before .before) 2 waitWord (p .before .has-form3 .ensures) (p .if3 .taken), sym (c .before .field-number4 .ensures))
     (c .waiting .ensures)
 
 returns-4 : tie.Need-returns-4
 unfolding commandIn
 returns-4 c =
     let q = c .before .before .before in
-    let p = q .before .before .before in
-    let read = p .before .before .before in
-    let line = read .before .before .before .args .line .now in
-    rw (
-      form-said line 3 inWord (read .before .field-count .ensures) (read .field .ensures) (p .before .has-form .ensures) (p .if1 .left),
-      form-said line 2 endWord (read .before .field-count .ensures) (read .field .ensures) (q .before .has-form2 .ensures) (q .if2 .left),
-      form-said line 2 waitWord (read .before .field-count .ensures) (read .field .ensures) (c .before .has-form3 .ensures) (c .if3 .left),
-    )
+    let r = q .before .before .before in
+    rw (not-in r, not-end q, form (r .before .before .before) 2 waitWord (c .before .has-form3 .ensures) (c .if3 .left))
 
 pub read-later-spec : {M : Type 1} → statement M
 read-later-spec =
-    tie.close
-    (tie.spec
-    field-count-requires
-    field-requires
-    slice-aggregate-has-form
-    has-form-requires
-    field-number-requires
-    field-number-requires-2
-    submission-requires
-    returns
-    slice-aggregate-has-form-2
-    has-form-requires-2
-    field-number-requires-3
-    completion-requires
-    returns-2
-    slice-aggregate-has-form-3
-    has-form-requires-3
-    field-number-requires-4
-    waiting-requires
-    returns-3
+    tie.close (tie.spec (λ c κs. search needs) (λ c κs. search needs) (λ c. search needs) (λ c κs. search needs) (λ c κs. search needs)
+    (λ c κs. search needs) (λ c κs. search needs) returns (λ c. search needs) (λ c κs. search needs) (λ c κs. search needs)
+    (λ c κs. search needs) returns-2 (λ c. search needs) (λ c κs. search needs) (λ c κs. search needs) (λ c κs. search needs) returns-3
     returns-4)
