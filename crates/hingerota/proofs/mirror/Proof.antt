@@ -18,36 +18,9 @@ Inv-loop s jobs₀ i₀ jobs i = (i ≤ 64) × (jobs ≡ copied mirrorJob unused
 abbrev μ-loop : tie.MeasureT-loop
 μ-loop s jobs₀ i₀ jobs i = 64 - i
 
-unused-requires : tie.Need-unused-requires Inv-loop μ-loop
-unused-requires c κs = search needs
-
-mirror-job-requires : tie.Need-mirror-job-requires Inv-loop μ-loop
-mirror-job-requires c κs = search needs
-
 loop-holds : tie.Need-loop-holds Inv-loop μ-loop
 unfolding pad
 loop-holds c = (search needs, rw (c .mirror-job .ensures, c .before .unused .ensures))
-
-mul-j : tie.Need-mul-j Inv-loop μ-loop
-mul-j c = search needs
-
-element-copy-out-j : tie.Need-element-copy-out-j Inv-loop μ-loop
-element-copy-out-j c = search needs
-
-mirror-job-requires-2 : tie.Need-mirror-job-requires-2 Inv-loop μ-loop
-mirror-job-requires-2 c κs = search needs
-
-mul-jobs : tie.Need-mul-jobs Inv-loop μ-loop
-mul-jobs c = search needs
-
-array-set-from-jobs : tie.Need-array-set-from-jobs Inv-loop μ-loop
-array-set-from-jobs c = search needs
-
-add-i : tie.Need-add-i Inv-loop μ-loop
-add-i c = search needs
-
-loop-less : tie.Need-loop-less Inv-loop μ-loop
-loop-less c = search needs
 
 loop-again : tie.Need-loop-again Inv-loop μ-loop
 loop-again c =
@@ -56,9 +29,6 @@ loop-again c =
     let xs = s .args .t1 .jobs in
     let len = whole (s .args .t1) (s .good .0) in
     (omega arith, ap (λ (js : List _). set js (l .i) (c .mirror-job2 .result)) (l .inv .1) ∙ copied-more mirrorJob unused noRecord 64 xs (l .i) (c .mirror-job2 .result) len (omega arith) (c .mirror-job2 .ensures))
-
-kind-number-requires : tie.Need-kind-number-requires Inv-loop μ-loop
-kind-number-requires c κs = search needs
 
 returns : tie.Need-returns Inv-loop μ-loop
 unfolding mirror
@@ -71,20 +41,6 @@ returns c =
 
 pub mirror-spec : {M : Type 1} → statement M
 mirror-spec =
-    tie.close
-    (tie.spec
-    Inv-loop
-    μ-loop
-    unused-requires
-    mirror-job-requires
-    loop-holds
-    mul-j
-    element-copy-out-j
-    mirror-job-requires-2
-    mul-jobs
-    array-set-from-jobs
-    add-i
-    loop-less
-    loop-again
-    kind-number-requires
+    tie.close (tie.spec Inv-loop μ-loop (λ c κs. search needs) (λ c κs. search needs) loop-holds (λ c. search needs) (λ c. search needs)
+    (λ c κs. search needs) (λ c. search needs) (λ c. search needs) (λ c. search needs) (λ c. search needs) loop-again (λ c κs. search needs)
     returns)

@@ -4,14 +4,8 @@ use borrow.Author.Needs.{needs}
 use Rattle.hingerota.proofs.profile.Statement.{statement}
 use Rattle.hingerota.proofs.profile.Tie as tie
 
-read-requires : tie.Need-read-requires
-read-requires c κs = search needs
-
 profile-requires : tie.Need-profile-requires
 profile-requires c κs = read-premise _ _ (c .read .ensures) (c .before .pre)
-
-mirror-shown-requires : tie.Need-mirror-shown-requires
-mirror-shown-requires c κs = search needs
 
 returns : tie.Need-returns
 returns c =
@@ -19,4 +13,4 @@ returns c =
     profile-given (s .args .d) (s .args .room) _ (c .before .before .profile .result) _ (c .before .before .before .read .ensures) (c .before .before .profile .ensures) (rw (c .before .mirror-shown .ensures))
 
 pub profile-spec : {M : Type 1} → statement M
-profile-spec = tie.close (tie.spec read-requires profile-requires mirror-shown-requires returns)
+profile-spec = tie.close (tie.spec (λ c κs. search needs) profile-requires (λ c κs. search needs) returns)

@@ -2,11 +2,8 @@ use borrow.Author.Needs.{needs}
 use Rattle.hingerota.proofs.read_record.Statement.{statement}
 use Rattle.hingerota.proofs.read_record.Tie as tie
 
-state-of-requires : tie.Need-state-of-requires
-state-of-requires c κs = search needs
-
 returns : tie.Need-returns
 returns c = rw (c .state-of .ensures)
 
 pub read-record-spec : {M : Type 1} → statement M
-read-record-spec = tie.close (tie.spec state-of-requires returns)
+read-record-spec = tie.close (tie.spec (λ c κs. search needs) returns)

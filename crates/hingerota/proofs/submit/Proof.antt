@@ -4,17 +4,11 @@ use borrow.Author.Needs.{needs}
 use Rattle.hingerota.proofs.submit.Statement.{statement}
 use Rattle.hingerota.proofs.submit.Tie as tie
 
-read-requires : tie.Need-read-requires
-read-requires c κs = search needs
-
 submit-requires : tie.Need-submit-requires
 submit-requires c κs = read-premise _ _ (c .read .ensures) (c .before .pre)
-
-mirror-outcome-requires : tie.Need-mirror-outcome-requires
-mirror-outcome-requires c κs = search needs
 
 returns : tie.Need-returns
 returns c = let s = c .before .before .before in call-given (s .args .d) (calls.submit (s .args .nodes) (s .args .estimate)) _ _ _ (c .before .before .read .ensures) (c .before .submit .ensures) (c .mirror-outcome .ensures)
 
 pub submit-spec : {M : Type 1} → statement M
-submit-spec = tie.close (tie.spec read-requires submit-requires mirror-outcome-requires returns)
+submit-spec = tie.close (tie.spec (λ c κs. search needs) submit-requires (λ c κs. search needs) returns)

@@ -4,17 +4,11 @@ use borrow.Author.Needs.{needs}
 use Rattle.hingerota.proofs.tick.Statement.{statement}
 use Rattle.hingerota.proofs.tick.Tie as tie
 
-read-requires : tie.Need-read-requires
-read-requires c κs = search needs
-
 tick-requires : tie.Need-tick-requires
 tick-requires c κs = read-premise _ _ (c .read .ensures) (c .before .pre)
-
-mirror-outcome-requires : tie.Need-mirror-outcome-requires
-mirror-outcome-requires c κs = search needs
 
 returns : tie.Need-returns
 returns c = let s = c .before .before .before in call-given (s .args .d) calls.tick _ _ _ (c .before .before .read .ensures) (c .before .tick .ensures) (c .mirror-outcome .ensures)
 
 pub tick-spec : {M : Type 1} → statement M
-tick-spec = tie.close (tie.spec read-requires tick-requires mirror-outcome-requires returns)
+tick-spec = tie.close (tie.spec (λ c κs. search needs) tick-requires (λ c κs. search needs) returns)

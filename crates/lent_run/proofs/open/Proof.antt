@@ -5,14 +5,8 @@ use borrow.Author.Needs.{needs}
 use Rattle.lent_run.proofs.open.Statement.{statement}
 use Rattle.lent_run.proofs.open.Tie as tie
 
-open-requires : tie.Need-open-requires
-open-requires c κs = search needs
-
-print-opened-requires : tie.Need-print-opened-requires
-print-opened-requires c κs = search needs
-
 returns : tie.Need-returns
 returns c = opened-held _ _ (c .before .before .«open» .ensures)
 
 pub open-spec : {M : Type 1} → statement M
-open-spec = tie.close (tie.spec open-requires print-opened-requires returns)
+open-spec = tie.close (tie.spec (λ c κs. search needs) (λ c κs. search needs) returns)

@@ -15,14 +15,8 @@ Inv-loop script to page₀ p₀ page p = Ready script p × (length page ≡ leng
 abbrev μ-loop : tie.MeasureT-loop
 μ-loop script to page₀ p₀ page p = weight script p
 
-begin-requires : tie.Need-begin-requires Inv-loop μ-loop
-begin-requires c κs = search needs
-
 loop-holds : tie.Need-loop-holds Inv-loop μ-loop
 loop-holds c = (subst (Ready (c .before .before .before .args .script .now)) (sym (c .begin .ensures)) (begin-ready (c .before .before .before .args .script .now)), refl)
-
-goes-on-requires : tie.Need-goes-on-requires Inv-loop μ-loop
-goes-on-requires c κs = search needs
 
 fill-requires : tie.Need-fill-requires Inv-loop μ-loop
 fill-requires c κs = (c .before .before .before .loop .inv .0, omega (arith, c .before .before .before .loop .inv .1, c .before .before .before .before .before .before .before .pre))
@@ -33,14 +27,8 @@ slice-reshare-prefix-write-all c = c .before .before .fill .ensures .inside
 slice-aggregate-write-all : tie.Need-slice-aggregate-write-all Inv-loop μ-loop
 slice-aggregate-write-all c = sym (length-take-le _ _ (c .before .before .before .fill .ensures .inside))
 
-write-all-requires : tie.Need-write-all-requires Inv-loop μ-loop
-write-all-requires c κs = search needs
-
 same-length : tie.Need-same-length Inv-loop μ-loop
 same-length c = c .before .before .before .before .before .fill .kept .1 .1 .0 ∙ c .before .before .before .before .before .before .before .before .before .loop .inv .1
-
-returns : tie.Need-returns Inv-loop μ-loop
-returns c = search needs
 
 loop-less : tie.Need-loop-less Inv-loop μ-loop
 loop-less c = c .before .before .before .before .before .before .fill .ensures .less (sym (c .before .before .before .before .before .before .before .before .before .goes-on .ensures) ∙ c .before .before .before .before .before .before .before .before .if1 .taken)
@@ -51,25 +39,8 @@ loop-again c = (c .before .before .before .before .before .before .fill .ensures
 same-length-2 : tie.Need-same-length-2 Inv-loop μ-loop
 same-length-2 c = c .before .before .loop .inv .1
 
-returns-2 : tie.Need-returns-2 Inv-loop μ-loop
-returns-2 c = search needs
-
 pub play-spec : {M : Type 1} → statement M
 play-spec =
-    tie.close
-    (tie.spec
-    Inv-loop
-    μ-loop
-    begin-requires
-    loop-holds
-    goes-on-requires
-    fill-requires
-    slice-reshare-prefix-write-all
-    slice-aggregate-write-all
-    write-all-requires
-    same-length
-    returns
-    loop-less
-    loop-again
-    same-length-2
-    returns-2)
+    tie.close (tie.spec Inv-loop μ-loop (λ c κs. search needs) loop-holds (λ c κs. search needs) fill-requires
+    slice-reshare-prefix-write-all slice-aggregate-write-all (λ c κs. search needs) same-length (λ c. search needs) loop-less loop-again
+    same-length-2 (λ c. search needs))

@@ -25,18 +25,6 @@ loop-holds c =
     let a = c .before .args in
     (search needs, search needs, ap (λ (m : ℕ). getD (fieldsOf (a .line .now)) m []) (sub-zero (a .k)))
 
-find-byte-requires : tie.Need-find-byte-requires Inv-loop μ-loop
-find-byte-requires c κs = search needs
-
-sub-result : tie.Need-sub-result Inv-loop μ-loop
-sub-result c = search needs
-
-part-result-start : tie.Need-part-result-start Inv-loop μ-loop
-part-result-start c = search needs
-
-part-result-end : tie.Need-part-result-end Inv-loop μ-loop
-part-result-end c = search needs
-
 returns : tie.Need-returns Inv-loop μ-loop
 returns c =
     let p = c .before .before .before .before in
@@ -52,12 +40,6 @@ add-start c =
     let p = c .before .before .before in
     omega (arith, upto-inside 9 (p .before .before .args .line .now) (p .loop .start) (omega arith))
 
-add-n : tie.Need-add-n Inv-loop μ-loop
-add-n c = search needs
-
-loop-less : tie.Need-loop-less Inv-loop μ-loop
-loop-less c = search needs
-
 loop-again : tie.Need-loop-again Inv-loop μ-loop
 loop-again c =
     let p = c .before .before .before in
@@ -70,15 +52,6 @@ loop-again c =
     let ne : (r .result ≡ length line) → ⊥ = c .if1 .left in
     let lt : l .start + length (upto 9 (drop (l .start) line)) < length line = omega arith in
     (omega arith, omega arith, rw e (past-tab line (l .start) (a .k) (l .n) (omega arith) lt) ∙ l .inv .2)
-
-find-byte-requires-2 : tie.Need-find-byte-requires-2 Inv-loop μ-loop
-find-byte-requires-2 c κs = search needs
-
-sub-result-2 : tie.Need-sub-result-2 Inv-loop μ-loop
-sub-result-2 c = search needs
-
-part-result-start-2 : tie.Need-part-result-start-2 Inv-loop μ-loop
-part-result-start-2 c = search needs
 
 part-result-end-2 : tie.Need-part-result-end-2 Inv-loop μ-loop
 part-result-end-2 c =
@@ -98,22 +71,6 @@ returns-2 c =
 
 pub field-spec : {M : Type 1} → statement M
 field-spec =
-    tie.close
-    (tie.spec
-    Inv-loop
-    μ-loop
-    loop-holds
-    find-byte-requires
-    sub-result
-    part-result-start
-    part-result-end
-    returns
-    add-start
-    add-n
-    loop-less
-    loop-again
-    find-byte-requires-2
-    sub-result-2
-    part-result-start-2
-    part-result-end-2
-    returns-2)
+    tie.close (tie.spec Inv-loop μ-loop loop-holds (λ c κs. search needs) (λ c. search needs) (λ c. search needs) (λ c. search needs)
+    returns add-start (λ c. search needs) (λ c. search needs) loop-again (λ c κs. search needs) (λ c. search needs) (λ c. search needs)
+    part-result-end-2 returns-2)

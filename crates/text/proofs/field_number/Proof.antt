@@ -5,14 +5,8 @@ use Rattle.text.specs.Numbers.{numberOf}
 use Rattle.text.proofs.field_number.Statement.{statement}
 use Rattle.text.proofs.field_number.Tie as tie
 
-field-requires : tie.Need-field-requires
-field-requires c κs = search needs
-
-number-requires : tie.Need-number-requires
-number-requires c κs = search needs
-
 returns : tie.Need-returns
 returns c = c .number .ensures ∙ ap numberOf (c .before .field .ensures)
 
 pub field-number-spec : {M : Type 1} → statement M
-field-number-spec = tie.close (tie.spec field-requires number-requires returns)
+field-number-spec = tie.close (tie.spec (λ c κs. search needs) (λ c κs. search needs) returns)

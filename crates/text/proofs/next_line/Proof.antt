@@ -5,12 +5,9 @@ use borrow.Author.Needs.{needs}
 use Rattle.text.proofs.next_line.Statement.{statement}
 use Rattle.text.proofs.next_line.Tie as tie
 
-find-byte-requires : tie.Need-find-byte-requires
-find-byte-requires c κs = search needs
-
 returns : tie.Need-returns
 unfolding lineAt
 returns c = rw (c .find-byte .ensures)
 
 pub next-line-spec : {M : Type 1} → statement M
-next-line-spec = tie.close (tie.spec find-byte-requires returns)
+next-line-spec = tie.close (tie.spec (λ c κs. search needs) returns)

@@ -15,17 +15,11 @@ returns-2 : tie.Need-returns-2
 unfolding numberOf
 returns-2 c = rw (le-leb 1 _ (c .before .if1 .left), lt-leb _ 7 (c .if2 .taken))
 
-shared-slice-read-if4 : tie.Need-shared-slice-read-if4
-shared-slice-read-if4 c = search needs
-
 returns-3 : tie.Need-returns-3
 unfolding numberOf
 returns-3 c =
     let p = c .before .before .before in
     rw (le-leb 1 _ (p .before .if1 .left), le-leb _ 7 (p .if2 .left), lt-ltb 1 _ (c .before .before .if3 .taken), eq-eqb _ 48 (c .if4 .taken))
-
-digits-requires : tie.Need-digits-requires
-digits-requires c κs = search needs
 
 returns-4 : tie.Need-returns-4
 unfolding numberOf
@@ -38,6 +32,4 @@ returns-4 c =
     (c .before .if3 .came))
 
 pub number-spec : {M : Type 1} → statement M
-number-spec =
-    tie.close
-    (tie.spec returns returns-2 shared-slice-read-if4 returns-3 digits-requires returns-4)
+number-spec = tie.close (tie.spec returns returns-2 (λ c. search needs) returns-3 (λ c κs. search needs) returns-4)

@@ -25,12 +25,6 @@ Inv-loop out₀ at v end rest₀ i₀ out rest i = Inv out₀ at v out rest i
 abbrev μ-loop : tie.MeasureT-loop
 μ-loop out₀ at v end rest₀ i₀ out rest i = rest
 
-number-len-requires : tie.Need-number-len-requires Inv-loop μ-loop
-number-len-requires c κs = search needs
-
-add-end : tie.Need-add-end Inv-loop μ-loop
-add-end c = search needs
-
 sub-i : tie.Need-sub-i Inv-loop μ-loop
 sub-i c = omega (arith, decimal-some (c .before .before .args .v))
 
@@ -39,20 +33,8 @@ loop-holds c =
     let some = decimal-some (c .before .before .args .v) in
     record { size = refl; place = omega arith; inside = omega arith; written = refl }
 
-cast-out : tie.Need-cast-out Inv-loop μ-loop
-cast-out c = search needs
-
-add-out : tie.Need-add-out Inv-loop μ-loop
-add-out c = search needs
-
-slice-write-out : tie.Need-slice-write-out Inv-loop μ-loop
-slice-write-out c = search needs
-
 sub-i-2 : tie.Need-sub-i-2 Inv-loop μ-loop
 sub-i-2 c = omega (arith, decimal-length (c .before .loop .rest) (c .loop-test .taken), decimal-some (c .before .loop .rest / 10))
-
-loop-less : tie.Need-loop-less Inv-loop μ-loop
-loop-less c = search needs
 
 loop-again : tie.Need-loop-again Inv-loop μ-loop
 loop-again c =
@@ -74,15 +56,6 @@ loop-again c =
           ∙ l .inv .written;
     }
 
-cast-out-2 : tie.Need-cast-out-2 Inv-loop μ-loop
-cast-out-2 c = search needs
-
-add-out-2 : tie.Need-add-out-2 Inv-loop μ-loop
-add-out-2 c = search needs
-
-slice-write-out-2 : tie.Need-slice-write-out-2 Inv-loop μ-loop
-slice-write-out-2 c = search needs
-
 same-length : tie.Need-same-length Inv-loop μ-loop
 same-length c = simp length-set (c .before .loop .inv .size)
 
@@ -98,22 +71,6 @@ returns c =
 
 pub put-number-spec : {M : Type 1} → statement M
 put-number-spec =
-    tie.close
-    (tie.spec
-    Inv-loop
-    μ-loop
-    number-len-requires
-    add-end
-    sub-i
-    loop-holds
-    cast-out
-    add-out
-    slice-write-out
-    sub-i-2
-    loop-less
-    loop-again
-    cast-out-2
-    add-out-2
-    slice-write-out-2
-    same-length
+    tie.close (tie.spec Inv-loop μ-loop (λ c κs. search needs) (λ c. search needs) sub-i loop-holds (λ c. search needs) (λ c. search needs)
+    (λ c. search needs) sub-i-2 (λ c. search needs) loop-again (λ c. search needs) (λ c. search needs) (λ c. search needs) same-length
     returns)
