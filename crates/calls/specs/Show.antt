@@ -20,18 +20,19 @@ use Rattle.scheduler.specs.Model.{Model, view}
 use Rattle.scheduler.specs.Answers.{accepts, verdict}
 use Rattle.profile.specs.declared.Profile.{Profile}
 use Rattle.profile.specs.Stored.{places, noPoint, stored}
-use Rattle.history.specs.Calls as calls
 use Rattle.conservative_rules.specs.Conservative as conservative
-use Rattle.easy_rules.specs.Easy as easy
-use Rattle.guarantees.specs.Rules.{rulesOf, call}
 use Rattle.guarantees.specs.Premise.{Premise, premise-of}
 use Rattle.planning.specs.Slots.{points-fit}
 use Rattle.calls.specs.declared.Shown.{Shown}
 use Rattle.calls.specs.declared.ProfileOutcome.{ProfileOutcome}
 
--- what a list with so much room is refused by: as in the history of calls
+-- what a list with so much room is refused by: the whole of its answer in a history of calls (`unchanged`)
+abbrev refusalBy : Kind → Model → ℕ → Refusal
+refusalBy Conservative m room = conservative.profileRefusal m room
+refusalBy Easy m room = refusal.None
+
 abbrev pub profileRefusal : Model → ℕ → Refusal
-profileRefusal m room = call m (calls.profile room) .reply .refusal
+profileRefusal m room = refusalBy (m .settings .kind) m room
 
 abbrev pub pointsBy : Kind → Model → List Point
 pointsBy Conservative m = conservative.points m
@@ -61,10 +62,10 @@ pointAt p i = getD (p .points) i noPoint
 
 -- the points written fit the list
 pub written-fit : (m : Model) (room : ℕ) → length (written m room) ≤ room
-unfolding written conservative.call conservative.profileRefusal easy.call verdict
+unfolding written conservative.profileRefusal verdict
 written-fit m room = by (m .settings .kind)
   where
-    by : (k : Kind) → length (cond (accepts (rulesOf k m (calls.profile room) .reply .refusal)) (pointsBy k m) []) ≤ room
+    by : (k : Kind) → length (cond (accepts (refusalBy k m room)) (pointsBy k m) []) ≤ room
     by Conservative = let n = length (conservative.points m) in case (ltb room n) (λ e. rw e (omega arith)) (λ e. rw e (ltb-false room n e))
     by Easy = omega arith
 
@@ -94,16 +95,15 @@ all-shown p room h = rw (le-ltb room (p .count) h)
 
 module _ (d : Scheduler) (room : ℕ) where
   abbrev by : Kind → ProfileOutcome
-  by k = let r = rulesOf k (view d) (calls.profile room) .reply .refusal in showing r (cond (accepts r) (pointsBy k (view d)) [])
+  by k = let r = refusalBy k (view d) room in showing r (cond (accepts r) (pointsBy k (view d)) [])
 
   by-kind : (k : Kind) → d .kind ≡ k → by k ≡ profileOutcome (view d) room
   unfolding written view
   by-kind k e = ap by (sym e)
 
   pub show-conservative : d .kind ≡ Conservative → showIn (stored (conservative.points (view d))) room ≡ profileOutcome (view d) room
-  unfolding showIn showing stored conservative.call conservative.profileRefusal verdict
+  unfolding showIn showing stored conservative.profileRefusal verdict
   show-conservative e = case (ltb room (length (conservative.points (view d)))) (λ q. rw q) (λ q. rw q) ∙ by-kind Conservative e
 
   pub show-easy : d .kind ≡ Easy → showing refusal.None [] ≡ profileOutcome (view d) room
-  unfolding easy.call
   show-easy e = by-kind Easy e

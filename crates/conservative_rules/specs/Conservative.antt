@@ -23,7 +23,7 @@ use Rattle.scheduler.specs.Table.{ticketsOf, staying}
 use Rattle.scheduler.specs.Model.{Model, joined}
 use Rattle.scheduler.specs.Answers.{Result, verdict, refuse}
 use Rattle.scheduler.specs.Refusals.{judged, submitTests, completeRefusal, tickRefusal}
-use Rattle.history.specs.Calls.{Rules, submit, complete, tick, profile as profileCall, refusedWait}
+use Rattle.history.specs.Calls.{Rules, submit, complete, tick, unchanged}
 
 -- a running job holds its nodes from its start, a waiting one from its planned start on, until they are free again
 abbrev pub span : Settings → Job → Span
@@ -153,5 +153,4 @@ unfoldable pub call : Rules
 call m (submit n e) = let s = planned m n e in judged m (submitRefusal m n e s) (submitted m n e s)
 call m (complete t) = judged m (completeRefusal m t) (completed m t)
 call m tick = judged m (tickRefusal m) (ticked m)
-call m (profileCall room) = refuse m (profileRefusal m room)
-call m (refusedWait r) = refuse m r
+call m (unchanged r) = refuse m r

@@ -32,7 +32,8 @@ use Rattle.scheduler.specs.Answers.{Result, verdict, accepts, refuse}
 use Rattle.scheduler.specs.Refusals.{judged, submitTests, completeRefusal, tickRefusal}
 use Rattle.jobs.specs.Order.{Asc, asc-keep, asc-one}
 use Rattle.jobs.specs.Sound.{SoundJob}
-use Rattle.history.specs.Calls.{Call, submit, complete, tick, profile, refusedWait}
+use Rattle.history.specs.Calls.{Call, submit, complete, tick, unchanged}
+use Rattle.history.specs.News.{newsOf}
 use Rattle.history.specs.Tickets.{nextAfter}
 use Rattle.conservative_rules.specs.Conservative.{span, spans, planned, newJob, withNew, points, maxPoints, submitRefusal, submitted, begun, advanced, moved, completed, turned, ticked, profileRefusal, call}
 use Rattle.conservative_rules.specs.Computed.{startOf, promiseOf}
@@ -254,7 +255,7 @@ pub record Still (j k : Job) : Type 0 where
 
 outcome-still : (m : Model) {c : Call} {r : Result} (j : Job) → Outcome m c r → In j (m .jobs) → isWaiting j ≡ true → (k : Job) × In k (r .model .jobs) × Still j k
 unfolding submitted advanced
-outcome-still m j (idle c r p q) i w = (j, i, record { ticket = refl; start = omega arith; promise = refl })
+outcome-still m j (idle c r n) i w = (j, i, record { ticket = refl; start = omega arith; promise = refl })
 outcome-still m j (joins n e f l) i w = (j, in-left _ i, record { ticket = refl; start = omega arith; promise = refl })
 outcome-still m j (leaves c clock s after l g p q) i w =
     let z = zip-left (Follows clock) (staying s (m .jobs)) after (g .follow) (in-keep (λ (j : Job). not (picks s j)) i (ap not (waits-stays m clock s l j w))) in
@@ -301,7 +302,7 @@ begun-rises lo (j ∷ js) (k ∷ ks) a =
 
 outcome-rises : (m : Model) {c : Call} {r : Result} → Valid m → Outcome m c r → Rising 1 (r .reply .ended) × Rising 1 (r .reply .started)
 unfolding submitted advanced
-outcome-rises m v (idle c r p q) = (tt, tt)
+outcome-rises m v (idle c r n) = (tt, tt)
 outcome-rises m v (joins n e f l) = (tt, case (eqb (planned m n e) (m .clock)) (λ q. rw q (v .sound .next-from, tt)) (λ q. rw q tt))
 outcome-rises m v (leaves c clock s after l g p q) = (
   tickets-rise 1 (keep (picks s) (m .jobs)) (asc-keep (picks s) 1 (m .jobs) (v .sound .asc)),
@@ -333,7 +334,7 @@ begun-waited t (j ∷ js) (k ∷ ks) e =
 
 outcome-waited : (m : Model) {c : Call} {r : Result} (t : ℕ) → Outcome m c r → elem t (r .reply .started) ≡ true → Waited m t ⊎ (t ≡ r .reply .ticket)
 unfolding submitted advanced
-outcome-waited m t (idle c r p q) e = true-false false e refl
+outcome-waited m t (idle c r n) e = true-false false e refl
 outcome-waited m t (joins n e f l) x =
     case (eqb (planned m n e) (m .clock))
     (λ q. case (eqb t (m .next)) (λ y. inr (eqb-true t (m .next) y)) (λ y. true-false false (rw (q, y) at x) refl))
@@ -346,15 +347,17 @@ pub started-waited : (m : Model) (c : Call) (t : ℕ) → Valid m → elem t (ca
 started-waited m c t v e = outcome-waited m t (outcome m c v) e
 
 -- "A refused intake uses none"
-pub next-is : (m : Model) (c : Call) → call m c .model .next ≡ nextAfter c (call m c .reply .refusal) (m .next)
+abbrev Given : Model → Call → Result → Type 0
+Given m c x = x .model .next ≡ nextAfter (newsOf c (x .reply) .came) (m .next)
+
+pub next-is : (m : Model) (c : Call) → Given m c (call m c)
 unfolding call submitted completed ticked advanced
 next-is m (submit n e) =
     let s = planned m n e in
-    judged-by (λ (x : Result). x .model .next ≡ nextAfter (submit n e) (x .reply .refusal) (m .next)) m (submitRefusal m n e s) (submitted m n e s) (λ a. refl) (λ a. rw a)
-next-is m (complete t) = judged-by (λ (x : Result). x .model .next ≡ m .next) m (completeRefusal m t) (completed m t) (λ a. refl) (λ a. refl)
-next-is m tick = judged-by (λ (x : Result). x .model .next ≡ m .next) m (tickRefusal m) (ticked m) (λ a. refl) (λ a. refl)
-next-is m (profile room) = refl
-next-is m (refusedWait w) = refl
+    judged-by (Given m (submit n e)) m (submitRefusal m n e s) (submitted m n e s) (λ a. refl) (λ a. rw a)
+next-is m (complete t) = judged-by (Given m (complete t)) m (completeRefusal m t) (completed m t) (λ a. refl) (λ a. rw a)
+next-is m tick = judged-by (Given m tick) m (tickRefusal m) (ticked m) (λ a. refl) (λ a. rw a)
+next-is m (unchanged w) = case (accepts w) (λ a. rw a) (λ a. rw a)
 
 -- ## Profile
 
@@ -374,8 +377,7 @@ unfolding call submitted completed ticked advanced
 refused-is m (submit n e) = let s = planned m n e in judged-refused m (submitRefusal m n e s) (submitted m n e s) refl
 refused-is m (complete t) = judged-refused m (completeRefusal m t) (completed m t) refl
 refused-is m tick = judged-refused m (tickRefusal m) (ticked m) refl
-refused-is m (profile room) = λ a. refl
-refused-is m (refusedWait w) = λ a. refl
+refused-is m (unchanged w) = λ a. refl
 
 -- 8 is "none known": 64 live jobs make at most 129 points, so the test that comes after "64 stacks live" never refuses
 few-points : (m : Model) (n e s : ℕ) → length (m .jobs) < limit.slots → length (points (withNew m n e s)) ≤ maxPoints
@@ -418,6 +420,6 @@ unfolding call ticked advanced tickRefusal
 tick-refusal m = judged-refusal m (tickRefusal m) (ticked m) refl
 
 -- 10: "the lent list .. is shorter than what goes into it"
-pub profile-refusal : (m : Model) (room : ℕ) → call m (profile room) .reply .refusal ≡ verdict ((ltb room (length (points m)), refusal.TooShort) ∷ [])
-unfolding call profileRefusal
+pub profile-refusal : (m : Model) (room : ℕ) → profileRefusal m room ≡ verdict ((ltb room (length (points m)), refusal.TooShort) ∷ [])
+unfolding profileRefusal
 profile-refusal m room = refl

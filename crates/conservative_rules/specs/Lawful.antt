@@ -3,15 +3,15 @@
 -- Assumes nothing.
 use Prim.Native.Nat.{ℕ, suc, min, _≤_, _<_}
 use native.Mathlib.Omega.{arith}
-use mathlib.Core.Path.{_≡_, refl, sym, ap, _∙_}
+use mathlib.Core.Path.{_≡_, refl, sym, ap, subst, _∙_}
 use mathlib.Core.Bool.{true, false, not, _&&_, cond}
-use mathlib.Core.List.{List, [], _∷_, _++_, map, foldr, map-append, append-nil}
+use mathlib.Core.List.{List, [], _∷_, map, foldr}
 use mathlib.Core.Logic.{_⊎_, inl, inr}
 use mathlib.Core.Option.{none, some}
 use lib.Dec.{eqb}
-use borrow.Author.Tests.{eqb-true, eq-eqb, ne-eqb, not-true}
+use borrow.Author.Tests.{eqb-true, eq-eqb, ne-eqb}
 use Rattle.lists.specs.Tests.{case, true-false}
-use Rattle.lists.specs.Lists.{keep, elem, In, here, there, in-left, in-right, keep-in, in-keep, keep-none, keep-all, map-in, map-same}
+use Rattle.lists.specs.Lists.{keep, elem, In, here, there, in-nil, in-cons, in-left, in-right, keep-in, in-keep}
 use Rattle.scheduler.specs.declared.Kind.the-variants.{Conservative}
 use Rattle.scheduler.specs.declared.State.{State}
 use Rattle.scheduler.specs.declared.State.the-variants.{Unused, Waiting, Running}
@@ -20,13 +20,14 @@ use Rattle.scheduler.specs.declared.Select.{Select}
 use Rattle.scheduler.specs.Jobs.{isWaiting, isRunning, waiting?, running?, picks}
 use Rattle.scheduler.specs.Table.{ticketsOf, staying}
 use Rattle.scheduler.specs.Model.{Model}
-use Rattle.scheduler.specs.Answers.{Reply, Result, accepts, refusing}
-use Rattle.jobs.specs.Order.{Asc, asc-in, asc-keep, elem-picked}
+use Rattle.scheduler.specs.Answers.{Result, refusing}
+use Rattle.jobs.specs.Order.{Asc, asc-in, asc-keep}
 use Rattle.jobs.specs.Sound.{Leaving, leaving-runs, all-live}
 use Rattle.history.specs.Calls.{Call, submit}
-use Rattle.history.specs.Book.{Fate, running, fateAfter, clockAfter, lowest}
-use Rattle.history.specs.Lawful.{Shown, shown, fateBy, isLive, remark, shownAfter, comers, Kept, Lawful}
-use Rattle.history.specs.Leaving.{tells-by}
+use Rattle.history.specs.News.{Newcomer, News, newsOf, clockAfter}
+use Rattle.history.specs.Book.{running, fateAfter, lowest}
+use Rattle.history.specs.Lawful.{shown, fateBy, remark, Tells, by, Kept, For, Lawful}
+use Rattle.history.specs.Leaving.{shown-with, lives, ends-lives, tells-leave, remark-same, tells-stay, tells-nothing, kept-by}
 use Rattle.conservative_rules.specs.Conservative.{planned, stateAt, newJob, submitted, begun, advanced, call}
 use Rattle.conservative_rules.specs.Valid.{Valid, Zip, zip-map, zip-left, Follows, stays, moves, follows-ticket, follows-start, follows-begins, Moved, Outcome, idle, joins, leaves, outcome, call-valid}
 
@@ -67,48 +68,27 @@ begun-tells R lo (j ∷ js) (k ∷ ks) a z =
 
 -- ## The answer tells what has changed
 
--- a job whose ticket an answer does not name is shown as it was
-module _ (c : ℕ) (r : Reply) where
-  fate-same : (t : ℕ) (s : State) (b : ℕ) → elem t (r .started) ≡ false → elem t (r .ended) ≡ false → fateAfter c r t (fateBy s b) ≡ fateBy s b
-  fate-same t Unused b p q = rw p
-  fate-same t Waiting b p q = rw p
-  fate-same t Running b p q = rw q
-
-  -- one that waits and starts, or goes on waiting
-  fate-placed : (t : ℕ) (s : State) (b d : ℕ) → waiting? s ≡ true → elem t (r .started) ≡ running? (stateAt c d) → fateBy (stateAt c d) d ≡ fateAfter c r t (fateBy s b)
+module _ (c : ℕ) (e : News) where
+  -- a job that waits and starts, or goes on waiting
+  fate-placed : (t : ℕ) (s : State) (b d : ℕ) → waiting? s ≡ true → elem t (e .started) ≡ running? (stateAt c d)
+      → fateBy (stateAt c d) d ≡ fateAfter c e t (fateBy s b)
   fate-placed t Unused b d w p = true-false false w refl
   fate-placed t Waiting b d w p =
-      case (eqb d c) (λ e. rw (p, e) (ap running (eqb-true d c e))) (λ e. rw (p, e))
+      case (eqb d c) (λ q. rw (p, q) (ap running (eqb-true d c q))) (λ q. rw (p, q))
   fate-placed t Running b d w p = true-false false w refl
 
-  shown-with : (x : Shown) (f : Fate) → f ≡ x .fate → _≡_ {A = Shown} (record { ticket = x .ticket; nodes = x .nodes; promise = x .promise; fate = f }) x
-  shown-with x f e = λ i. record { ticket = x .ticket; nodes = x .nodes; promise = x .promise; fate = e i }
+  remark-follows : (j k : Job) → Follows c j k → elem (j .ticket) (e .started) ≡ (isWaiting j && isRunning k) → lives c e j ≡ true
+      → shown k ≡ remark c e (shown j)
+  remark-follows j k (stays w) p q = sym (remark-same c e j (rw w at p) q)
+  remark-follows j k (moves s w a b) p q = shown-with (remark c e (shown j)) _ (fate-placed (j .ticket) (j .state) (j .start) s w (rw w at p))
 
-  remark-same : (j : Job) → elem (j .ticket) (r .started) ≡ false → elem (j .ticket) (r .ended) ≡ false → remark c r (shown j) ≡ shown j
-  remark-same j p q = shown-with (shown j) _ (fate-same (j .ticket) (j .state) (j .start) p q)
-
-  remark-follows : (j k : Job) → Follows c j k → elem (j .ticket) (r .started) ≡ (isWaiting j && isRunning k) → elem (j .ticket) (r .ended) ≡ false → shown k ≡ remark c r (shown j)
-  remark-follows j k (stays e) p q = sym (remark-same j (rw e at p) q)
-  remark-follows j k (moves s e a b) p q = shown-with (remark c r (shown j)) _ (fate-placed (j .ticket) (j .state) (j .start) s e (rw e at p))
-
-  remark-all : (js ks : List Job) → Zip (Told (Follows c) (r .started)) js ks → ((j : Job) → In j js → elem (j .ticket) (r .ended) ≡ false) → map shown ks ≡ map (remark c r) (map shown js)
+  remark-all : (js ks : List Job) → Zip (Told (Follows c) (e .started)) js ks → ((j : Job) → In j js → lives c e j ≡ true)
+      → map shown ks ≡ map (remark c e) (map shown js)
   remark-all [] [] z f = refl
   remark-all [] (k ∷ ks) z f = absurd z
   remark-all (j ∷ js) [] z f = absurd z
   remark-all (j ∷ js) (k ∷ ks) z f =
       rw (remark-follows j k (z .0 .0) (z .0 .1) (f j (here refl)), remark-all js ks (z .1) (λ x i. f x (there i)))
-
-  -- where nobody leaves
-  tells-stay : (call : Call) (js more : List Job) → Asc 1 js → r .ended ≡ [] → ((j : Job) → In j js → elem (j .ticket) (r .started) ≡ false)
-      → map shown more ≡ keep isLive (map (remark c r) (comers call r)) → map shown (js ++ more) ≡ shownAfter c r (map shown js ++ comers call r)
-  tells-stay call js more a e f h =
-      let all : keep (λ (j : Job). true) js ≡ js = keep-all (λ (j : Job). true) js (λ j i. refl) in
-      let same : map (remark c r) (map shown js) ≡ map shown js = map-same (remark c r) (map shown js) (λ x i. one x (map-in shown js i)) in
-      tells-by c r call (λ (j : Job). false) js (js ++ more) a (e ∙ sym (ap ticketsOf (keep-none (λ (j : Job). false) js (λ j i. refl))))
-      (λ j q. true-false false q refl) (rw (map-append shown js more, all, same, h))
-    where
-      one : (x : Shown) → (j : Job) × In j js × (x ≡ shown j) → remark c r x ≡ x
-      one x i = rw (i .2) (remark-same (i .0) (f (i .0) (i .1)) (ap (elem (i .0 .ticket)) e))
 
 -- tickets of live jobs are not the one given
 not-new : (s c t n : ℕ) → t < n → elem t (cond (eqb s c) (n ∷ []) []) ≡ false
@@ -128,28 +108,27 @@ module _ (m : Model) (c : ℕ) (s : Select) (ks : List Job) (v : Valid m) (g : M
   pub leaves-told : Zip (Told (Follows c) (begun (staying s (m .jobs)) ks)) (staying s (m .jobs)) ks
   leaves-told = begun-tells (Follows c) 1 (staying s (m .jobs)) ks (asc-keep (λ (j : Job). not (picks s j)) 1 (m .jobs) (v .sound .asc)) (g .follow)
 
-outcome-tells : (m : Model) {c : Call} {r : Result} → Valid m → Outcome m c r
-    → map shown (r .model .jobs) ≡ shownAfter (r .model .clock) (r .reply) (map shown (m .jobs) ++ comers c (r .reply))
+outcome-tells : (m : Model) {c : Call} {r : Result} → Valid m → Outcome m c r → Tells m (newsOf c (r .reply)) (r .model)
 unfolding submitted advanced
-outcome-tells m v (idle c r p q) =
-    rw (append-nil (m .jobs)) at (tells-stay (m .clock) (refusing r) c (m .jobs) [] (v .sound .asc) refl (λ j i. refl) (rw q))
+outcome-tells m v (idle c r n) = tells-nothing m (newsOf c (refusing r)) n
 outcome-tells m v (joins n e f l) =
     let s = planned m n e in
     let now = m .clock in
-    let R = submitted m n e s .reply in
-    tells-stay now R (submit n e) (m .jobs) (newJob m n e s ∷ []) (v .sound .asc) refl
+    tells-stay now (newsOf (submit n e) (submitted m n e s .reply)) (m .jobs) (newJob m n e s ∷ []) refl
     (λ j i. not-new s now (j .ticket) (m .next) (v .sound .below j i))
     (case (eqb s now) (λ q. rw (q, eq-eqb (m .next) (m .next) refl, eqb-true s now q)) (λ q. rw q))
 outcome-tells m v (leaves c clock s after l g p q) =
-    let r = advanced m clock s after .reply in
-    tells-by clock r c (picks s) (m .jobs) after (v .sound .asc) refl (leaving-runs m clock s l)
-    (rw q (remark-all clock r (staying s (m .jobs)) after (leaves-told m clock s after v g) (λ j i. named j (keep-in (λ (j : Job). not (picks s j)) (m .jobs) i))
-    ∙ sym (append-nil (map (remark clock r) (map shown (staying s (m .jobs)))))))
-  where
-    named : (j : Job) → In j (m .jobs) × (not (picks s j) ≡ true) → elem (j .ticket) (ticketsOf (keep (picks s) (m .jobs))) ≡ false
-    named j i = elem-picked (picks s) 1 (m .jobs) j (v .sound .asc) (i .0) ∙ not-true (picks s j) (i .1)
+    let e = newsOf c (advanced m clock s after .reply) in
+    let stay = ends-lives clock e (picks s) (m .jobs) (v .sound .asc) refl (leaving-runs m clock s l) in
+    tells-leave clock e (picks s) (m .jobs) after stay q
+    (remark-all clock e (staying s (m .jobs)) after (leaves-told m clock s after v g)
+    (λ j i. let k = keep-in (λ (j : Job). not (picks s j)) (m .jobs) i in stay j (k .0) ∙ k .1))
 
 -- ## A job on course stays on course
+
+-- after a call the job u has started by b, or goes on waiting and is on course still
+abbrev StartsBy : ℕ → ℕ → Result → Type 0
+StartsBy u b r = ((elem u (r .reply .started) ≡ true) × (r .model .clock ≤ b)) ⊎ ((elem u (r .reply .started) ≡ false) × OnCourse (r .model) u b)
 
 -- one that waits and does not start goes on waiting
 follows-waits : (now : ℕ) (j k : Job) → Follows now j k → isWaiting j ≡ true → isRunning k ≡ false → isWaiting k ≡ true
@@ -157,7 +136,7 @@ follows-waits now j k (stays e) w r = true-false (isWaiting j) w e
 follows-waits now j k (moves s e a b) w r = case (eqb s now) (λ q. true-false true refl (rw q at r)) (λ q. rw q)
 
 leaves-keeps : (m : Model) (c : ℕ) (s : Select) (ks : List Job) (u b : ℕ) → Valid m → Leaving m c s → Moved (m .settings) c (staying s (m .jobs)) ks → OnCourse m u b
-    → Kept OnCourse u b (advanced m c s ks .reply) (advanced m c s ks .model)
+    → StartsBy u b (advanced m c s ks)
 unfolding advanced
 leaves-keeps m c s ks u b v l g o =
     let z = zip-left (Told (Follows c) (begun js ks)) js ks (leaves-told m c s ks v g) (in-keep (λ (j : Job). not (picks s j)) (o .inside) (ap not (waits-stays m c s l (o .job) (o .waits)))) in
@@ -183,57 +162,61 @@ leaves-keeps m c s ks u b v l g o =
           },
         ))
 
-outcome-keeps : (m : Model) {c : Call} {r : Result} (u b : ℕ) → Valid m → OnCourse m u b → Outcome m c r → Kept OnCourse u b (r .reply) (r .model)
-unfolding submitted
-outcome-keeps m u b v o (idle c r p q) = inr (refl, o)
+outcome-keeps : (m : Model) {c : Call} {r : Result} (u b : ℕ) → Valid m → OnCourse m u b → Outcome m c r → StartsBy u b r
+unfolding submitted advanced
+outcome-keeps m u b v o (idle c r n) = inr (refl, o)
 outcome-keeps m u b v o (joins n e f l) = inr (
   rw (← o .is-u) (not-new (planned m n e) (m .clock) (o .job .ticket) (m .next) (v .sound .below (o .job) (o .inside))),
   record { job = o .job; inside = in-left _ (o .inside); waits = o .waits; is-u = o .is-u; by = o .by },
 )
 outcome-keeps m u b v o (leaves c clock s after l g p q) = leaves-keeps m clock s after u b v l g o
 
--- a submission taken starts its job now, or plans it for its promise
-outcome-joins : (m : Model) {r : Result} (n e : ℕ) → Valid m → Outcome m (submit n e) r → accepts (r .reply .refusal) ≡ true
-    → Kept OnCourse (r .reply .ticket) (r .reply .promise) (r .reply) (r .model)
+-- who comes has the next ticket, and starts now or is planned for its promise
+outcome-joins : (m : Model) {c : Call} {r : Result} (o : Newcomer) → Outcome m c r → In o (newsOf c (r .reply) .came)
+    → (o .ticket ≡ m .next) × StartsBy (o .ticket) (o .promise) r
 unfolding submitted advanced planned
-outcome-joins m n e v (idle c r p q) a = let x = rw a at q in absurd (let z : _≡_ {A = ℕ} 0 1 = cc in omega arith)
-outcome-joins m n e v (joins n′ e′ f l) a =
-    case (eqb s now)
-    (λ q. inl (rw (q, eq-eqb (m .next) (m .next) refl), omega (arith, eqb-true s now q)))
-    (λ q. inr (rw q, record { job = newJob m n e s; inside = in-right (m .jobs) (here refl); waits = rw q; is-u = refl; by = omega arith }))
+outcome-joins m o (idle c r n) i = in-nil (subst (λ (e : News). In o (e .came)) n i)
+outcome-joins m o (joins n e f l) i = one (in-cons i)
   where
     now : ℕ
     now = m .clock
 
     s : ℕ
     s = planned m n e
-outcome-joins m n e v (leaves c clock s after l g p q) a = absurd (let z : _≡_ {A = ℕ} 0 1 = cc in omega arith)
+
+    new : Newcomer
+    new = record { ticket = m .next; nodes = n; promise = s }
+
+    one : (o ≡ new) ⊎ In o [] → (o .ticket ≡ m .next) × StartsBy (o .ticket) (o .promise) (submitted m n e s)
+    one (inr k) = in-nil k
+    one (inl q) =
+        subst (λ (x : Newcomer). (x .ticket ≡ m .next) × StartsBy (x .ticket) (x .promise) (submitted m n e s)) (sym q) (
+          refl,
+          case (eqb s now)
+              (λ q. inl (rw (q, eq-eqb (m .next) (m .next) refl), omega (arith, eqb-true s now q)))
+              (λ q. inr (rw q, record { job = newJob m n e s; inside = in-right (m .jobs) (here refl); waits = rw q; is-u = refl; by = omega arith })),
+        )
+outcome-joins m o (leaves c clock s after l g p q) i = in-nil (subst (In o) q i)
 
 -- ## The rest
 
 outcome-settings : (m : Model) {c : Call} {r : Result} → Outcome m c r → r .model .settings ≡ m .settings
 unfolding submitted advanced
-outcome-settings m (idle c r p q) = refl
+outcome-settings m (idle c r n) = refl
 outcome-settings m (joins n e f l) = refl
 outcome-settings m (leaves c clock s after l g p q) = refl
 
-outcome-clock : (m : Model) {c : Call} {r : Result} → Outcome m c r → r .model .clock ≡ clockAfter c (r .reply) (m .clock)
+outcome-clock : (m : Model) {c : Call} {r : Result} → Outcome m c r → r .model .clock ≡ clockAfter (newsOf c (r .reply)) (m .clock)
 unfolding submitted advanced
-outcome-clock m (idle c r p q) = sym p
+outcome-clock m (idle c r n) = ap (λ (e : News). clockAfter e (m .clock)) (sym n)
 outcome-clock m (joins n e f l) = refl
 outcome-clock m (leaves c clock s after l g p q) = sym p
 
 outcome-head : (m : Model) {c : Call} {r : Result} → Outcome m c r → r .reply .head ≡ none
 unfolding submitted advanced
-outcome-head m (idle c r p q) = refl
+outcome-head m (idle c r n) = refl
 outcome-head m (joins n e f l) = refl
 outcome-head m (leaves c clock s after l g p q) = refl
-
-outcome-ticket : (m : Model) {r : Result} (n e : ℕ) → Outcome m (submit n e) r → accepts (r .reply .refusal) ≡ true → r .reply .ticket ≡ m .next
-unfolding submitted advanced
-outcome-ticket m n e (idle c r p q) a = let x = rw a at q in absurd (let z : _≡_ {A = ℕ} 0 1 = cc in omega arith)
-outcome-ticket m n e (joins n′ e′ f l) a = refl
-outcome-ticket m n e (leaves c clock s after l g p q) a = absurd (let z : _≡_ {A = ℕ} 0 1 = cc in omega arith)
 
 -- the lowest of some tickets is none above them all
 lowest-low : (n : ℕ) (js : List Job) (h : ℕ) → ((j : Job) → In j js → j .ticket < n) → lowest (ticketsOf js) ≡ some h → h < n
@@ -253,15 +236,20 @@ conservative-lawful = record {
   settings = λ m c v. outcome-settings m (outcome m c v);
   clock = λ m c v. outcome-clock m (outcome m c v);
   tells = λ m c v. outcome-tells m v (outcome m c v);
-  rest = λ m u b v o. omega (arith, v .ahead (o .job) (o .inside) (o .waits), o .by);
-  keeps = λ m c u b v o. outcome-keeps m u b v o (outcome m c v);
-  joins = λ m n e v a. outcome-joins m n e v (outcome m (submit n e) v) a;
-  fresh = λ m n e v a h.
+  keeps = λ b. record {
+    rest = λ m u v o. omega (arith, v .ahead (o .job) (o .inside) (o .waits), o .by);
+    keeps = λ m c u v o. kept m c u b (outcome-keeps m u b v o (outcome m c v));
+  };
+  joins = λ m c o v i. kept m c (o .ticket) (o .promise) (outcome-joins m o (outcome m c v) i .1);
+  fresh = λ m c o v i h.
       omega (
         arith,
-        outcome-ticket m n e (outcome m (submit n e) v) a,
-        lowest-low (m .next) (keep isWaiting (m .jobs)) (call m (submit n e) .reply .ticket) (λ j i. v .sound .below j (keep-in isWaiting (m .jobs) i .0)) h,
+        outcome-joins m o (outcome m c v) i .0,
+        lowest-low (m .next) (keep isWaiting (m .jobs)) (o .ticket) (λ j i. v .sound .below j (keep-in isWaiting (m .jobs) i .0)) h,
       );
   forecasts = λ m c f v h. let x = sym (outcome-head m (outcome m c v)) ∙ h in absurd (let z : _≡_ {A = ℕ} 0 1 = cc in omega arith);
   hears = λ k. absurd (let z : _≡_ {A = ℕ} 0 1 = cc in omega arith);
 }
+  where
+    kept : (m : Model) (c : Call) (u b : ℕ) → StartsBy u b (call m c) → Kept (by b) (For OnCourse b) u (newsOf c (call m c .reply)) (call m c .model)
+    kept m c u b = kept-by (m .clock) (newsOf c (call m c .reply)) (by b) (For OnCourse b) (call m c .model) u

@@ -35,9 +35,8 @@ use Rattle.scheduler.specs.Opening.{openingRefusal, opening}
 use Rattle.jobs.specs.Order.{asc-same}
 use Rattle.jobs.specs.Judged.{judged-by}
 use Rattle.jobs.specs.Sound.{SoundJob, Sound, Fit, opening-sound, passed, submit-fit, sound-join, Leaving, early, in-time, sound-leave}
-use Rattle.history.specs.Calls.{Call, submit, complete, tick, profile, refusedWait}
-use Rattle.history.specs.Book.{clockAfter}
-use Rattle.history.specs.Lawful.{comers}
+use Rattle.history.specs.Calls.{Call, submit, complete, tick, unchanged}
+use Rattle.history.specs.News.{newsOf, clockAfter, nothing, refused-news, unchanged-news}
 use Rattle.conservative_rules.specs.Conservative.{span, spans, planned, stateAt, newJob, withNew, submitRefusal, submitted, placed, advanced, moved, pass, completed, turned, ticked, call}
 
 pub record Valid (m : Model) : Type 0 where
@@ -193,12 +192,12 @@ pub record Moved (S : Settings) (now : ℕ) (js ks : List Job) : Type 0 where
 
 pub data Outcome (m : Model) : Call → Result → Type 0 where
   -- refused, or a profile: nothing changes
-  idle : (c : Call) (r : Refusal) → clockAfter c (refusing r) (m .clock) ≡ m .clock → comers c (refusing r) ≡ [] → Outcome m c (refuse m r)
+  idle : (c : Call) (r : Refusal) → newsOf c (refusing r) ≡ nothing → Outcome m c (refuse m r)
   -- a submission is taken
   joins : (n e : ℕ) → Fit m n e → planned m n e + holdTime (m .settings) e ≤ horizon (m .settings) → Outcome m (submit n e) (submitted m n e (planned m n e))
   -- an early end, or a tick: jobs leave, and those that stay come to be `after`
   leaves : (c : Call) (clock : ℕ) (s : Select) (after : List Job) → Leaving m clock s → Moved (m .settings) clock (staying s (m .jobs)) after
-      → clockAfter c (advanced m clock s after .reply) (m .clock) ≡ clock → comers c (advanced m clock s after .reply) ≡ []
+      → clockAfter (newsOf c (advanced m clock s after .reply)) (m .clock) ≡ clock → newsOf c (advanced m clock s after .reply) .came ≡ []
       → Outcome m c (advanced m clock s after)
 
 -- ### The pass of an early end
@@ -264,7 +263,8 @@ pub outcome : (m : Model) (c : Call) → Valid m → Outcome m c (call m c)
 unfolding call submitRefusal completeRefusal tickRefusal completed ticked advanced
 outcome m (submit n e) v =
     let s = planned m n e in
-    judged-by (Outcome m (submit n e)) m (submitRefusal m n e s) (submitted m n e s) (λ a. taken a) (λ a. idle (submit n e) _ refl (rw a))
+    judged-by (Outcome m (submit n e)) m (submitRefusal m n e s) (submitted m n e s) (λ a. taken a)
+    (λ a. idle (submit n e) _ (refused-news (submit n e) (submitRefusal m n e s) a))
   where
     taken : accepts (submitRefusal m n e (planned m n e)) ≡ true → Outcome m (submit n e) (submitted m n e (planned m n e))
     taken a =
@@ -272,7 +272,8 @@ outcome m (submit n e) v =
         let b = passed (ltb (horizon (m .settings)) (planned m n e + holdTime (m .settings) e)) refusal.PastHorizon _ refl (f .1) in
         joins n e (f .0) (ltb-false (horizon (m .settings)) (planned m n e + holdTime (m .settings) e) (b .0))
 outcome m (complete t) v =
-    judged-by (Outcome m (complete t)) m (completeRefusal m t) (completed m t) (λ a. taken) (λ a. idle (complete t) _ refl refl)
+    judged-by (Outcome m (complete t)) m (completeRefusal m t) (completed m t) (λ a. taken)
+    (λ a. idle (complete t) _ (refused-news (complete t) (completeRefusal m t) a))
   where
     S : Settings
     S = m .settings
@@ -292,7 +293,7 @@ outcome m (complete t) v =
         (λ r a. omega (arith, v .room r a, used-staying S r u (m .jobs))) in
         leaves (complete t) (m .clock) u (pass S (m .clock) [] js) (early t) (record { follow = p .0; room = λ r a. omega (arith, p .1 r a) }) refl refl
 outcome m tick v =
-    judged-by (Outcome m tick) m (tickRefusal m) (ticked m) (λ a. taken a) (λ a. idle tick _ (rw a) refl)
+    judged-by (Outcome m tick) m (tickRefusal m) (ticked m) (λ a. taken a) (λ a. idle tick _ (refused-news tick (tickRefusal m) a))
   where
     S : Settings
     S = m .settings
@@ -318,8 +319,7 @@ outcome m tick v =
           room = λ t l. omega (arith, v .room t (omega arith), used-staying S t u (m .jobs), turns-used S now t js);
         })
         refl refl
-outcome m (profile room) v = idle (profile room) _ refl refl
-outcome m (refusedWait r) v = idle (refusedWait r) r refl refl
+outcome m (unchanged r) v = idle (unchanged r) r (unchanged-news r r)
 
 -- ## Every model handed back is valid
 
@@ -429,7 +429,7 @@ leaves-valid m c s ks v l g = record {
 
 outcome-valid : (m : Model) {c : Call} {r : Result} → Valid m → Outcome m c r → Valid (r .model)
 unfolding submitted advanced
-outcome-valid m v (idle c r p q) = v
+outcome-valid m v (idle c r n) = v
 outcome-valid m v (joins n e f l) = joins-valid m n e v f l
 outcome-valid m v (leaves c clock s after l g p q) = leaves-valid m clock s after v l g
 

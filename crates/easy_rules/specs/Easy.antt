@@ -21,7 +21,7 @@ use Rattle.scheduler.specs.Table.{nodesHeld, ticketsOf}
 use Rattle.scheduler.specs.Model.{Model, joined, without}
 use Rattle.scheduler.specs.Answers.{Result, Forecast, verdict, refuse}
 use Rattle.scheduler.specs.Refusals.{judged, submitTests, completeRefusal, tickRefusal}
-use Rattle.history.specs.Calls.{Rules, submit, complete, tick, profile, refusedWait}
+use Rattle.history.specs.Calls.{Rules, submit, complete, tick, unchanged}
 
 -- ## The queue and the nodes
 
@@ -158,10 +158,8 @@ unfoldable pub advanced : Model → ℕ → Select → Result
 advanced m clock s = finished m (without m clock s) 0 (ticketsOf (keep (picks s) (m .jobs)))
 
 -- "After an intake (at the end of the queue), an early end or a minute step as above, the desk settles".
--- "The Loose Desk has no profile": asking for it gives nothing and changes nothing
 unfoldable pub call : Rules
 call m (submit n e) = judged m (submitRefusal m n e) (finished m (joined m (newJob (m .next) n e)) (m .next) [])
 call m (complete t) = judged m (completeRefusal m t) (advanced m (m .clock) (select.RunningTicket t))
 call m tick = judged m (tickRefusal m) (advanced m (suc (m .clock)) (select.EndingAt (suc (m .clock))))
-call m (profile room) = refuse m refusal.None
-call m (refusedWait r) = refuse m r
+call m (unchanged r) = refuse m r

@@ -24,18 +24,18 @@ use Rattle.scheduler.specs.Jobs.{isWaiting, isRunning, runsAs, held, picks}
 use Rattle.scheduler.specs.Settings.{horizon, slots, longest, holdTime, until}
 use Rattle.scheduler.specs.Table.{ticketOf, ticketsOf}
 use Rattle.scheduler.specs.Model.{Model, joined}
-use Rattle.scheduler.specs.Answers.{Result, Forecast, verdict, accepts, refusing, refuse}
+use Rattle.scheduler.specs.Answers.{Result, Forecast, verdict, accepts, refuse}
 use Rattle.scheduler.specs.Refusals.{completeRefusal, tickRefusal}
 use Rattle.jobs.specs.Judged.{judged-by, judged-accepted, judged-refusal, judged-refused}
 use Rattle.jobs.specs.Order.{Asc}
 use Rattle.jobs.specs.Sound.{Sound, Fit}
-use Rattle.history.specs.Calls.{Call, submit, complete, tick, profile, refusedWait}
+use Rattle.history.specs.Calls.{Call, submit, complete, tick, unchanged}
+use Rattle.history.specs.News.{Newcomer, News, newsOf}
 use Rattle.history.specs.Tickets.{nextAfter}
-use Rattle.history.specs.Lawful.{comers}
 use Rattle.easy_rules.specs.Easy.{queue, head, free, avail, shadow, extra, qualifies, pick, choice, begin, Settling, onChoice, settled, headIs, forecast, finished, newJob, submitRefusal, advanced, call}
 use Rattle.easy_rules.specs.Settling.{shadow-from, shadow-min, shadow-holds, none-starts, How, how, Chosen, chosen, sum-mark, queue-mark, one-fewer, asc-begin, each-begin, idle, marks, Settles, rest, start, settles, settles-jobs, settles-next}
 use Rattle.easy_rules.specs.Course.{Waits, head-lowest, settles-waited}
-use Rattle.easy_rules.specs.Valid.{Valid, latestEnd, Moved, submits, completes, ticks, Taken, Quiet, called, call-valid}
+use Rattle.easy_rules.specs.Valid.{Valid, latestEnd, Moved, submits, completes, ticks, joiner, Taken, taken-came, Quiet, quiet-news, called, call-valid}
 
 -- ## The shadow
 
@@ -206,8 +206,7 @@ abbrev pub refusalOf : Model → Call → Refusal
 refusalOf m (submit n e) = submitRefusal m n e
 refusalOf m (complete t) = completeRefusal m t
 refusalOf m tick = tickRefusal m
-refusalOf m (profile room) = refusal.None
-refusalOf m (refusedWait r) = r
+refusalOf m (unchanged r) = r
 
 finished-none : (m mid : Model) (t : ℕ) (ts : List ℕ) → finished m mid t ts .reply .refusal ≡ refusal.None
 unfolding finished
@@ -218,8 +217,7 @@ unfolding call advanced
 refusal-is m (submit n e) = judged-refusal m (submitRefusal m n e) (finished m (joined m (newJob (m .next) n e)) (m .next) []) (finished-none m _ _ _)
 refusal-is m (complete t) = judged-refusal m (completeRefusal m t) (advanced m (m .clock) (select.RunningTicket t)) (finished-none m _ _ _)
 refusal-is m tick = judged-refusal m (tickRefusal m) (advanced m (suc (m .clock)) (select.EndingAt (suc (m .clock)))) (finished-none m _ _ _)
-refusal-is m (profile room) = refl
-refusal-is m (refusedWait r) = refl
+refusal-is m (unchanged r) = refl
 
 -- A refused call leaves the model as it was, and gives its number and nothing else.
 pub refused-same : (m : Model) (c : Call) → accepts (call m c .reply .refusal) ≡ false → call m c ≡ refuse m (call m c .reply .refusal)
@@ -227,8 +225,7 @@ unfolding call advanced
 refused-same m (submit n e) a = judged-refused m (submitRefusal m n e) (finished m (joined m (newJob (m .next) n e)) (m .next) []) (finished-none m _ _ _) a
 refused-same m (complete t) a = judged-refused m (completeRefusal m t) (advanced m (m .clock) (select.RunningTicket t)) (finished-none m _ _ _) a
 refused-same m tick a = judged-refused m (tickRefusal m) (advanced m (suc (m .clock)) (select.EndingAt (suc (m .clock)))) (finished-none m _ _ _) a
-refused-same m (profile room) a = refl
-refused-same m (refusedWait r) a = refl
+refused-same m (unchanged r) a = refl
 
 -- Each refusal of a submission, with its conditions in document 01's order and no others. 1: "stack nodes 0 or above the rack's"; 2:
 -- "estimate .. outside 1 to 10,080"; 4: "64 stacks live"; 5: "ticket 999,999 has been given"; 6: "now + r × 10,080 + held above it, r
@@ -342,8 +339,7 @@ unfolding call advanced
 call-forecasts m (submit n e) = judged-by (Announces m) m (submitRefusal m n e) (finished m (joined m (newJob (m .next) n e)) (m .next) []) (λ a. finished-forecasts m _ _ _) (λ a. same-heads m)
 call-forecasts m (complete t) = judged-by (Announces m) m (completeRefusal m t) (advanced m (m .clock) (select.RunningTicket t)) (λ a. finished-forecasts m _ _ _) (λ a. same-heads m)
 call-forecasts m tick = judged-by (Announces m) m (tickRefusal m) (advanced m (suc (m .clock)) (select.EndingAt (suc (m .clock)))) (λ a. finished-forecasts m _ _ _) (λ a. same-heads m)
-call-forecasts m (profile room) = same-heads m
-call-forecasts m (refusedWait r) = same-heads m
+call-forecasts m (unchanged r) = same-heads m
 
 -- ## Ends
 
@@ -453,24 +449,19 @@ call-starts m c v =
 
 -- ## Tickets
 
-moved-next : {m : Model} {c : Call} {mid : Model} {t : ℕ} {ts : List ℕ} → Moved m c mid t ts → mid .next ≡ nextAfter c refusal.None (m .next)
+moved-next : {m : Model} {c : Call} {mid : Model} {t : ℕ} {ts : List ℕ} (x : Moved m c mid t ts) → mid .next ≡ nextAfter (joiner x) (m .next)
 moved-next (submits n e f room) = refl
 moved-next (completes t a) = refl
 moved-next (ticks l) = refl
 
-pub call-next : (m : Model) (c : Call) → Valid m → call m c .model .next ≡ nextAfter c (call m c .reply .refusal) (m .next)
+pub call-next : (m : Model) (c : Call) → Valid m → call m c .model .next ≡ nextAfter (newsOf c (call m c .reply) .came) (m .next)
 call-next m c v =
     ⊎-elim
-    (λ (t : Taken m c (call m c)). settles-next (t .trace) ∙ moved-next (t .moved) ∙ ap (λ (r : Refusal). nextAfter c r (m .next)) (sym (t .accepted)))
-    (λ (q : Quiet m c (call m c)). subst (λ (o : Result). o .model .next ≡ nextAfter c (o .reply .refusal) (m .next)) (sym (q .same)) (quiet c (q .why) (q .none-comes)))
+    (λ (t : Taken m c (call m c)). settles-next (t .trace) ∙ moved-next (t .moved)
+    ∙ ap (λ (os : List Newcomer). nextAfter os (m .next)) (sym (taken-came m c (call m c) t)))
+    (λ (q : Quiet m c (call m c)). ap (λ (o : Result). o .model .next) (q .same)
+    ∙ ap (λ (e : News). nextAfter (e .came) (m .next)) (sym (quiet-news m c (call m c) q)))
     (called m c v)
-  where
-    quiet : (c : Call) (r : Refusal) → comers c (refusing r) ≡ [] → m .next ≡ nextAfter c r (m .next)
-    quiet (submit n e) r x = case (accepts r) (λ a. absurd (let y = rw a at x in let z : _≡_ {A = ℕ} 0 1 = cc in omega arith)) (λ a. rw a)
-    quiet (complete t) r x = refl
-    quiet tick r x = refl
-    quiet (profile room) r x = refl
-    quiet (refusedWait w) r x = refl
 
 -- an accepted submission answers the next ticket
 pub submit-ticket : (m : Model) (n e : ℕ) → accepts (call m (submit n e) .reply .refusal) ≡ true → call m (submit n e) .reply .ticket ≡ m .next

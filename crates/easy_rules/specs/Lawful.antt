@@ -5,12 +5,12 @@ use native.Mathlib.Omega.{arith}
 use mathlib.Core.Path.{_≡_, refl, sym, ap, subst, _∙_}
 use mathlib.Core.Bool.{true, false, not, cond}
 use mathlib.Core.Option.{none, some}
-use mathlib.Core.List.{List, [], _∷_, _++_, map, foldr, append-nil, map-append}
-use mathlib.Core.Logic.{inr, ⊎-elim}
+use mathlib.Core.List.{List, [], _∷_, _++_, map, foldr, map-map, map-append}
+use mathlib.Core.Logic.{_⊎_, inl, inr, ⊎-elim}
 use lib.Dec.{eqb}
-use borrow.Author.Tests.{eqb-true, not-true}
+use borrow.Author.Tests.{eqb-true}
 use Rattle.lists.specs.Tests.{case, true-false}
-use Rattle.lists.specs.Lists.{keep, elem, In, here, there, keep-in, keep-all, keep-none, map-same}
+use Rattle.lists.specs.Lists.{keep, elem, In, here, there, in-nil, in-cons, keep-in, keep-all, map-cong}
 use Rattle.scheduler.specs.declared.Kind.the-variants.{Easy}
 use Rattle.scheduler.specs.declared.State.{State}
 use Rattle.scheduler.specs.declared.State.the-variants.{Unused, Waiting, Running}
@@ -19,138 +19,121 @@ use Rattle.scheduler.specs.declared.Refusal.the-variants as refusal
 use Rattle.scheduler.specs.declared.Select.{Select}
 use Rattle.scheduler.specs.declared.Select.the-variants as select
 use Rattle.scheduler.specs.Jobs.{waiting?, isWaiting, picks}
-use Rattle.scheduler.specs.Table.{ticketsOf, staying}
-use Rattle.scheduler.specs.Model.{Model}
-use Rattle.scheduler.specs.Answers.{Reply, Result, Forecast, accepts, refusing}
-use Rattle.jobs.specs.Order.{Asc, asc-one, elem-picked}
+use Rattle.scheduler.specs.Table.{ticketsOf}
+use Rattle.scheduler.specs.Model.{Model, joined}
+use Rattle.scheduler.specs.Answers.{Reply, Result, Forecast, refusing}
+use Rattle.jobs.specs.Order.{Asc, asc-one}
 use Rattle.jobs.specs.Sound.{Sound, Leaving, early, in-time, leaving-runs, all-live}
-use Rattle.history.specs.Calls.{Call, submit, complete, tick, profile, refusedWait}
-use Rattle.history.specs.Book.{waiting, fateAfter, clockAfter}
-use Rattle.history.specs.Lawful.{shown, fateBy, remark, shownAfter, comers, boundAt, lowestWaiting, Kept, Lawful}
-use Rattle.history.specs.Leaving.{tells-by}
+use Rattle.history.specs.Calls.{Call}
+use Rattle.history.specs.News.{Newcomer, News, newsOf, clockAfter}
+use Rattle.history.specs.Book.{waiting}
+use Rattle.history.specs.Lawful.{Shown, shown, fateBy, isLive, remark, shownAfter, newly, comers, Tells, boundAt, lowestWaiting, by, Kept, For, Lawful}
+use Rattle.history.specs.Leaving.{lives, none-leaves, ends-lives, remark-same, tells-by, tells-leave, tells-nothing, kept-by}
 use Rattle.easy_rules.specs.Easy.{queue, head, shadow, headIs, forecast, newJob, call}
 use Rattle.easy_rules.specs.Settling.{marks, settles-clock, settles-settings, settles-jobs}
 use Rattle.easy_rules.specs.Course.{OnCourse, Head, head-in, head-lowest, head-course, course-rest, settles-waited, eased, join-course}
-use Rattle.easy_rules.specs.Valid.{Valid, Moved, submits, completes, ticks, moved-ready, moved-eases, settles-keeps, Taken, Quiet, called, call-valid}
+use Rattle.easy_rules.specs.Valid.{Valid, Moved, submits, completes, ticks, moved-ready, moved-eases, settles-keeps, joiner, Taken, taken-came, Quiet, quiet-news, called, call-valid}
 
 -- ## The clock and the settings
 
 moved-clock : {m : Model} {c : Call} {mid : Model} {t : ℕ} {ts : List ℕ} → Moved m c mid t ts → (r : Reply) → r .refusal ≡ refusal.None
-    → mid .clock ≡ clockAfter c r (m .clock)
-moved-clock (submits n e f room) r q = refl
-moved-clock (completes t a) r q = refl
+    → mid .clock ≡ clockAfter (newsOf c r) (m .clock)
+moved-clock (submits n e f room) r q = rw q
+moved-clock (completes t a) r q = rw q
 moved-clock (ticks l) r q = rw q
 
 -- ## The answer tells what has changed
 
--- a job that the settling left or started is as the answer says
-module _ (now : ℕ) (r : Reply) where
-  fate-waits : (s : State) (b : ℕ) → waiting? s ≡ true → fateBy s b ≡ waiting
-  fate-waits Unused b e = refl
-  fate-waits Waiting b e = refl
-  fate-waits Running b e = true-false false e refl
+fate-waits : (s : State) (b : ℕ) → waiting? s ≡ true → fateBy s b ≡ waiting
+fate-waits Unused b e = refl
+fate-waits Waiting b e = refl
+fate-waits Running b e = true-false false e refl
 
-  fate-stays : (s : State) (b t : ℕ) → elem t (r .started) ≡ false → elem t (r .ended) ≡ false → fateAfter now r t (fateBy s b) ≡ fateBy s b
-  fate-stays Unused b t e q = rw e
-  fate-stays Waiting b t e q = rw e
-  fate-stays Running b t e q = rw q
-
-  shown-marks : (j : Job) → (elem (j .ticket) (r .started) ≡ true → isWaiting j ≡ true) → elem (j .ticket) (r .ended) ≡ false
-      → shown (marks now (r .started) j) ≡ remark now r (shown j)
+module _ (now : ℕ) (e : News) where
+  -- a job that the settling left or started is as the answer says
+  shown-marks : (j : Job) → (elem (j .ticket) (e .started) ≡ true → isWaiting j ≡ true) → lives now e j ≡ true
+      → shown (marks now (e .started) j) ≡ remark now e (shown j)
   shown-marks j w n =
-      case (elem (j .ticket) (r .started))
-      (λ e. rw (e, fate-waits (j .state) (j .start) (w e), e))
-      (λ e. rw (e, fate-stays (j .state) (j .start) (j .ticket) e n))
+      case (elem (j .ticket) (e .started))
+      (λ q. rw (q, fate-waits (j .state) (j .start) (w q), q))
+      (λ q. rw q (sym (remark-same now e j q n)))
 
-  shown-after : (js : List Job) → ((j : Job) → In j js → elem (j .ticket) (r .started) ≡ true → isWaiting j ≡ true)
-      → ((j : Job) → In j js → elem (j .ticket) (r .ended) ≡ false)
-      → map shown (map (marks now (r .started)) js) ≡ map (remark now r) (map shown js)
-  shown-after [] w n = refl
-  shown-after (j ∷ js) w n = rw (shown-marks j (w j (here refl)) (n j (here refl)), shown-after js (λ k i. w k (there i)) (λ k i. n k (there i)))
+  shown-after : (js : List Job) → ((j : Job) → In j js → elem (j .ticket) (e .started) ≡ true → isWaiting j ≡ true)
+      → ((j : Job) → In j js → lives now e j ≡ true)
+      → map shown (map (marks now (e .started)) js) ≡ map (remark now e) (map shown js)
+  shown-after js w n =
+      map-map shown (marks now (e .started)) js
+      ∙ map-cong (λ (j : Job). shown (marks now (e .started) j)) (λ (j : Job). remark now e (shown j)) js (λ j i. shown-marks j (w j i) (n j i))
+      ∙ sym (map-map (remark now e) shown js)
 
-  -- what the call did before it settled
-  leave-tells : (m : Model) (c : ℕ) (p : Select) (call : Call) (after : List Job) → Sound m → Leaving m c p → comers call r ≡ []
-      → r .ended ≡ ticketsOf (keep (picks p) (m .jobs))
-      → map shown after ≡ map (remark now r) (map shown (staying p (m .jobs))) → map shown after ≡ shownAfter now r (map shown (m .jobs) ++ comers call r)
-  leave-tells m c p call after s l n e h =
-      tells-by now r call (picks p) (m .jobs) after (s .asc) e (leaving-runs m c p l) (rw n (h ∙ sym (append-nil (map (remark now r) (map shown (staying p (m .jobs)))))))
+  module _ (m : Model) (s : Sound m) where
+    leaver : (c : ℕ) (p : Select) → Leaving m c p → e .ended ≡ ticketsOf (keep (picks p) (m .jobs))
+        → (j : Job) → In j (m .jobs) → lives now e j ≡ not (picks p j)
+    leaver c p l d = ends-lives now e (picks p) (m .jobs) (s .asc) d (leaving-runs m c p l)
 
-  moved-tells : {m : Model} {c : Call} {mid : Model} {t : ℕ} {ts : List ℕ} → Moved m c mid t ts → Sound m → r .ticket ≡ t → r .ended ≡ ts
-      → r .refusal ≡ refusal.None → r .promise ≡ 0
-      → (after : List Job) → map shown after ≡ map (remark now r) (map shown (mid .jobs)) → map shown after ≡ shownAfter now r (map shown (m .jobs) ++ comers c r)
-  moved-tells {m} (submits n e f room) s q d a p after h =
-      tells-by now r (submit n e) (λ (j : Job). false) (m .jobs) after (s .asc)
-      (d ∙ ap ticketsOf (sym (keep-none (λ (j : Job). false) (m .jobs) (λ j i. refl))))
-      (λ j z. true-false false z refl)
-      (h ∙ rw (keep-all (λ (j : Job). true) (m .jobs) (λ j i. refl), map-append shown (m .jobs) (newJob (m .next) n e ∷ []), map-append (remark now r) (map shown (m .jobs)) (shown (newJob (m .next) n e) ∷ []), a, q, p)
-      (case (elem (m .next) (r .started)) (λ z. rw z) (λ z. rw z)))
-  moved-tells {m} (completes t x) s q d a p after h = leave-tells m (m .clock) (select.RunningTicket t) (complete t) after s (early t) refl d h
-  moved-tells {m} (ticks l) s q d a p after h = leave-tells m (suc (m .clock)) (select.EndingAt (suc (m .clock))) tick after s (in-time l) refl d h
+    -- who is there before the settling is live after it
+    moved-lives : {c : Call} {mid : Model} {t : ℕ} {ts : List ℕ} → Moved m c mid t ts → e .ended ≡ ts → (j : Job) → In j (mid .jobs) → lives now e j ≡ true
+    moved-lives (submits n x f room) d j i = none-leaves now e d j
+    moved-lives (completes t x) d j i =
+        let k = keep-in (λ (j : Job). not (picks (select.RunningTicket t) j)) (m .jobs) i in
+        leaver (m .clock) (select.RunningTicket t) (early t) d j (k .0) ∙ k .1
+    moved-lives (ticks l) d j i =
+        let k = keep-in (λ (j : Job). not (picks (select.EndingAt (suc (m .clock))) j)) (m .jobs) i in
+        leaver (suc (m .clock)) (select.EndingAt (suc (m .clock))) (in-time l) d j (k .0) ∙ k .1
 
--- of those that stay, none is among the tickets ended
-moved-ended : {m : Model} {c : Call} {mid : Model} {t : ℕ} {ts : List ℕ} → Moved m c mid t ts → Sound m → (j : Job) → In j (mid .jobs) → elem (j .ticket) ts ≡ false
-moved-ended {m} x s j i = go x i
-  where
-    left : (p : Select) → In j (staying p (m .jobs)) → elem (j .ticket) (ticketsOf (keep (picks p) (m .jobs))) ≡ false
-    left p i = let k = keep-in (λ (j : Job). not (picks p j)) (m .jobs) i in elem-picked (picks p) 1 (m .jobs) j (s .asc) (k .0) ∙ not-true (picks p j) (k .1)
-
-    go : {c : Call} {mid : Model} {t : ℕ} {ts : List ℕ} → Moved m c mid t ts → In j (mid .jobs) → elem (j .ticket) ts ≡ false
-    go (submits n e f room) i = refl
-    go (completes t x) i = left (select.RunningTicket t) i
-    go (ticks l) i = left (select.EndingAt (suc (m .clock))) i
+    -- what the call did before it settled
+    moved-tells : {c : Call} {mid : Model} {t : ℕ} {ts : List ℕ} (x : Moved m c mid t ts) → e .ended ≡ ts → e .came ≡ joiner x
+        → (after : List Job) → map shown after ≡ map (remark now e) (map shown (mid .jobs))
+        → map shown after ≡ shownAfter now e (map shown (m .jobs) ++ comers e)
+    moved-tells (submits n x f room) d q after h =
+        let js = m .jobs in
+        let new : Job = newJob (m .next) n x in
+        let one : map (remark now e) (shown new ∷ []) ≡ keep isLive (map (remark now e) (shown new ∷ [])) =
+        case (elem (m .next) (e .started)) (λ z. rw z) (λ z. rw z) in
+        tells-by now e (λ (j : Job). false) js after (λ j i. none-leaves now e d j)
+        (h ∙ rw (keep-all (λ (j : Job). true) js (λ j i. refl), map-append shown js (new ∷ []), map-append (remark now e) (map shown js) (shown new ∷ []))
+        (ap (λ (l : List Shown). map (remark now e) (map shown js) ++ l)
+        (one ∙ ap (λ (os : List Newcomer). keep isLive (map (remark now e) (map newly os))) (sym q))))
+    moved-tells (completes t x) d q after h =
+        tells-leave now e (picks (select.RunningTicket t)) (m .jobs) after (leaver (m .clock) (select.RunningTicket t) (early t) d) q h
+    moved-tells (ticks l) d q after h =
+        tells-leave now e (picks (select.EndingAt (suc (m .clock)))) (m .jobs) after
+        (leaver (suc (m .clock)) (select.EndingAt (suc (m .clock))) (in-time l) d) q h
 
 module _ (m : Model) (c : Call) (o : Result) (v : Valid m) where
-  taken-tells : Taken m c o → map shown (o .model .jobs) ≡ shownAfter (o .model .clock) (o .reply) (map shown (m .jobs) ++ comers c (o .reply))
+  taken-tells : Taken m c o → Tells m (newsOf c (o .reply)) (o .model)
   taken-tells t =
       let now = o .model .clock in
+      let e = newsOf c (o .reply) in
+      let s = v .ready .sound in
       let r = moved-ready (t .moved) v in
-      let e : o .model .jobs ≡ map (marks now (o .reply .started)) (t .mid .jobs) = settles-jobs (t .trace) ∙ ap (λ (x : ℕ). map (marks x (o .reply .started)) (t .mid .jobs)) (sym (settles-clock (t .trace))) in
-      moved-tells now (o .reply) (t .moved) (v .ready .sound) refl refl (t .accepted) (t .promise) (o .model .jobs)
-      (ap (map shown) e
-      ∙ shown-after now (o .reply) (t .mid .jobs)
-      (λ j i q. let w = settles-waited (j .ticket) (t .trace) q in
+      let q : o .model .jobs ≡ map (marks now (o .reply .started)) (t .mid .jobs) =
+      settles-jobs (t .trace) ∙ ap (λ (x : ℕ). map (marks x (o .reply .started)) (t .mid .jobs)) (sym (settles-clock (t .trace))) in
+      moved-tells now e m s (t .moved) refl (taken-came m c o t) (o .model .jobs)
+      (ap (map shown) q
+      ∙ shown-after now e (t .mid .jobs)
+      (λ j i x. let w = settles-waited (j .ticket) (t .trace) x in
       ap isWaiting (asc-one 1 (t .mid .jobs) j (w .job) (r .sound .asc) i (w .isin) (sym (w .named))) ∙ w .waits)
-      (moved-ended (t .moved) (v .ready .sound)))
+      (moved-lives now e m s (t .moved) refl))
 
-  quiet-tells : Quiet m c o → map shown (o .model .jobs) ≡ shownAfter (o .model .clock) (o .reply) (map shown (m .jobs) ++ comers c (o .reply))
-  quiet-tells q = rw (q .same) (go (q .none-comes))
-    where
-      go : comers c (refusing (q .why)) ≡ [] → map shown (m .jobs) ≡ shownAfter (m .clock) (refusing (q .why)) (map shown (m .jobs) ++ comers c (refusing (q .why)))
-      go n =
-          let js = m .jobs in
-          tells-by (m .clock) (refusing (q .why)) c (λ (j : Job). false) js js (v .ready .sound .asc)
-          (ap ticketsOf (sym (keep-none (λ (j : Job). false) js (λ j i. refl))))
-          (λ j z. true-false false z refl)
-          (rw (keep-all (λ (j : Job). true) js (λ j i. refl), n, append-nil (map (remark (m .clock) (refusing (q .why))) (map shown js)))
-          (ap (map shown) (sym (map-same (marks (m .clock) []) js (λ j i. refl))) ∙ shown-after (m .clock) (refusing (q .why)) js (λ j i z. true-false false z refl) (λ j i. refl)))
+  quiet-tells : Quiet m c o → Tells m (newsOf c (o .reply)) (o .model)
+  quiet-tells q = subst (λ (x : Result). Tells m (newsOf c (x .reply)) (x .model)) (sym (q .same)) (tells-nothing m (newsOf c (refusing (q .why))) (q .silent))
 
 -- ## Bounds
 
--- the job that a submission takes in is on course for its bound
-abbrev Newcomer : Model → Call → Model → ℕ → Type 0
-Newcomer m (submit n e) mid t = (t ≡ m .next) × OnCourse mid t (boundAt m)
-Newcomer m (complete u) mid t = Unit {0}
-Newcomer m tick mid t = Unit {0}
-Newcomer m (profile room) mid t = Unit {0}
-Newcomer m (refusedWait w) mid t = Unit {0}
-
-newcomer : {m : Model} {c : Call} {mid : Model} {t : ℕ} {ts : List ℕ} → Moved m c mid t ts → Newcomer m c mid t
-newcomer {m} (submits n e f room) = (refl, join-course m n e)
-newcomer (completes t a) = tt
-newcomer (ticks l) = tt
-
--- an accepted submission has taken a job in
-submit-taken : (m : Model) (n e : ℕ) → Valid m → accepts (call m (submit n e) .reply .refusal) ≡ true → Taken m (submit n e) (call m (submit n e))
-submit-taken m n e v a =
-    ⊎-elim (λ (t : Taken m (submit n e) (call m (submit n e))). t)
-    (λ (q : Quiet m (submit n e) (call m (submit n e))). absurd (refused q))
-    (called m (submit n e) v)
+-- who comes has the next ticket, and is on course for its bound
+moved-joins : {m : Model} {c : Call} {mid : Model} {t : ℕ} {ts : List ℕ} (x : Moved m c mid t ts) (o : Newcomer) → In o (joiner x)
+    → (o .ticket ≡ m .next) × OnCourse mid (o .ticket) (boundAt m)
+moved-joins {m} (submits n e f room) o i = one (in-cons i)
   where
-    refused : Quiet m (submit n e) (call m (submit n e)) → ⊥
-    refused q =
-        let y : accepts (q .why) ≡ true = ap (λ (o : Result). accepts (o .reply .refusal)) (sym (q .same)) ∙ a in
-        let x = rw y at (q .none-comes) in
-        let z : _≡_ {A = ℕ} 0 1 = cc in omega arith
+    Joins : Newcomer → Type 0
+    Joins x = (x .ticket ≡ m .next) × OnCourse (joined m (newJob (m .next) n e)) (x .ticket) (boundAt m)
+
+    one : (o ≡ record { ticket = m .next; nodes = n; promise = 0 }) ⊎ In o [] → Joins o
+    one (inl q) = subst Joins (sym q) (refl, join-course m n e)
+    one (inr k) = in-nil k
+moved-joins (completes t a) o i = in-nil i
+moved-joins (ticks l) o i = in-nil i
 
 -- ## The head and its forecast
 
@@ -203,9 +186,19 @@ forecast-told b m h a n = rw (h .first, other (queue (b .jobs)) refl)
 -- ## Lawful
 
 module _ (m : Model) (c : Call) (o : Result) (v : Valid m) where
-  taken-keeps : (u b : ℕ) → Taken m c o → OnCourse m u b → Kept OnCourse u b (o .reply) (o .model)
-  taken-keeps u b t x =
-      settles-keeps u b (t .trace) (moved-ready (t .moved) v) (eased m (t .mid) u b (v .ready .sound) (v .rests) (moved-eases (t .moved) (v .ready .sound)) x)
+  settled-keeps : (u b : ℕ) (t : Taken m c o) → OnCourse (t .mid) u b → Kept (by b) (For OnCourse b) u (newsOf c (o .reply)) (o .model)
+  settled-keeps u b t x =
+      kept-by (m .clock) (newsOf c (o .reply)) (by b) (For OnCourse b) (o .model) u
+      (settles-keeps u b (t .trace) (moved-ready (t .moved) v) x)
+
+  taken-keeps : (u b : ℕ) → Taken m c o → OnCourse m u b → Kept (by b) (For OnCourse b) u (newsOf c (o .reply)) (o .model)
+  taken-keeps u b t x = settled-keeps u b t (eased m (t .mid) u b (v .ready .sound) (v .rests) (moved-eases (t .moved) (v .ready .sound)) x)
+
+  taken-joins : (t : Taken m c o) (x : Newcomer) → In x (newsOf c (o .reply) .came) → (x .ticket ≡ m .next) × OnCourse (t .mid) (x .ticket) (boundAt m)
+  taken-joins t x i = moved-joins (t .moved) x (subst (In x) (taken-came m c o t) i)
+
+  quiet-comes {ℓ} : {A : Type ℓ} → Quiet m c o → (x : Newcomer) → In x (newsOf c (o .reply) .came) → A
+  quiet-comes q x i = in-nil (subst (λ (e : News). In x (e .came)) (quiet-news m c o q) i)
 
   forecast-kept : (f : Forecast) → Taken m c o → Valid (o .model) → o .reply .head ≡ some f → OnCourse (o .model) (f .ticket) (f .minute)
   forecast-kept f t w e =
@@ -234,18 +227,24 @@ easy-lawful = record {
       (λ (q : Quiet m c (call m c)). ap (λ (o : Result). o .model .settings) (q .same));
   clock = λ m c v. either m c v
       (λ (t : Taken m c (call m c)). settles-clock (t .trace) ∙ moved-clock (t .moved) (call m c .reply) (t .accepted))
-      (λ (q : Quiet m c (call m c)). subst (λ (o : Result). o .model .clock ≡ clockAfter c (o .reply) (m .clock)) (sym (q .same)) (sym (q .clock)));
+      (λ (q : Quiet m c (call m c)). ap (λ (o : Result). o .model .clock) (q .same)
+      ∙ ap (λ (e : News). clockAfter e (m .clock)) (sym (quiet-news m c (call m c) q)));
   tells = λ m c v. either m c v (taken-tells m c (call m c) v) (quiet-tells m c (call m c) v);
-  rest = λ m u b v x. course-rest m u b x (v .ready .sound) (v .rests);
-  keeps = λ m c u b v x. either m c v
-      (λ (t : Taken m c (call m c)). taken-keeps m c (call m c) v u b t x)
-      (λ (q : Quiet m c (call m c)). subst (λ (o : Result). Kept OnCourse u b (o .reply) (o .model)) (sym (q .same)) (inr (refl, x)));
-  joins = λ m n e v a. let t = submit-taken m n e v a in settles-keeps _ _ (t .trace) (moved-ready (t .moved) v) (newcomer (t .moved) .1);
-  fresh = λ m n e v a l.
-      let t = submit-taken m n e v a in
+  keeps = λ b. record {
+    rest = λ m u v x. course-rest m u b x (v .ready .sound) (v .rests);
+    keeps = λ m c u v x. either m c v
+        (λ (t : Taken m c (call m c)). taken-keeps m c (call m c) v u b t x)
+        (λ (q : Quiet m c (call m c)). subst (λ (o : Result). Kept (by b) (For OnCourse b) u (newsOf c (o .reply)) (o .model)) (sym (q .same)) x);
+  };
+  joins = λ m c o v i. either m c v
+      (λ (t : Taken m c (call m c)). settled-keeps m c (call m c) v (o .ticket) (boundAt m) t (taken-joins m c (call m c) v t o i .1))
+      (λ (q : Quiet m c (call m c)). quiet-comes m c (call m c) v q o i);
+  fresh = λ m c o v i l. either m c v
+      (λ (t : Taken m c (call m c)).
       let h = lowest-head m _ (v .ready .sound .asc) l in
-      let i = head-in m (h .0 .job) (h .0 .later) (h .0 .first) in
-      omega (arith, v .ready .sound .below (h .0 .job) (i .0), h .1, newcomer (t .moved) .0);
+      let k = head-in m (h .0 .job) (h .0 .later) (h .0 .first) in
+      omega (arith, v .ready .sound .below (h .0 .job) (k .0), h .1, taken-joins m c (call m c) v t o i .0))
+      (λ (q : Quiet m c (call m c)). quiet-comes m c (call m c) v q o i);
   forecasts = λ m c f v e. either m c v
       (λ (t : Taken m c (call m c)). forecast-kept m c (call m c) v f t (call-valid m c v) e)
       (λ (q : Quiet m c (call m c)). absurd (let x : none ≡ some f = ap (λ (o : Result). o .reply .head) (sym (q .same)) ∙ e in let z : _≡_ {A = ℕ} 0 1 = cc in omega arith));

@@ -2,7 +2,7 @@
 -- Assumes nothing.
 use Prim.Native.Nat.{ℕ, suc, _+_, _*_, _≤_}
 use native.Mathlib.Omega.{arith}
-use mathlib.Core.Path.{_≡_, refl, sym, subst}
+use mathlib.Core.Path.{_≡_, refl, sym, ap, subst, _∙_}
 use mathlib.Core.Bool.{Bool, true, false, not, cond}
 use mathlib.Core.Option.{none}
 use mathlib.Core.List.{List, [], _∷_}
@@ -27,9 +27,8 @@ use Rattle.scheduler.specs.Answers.{Result, accepts, refusing, refuse}
 use Rattle.scheduler.specs.Refusals.{judged, completeRefusal, tickRefusal}
 use Rattle.scheduler.specs.Opening.{openingRefusal, opening}
 use Rattle.jobs.specs.Sound.{Sound, SoundJob, opening-sound, Fit, passed, submit-fit, sound-join, Leaving, early, in-time, sound-leave}
-use Rattle.history.specs.Calls.{Call, submit, complete, tick, profile, refusedWait}
-use Rattle.history.specs.Book.{clockAfter}
-use Rattle.history.specs.Lawful.{comers}
+use Rattle.history.specs.Calls.{Call, submit, complete, tick, unchanged}
+use Rattle.history.specs.News.{Newcomer, newsOf, nothing, refused-news, unchanged-news}
 use Rattle.easy_rules.specs.Easy.{pick, choice, begin, forecast, finished, newJob, rank, submitRefusal, advanced, call}
 use Rattle.easy_rules.specs.Settling.{Chosen, chosen, each-begin, sound-begin, Settles, rest, start, settles, settles-rest, settles-clock}
 use Rattle.easy_rules.specs.Course.{OnCourse, course-clock, begin-keeps, Eases, eased, leave-eases, join-eases, join-course}
@@ -167,6 +166,12 @@ moved-eases {m} (submits n e f room) s = join-eases m n e
 moved-eases {m} (completes t a) s = leave-eases m (m .clock) (select.RunningTicket t) s (early t)
 moved-eases {m} (ticks l) s = leave-eases m (suc (m .clock)) (select.EndingAt (suc (m .clock))) s (in-time l)
 
+-- who comes by it
+abbrev pub joiner : {m : Model} {c : Call} {mid : Model} {t : ℕ} {ts : List ℕ} → Moved m c mid t ts → List Newcomer
+joiner {m} (submits n e f room) = record { ticket = m .next; nodes = n; promise = 0 } ∷ []
+joiner (completes t a) = []
+joiner (ticks l) = []
+
 -- ## Each call is accepted or refused
 
 pub record Taken (m : Model) (c : Call) (o : Result) : Type 0 where
@@ -178,33 +183,30 @@ pub record Taken (m : Model) (c : Call) (o : Result) : Type 0 where
   pub promise : o .reply .promise ≡ 0
   pub head : o .reply .head ≡ forecast m (o .model)
 
--- nothing has changed: the call was refused, or asked for a profile
+-- nothing has changed: the call was refused, or leaves the scheduler as it is
 pub record Quiet (m : Model) (c : Call) (o : Result) : Type 0 where
   pub why : Refusal
   pub same : o ≡ refuse m why
-  pub clock : clockAfter c (refusing why) (m .clock) ≡ m .clock
-  pub none-comes : comers c (refusing why) ≡ []
+  pub silent : newsOf c (refusing why) ≡ nothing
+
+pub taken-came : (m : Model) (c : Call) (o : Result) (t : Taken m c o) → newsOf c (o .reply) .came ≡ joiner (t .moved)
+taken-came m c o t = by (t .moved) refl (t .accepted) (t .promise)
+  where
+    by : {c : Call} {mid : Model} {u : ℕ} {ts : List ℕ} (x : Moved m c mid u ts) → o .reply .ticket ≡ u
+        → o .reply .refusal ≡ refusal.None → o .reply .promise ≡ 0 → newsOf c (o .reply) .came ≡ joiner x
+    by (submits n e f room) q a p = rw (a, q, p)
+    by (completes t y) q a p = rw a
+    by (ticks l) q a p = rw a
+
+pub quiet-news : (m : Model) (c : Call) (o : Result) → Quiet m c o → newsOf c (o .reply) ≡ nothing
+quiet-news m c o q = ap (λ (x : Result). newsOf c (x .reply)) (q .same) ∙ q .silent
 
 finished-taken : (m : Model) (c : Call) (mid : Model) (t : ℕ) (ts : List ℕ) → Moved m c mid t ts → Ready mid → Taken m c (finished m mid t ts)
 unfolding finished
 finished-taken m c mid t ts x r = record { mid = mid; moved = x; trace = settles mid (r .sound); accepted = refl; promise = refl; head = refl }
 
 judge : (m : Model) (c : Call) (r : Refusal) (o : Result) → (accepts r ≡ true → Taken m c o) → Taken m c (judged m r o) ⊎ Quiet m c (judged m r o)
-judge m c r o f = case (accepts r) (λ e. rw e (inl (f e))) (λ e. rw e (inr (record { why = r; same = refl; clock = clock-is c e; none-comes = comers-are c e })))
-  where
-    clock-is : (c : Call) → accepts r ≡ false → clockAfter c (refusing r) (m .clock) ≡ m .clock
-    clock-is (submit n e) q = refl
-    clock-is (complete t) q = refl
-    clock-is tick q = rw q
-    clock-is (profile room) q = refl
-    clock-is (refusedWait w) q = refl
-
-    comers-are : (c : Call) → accepts r ≡ false → comers c (refusing r) ≡ []
-    comers-are (submit n e) q = rw q
-    comers-are (complete t) q = refl
-    comers-are tick q = refl
-    comers-are (profile room) q = refl
-    comers-are (refusedWait w) q = refl
+judge m c r o f = case (accepts r) (λ e. rw e (inl (f e))) (λ e. rw e (inr (record { why = r; same = refl; silent = refused-news c r e })))
 
 -- what is accepted moves the model
 module _ (m : Model) where
@@ -240,8 +242,7 @@ called m (complete t) v =
 called m tick v =
     judge m tick (tickRefusal m) (advanced m (suc (m .clock)) (select.EndingAt (suc (m .clock))))
     (λ a. let x = tick-moves m a in finished-taken m tick _ 0 _ x (moved-ready x v))
-called m (profile room) v = inr (record { why = refusal.None; same = refl; clock = refl; none-comes = refl })
-called m (refusedWait r) v = inr (record { why = r; same = refl; clock = refl; none-comes = refl })
+called m (unchanged r) v = inr (record { why = r; same = refl; silent = unchanged-news r r })
 
 pub call-valid : (m : Model) (c : Call) → Valid m → Valid (call m c .model)
 call-valid m c v =

@@ -4,7 +4,6 @@
 -- Assumes nothing.
 use mathlib.Core.Path.{_≡_, refl, ap, subst, _∙_}
 use mathlib.Core.List.{List, [], _∷_, map}
-use Prim.Native.Nat.{ℕ}
 use Rattle.scheduler.specs.declared.Kind.{Kind}
 use Rattle.scheduler.specs.declared.Kind.the-variants.{Conservative, Easy}
 use Rattle.scheduler.specs.declared.Answer.{Answer}
@@ -15,7 +14,7 @@ use Rattle.scheduler.specs.declared.Scheduler.{Scheduler}
 use Rattle.scheduler.specs.Model.{Model, store, view}
 use Rattle.scheduler.specs.Answers.{Reply, answer, outcome, refuse}
 use Rattle.scheduler.specs.Opening.{opening}
-use Rattle.history.specs.Calls.{Call, profile, refusedWait, Event, after, events, eventsOf}
+use Rattle.history.specs.Calls.{Call, unchanged, Event, after, events, eventsOf}
 use Rattle.history.specs.Guarantee.{Guarantee}
 use Rattle.conservative_rules.specs.Conservative as conservative
 use Rattle.easy_rules.specs.Easy as easy
@@ -51,20 +50,12 @@ pub data MadeAll {D A : Type 0} (Made : D → Call → A → D → Type 0) : D �
   none : {d : D} → MadeAll Made d [] [] d
   next : {d e f : D} {c : Call} {a : A} {cs : List Call} {xs : List A} → Made d c a e → MadeAll Made e cs xs f → MadeAll Made d (c ∷ cs) (a ∷ xs) f
 
--- a profile call of the history, and a refused wait, is its refusal and nothing else
-pub profile-refuses : (m : Model) (room : ℕ) → call m (profile room) ≡ refuse m (call m (profile room) .reply .refusal)
+-- a call that leaves the scheduler as it is gives its refusal and nothing else
+pub unchanged-refuses : (m : Model) (r : Refusal) → call m (unchanged r) ≡ refuse m r
 unfolding conservative.call easy.call
-profile-refuses m room = by (m .settings .kind)
+unchanged-refuses m r = by (m .settings .kind)
   where
-    by : (k : Kind) → rulesOf k m (profile room) ≡ refuse m (rulesOf k m (profile room) .reply .refusal)
-    by Conservative = refl
-    by Easy = refl
-
-pub wait-refuses : (m : Model) (r : Refusal) → call m (refusedWait r) ≡ refuse m r
-unfolding conservative.call easy.call
-wait-refuses m r = by (m .settings .kind)
-  where
-    by : (k : Kind) → rulesOf k m (refusedWait r) ≡ refuse m r
+    by : (k : Kind) → rulesOf k m (unchanged r) ≡ refuse m r
     by Conservative = refl
     by Easy = refl
 

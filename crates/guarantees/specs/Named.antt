@@ -23,7 +23,7 @@ use Rattle.scheduler.specs.Answers.{Result, refuse}
 use Rattle.scheduler.specs.Refusals.{completeRefusal, tickRefusal}
 use Rattle.jobs.specs.Sound.{submit-fit}
 use Rattle.jobs.specs.Judged.{judged-by}
-use Rattle.history.specs.Calls.{Call, submit, complete, tick, profile, refusedWait}
+use Rattle.history.specs.Calls.{Call, submit, complete, tick, unchanged}
 use Rattle.conservative_rules.specs.Conservative as conservative
 use Rattle.easy_rules.specs.Easy as easy
 use Rattle.guarantees.specs.Rules.{rulesOf, call}
@@ -81,8 +81,7 @@ fits-by Conservative m (submit n e) h =
     (λ a. refused-fits m _)
 fits-by Conservative m (complete t) h = judged-by Fits m (completeRefusal m t) (conservative.completed m t) (λ a. advanced-fits m _ _ _ h) (λ a. refused-fits m _)
 fits-by Conservative m tick h = judged-by Fits m (tickRefusal m) (conservative.ticked m) (λ a. advanced-fits m _ _ _ h) (λ a. refused-fits m _)
-fits-by Conservative m (profile room) h = refused-fits m _
-fits-by Conservative m (refusedWait r) h = refused-fits m _
+fits-by Conservative m (unchanged r) h = refused-fits m _
 fits-by Easy m (submit n e) h =
     let j = easy.newJob (m .next) n e in
     judged-by Fits m (easy.submitRefusal m n e) (easy.finished m (joined m j) (m .next) [])
@@ -90,8 +89,7 @@ fits-by Easy m (submit n e) h =
     (λ a. refused-fits m _)
 fits-by Easy m (complete t) h = judged-by Fits m (completeRefusal m t) (easy.advanced m (m .clock) (select.RunningTicket t)) (λ a. leaving-fits m _ (select.RunningTicket t) h) (λ a. refused-fits m _)
 fits-by Easy m tick h = judged-by Fits m (tickRefusal m) (easy.advanced m (suc (m .clock)) (select.EndingAt (suc (m .clock)))) (λ a. leaving-fits m _ (select.EndingAt (suc (m .clock))) h) (λ a. refused-fits m _)
-fits-by Easy m (profile room) h = refused-fits m _
-fits-by Easy m (refusedWait r) h = refused-fits m _
+fits-by Easy m (unchanged r) h = refused-fits m _
 
 pub call-fits : (m : Model) (c : Call) → length (m .jobs) ≤ 64 → Fits (call m c)
 call-fits m c h = fits-by (m .settings .kind) m c h

@@ -1,9 +1,9 @@
 -- Over every list of calls of either kind, tickets are given upward by one from the first, so never twice, and a refused submission uses
 -- none.
 -- Assumes nothing.
-use mathlib.Core.Path.{_≡_, refl, sym, subst}
-use mathlib.Core.Bool.{true}
-use mathlib.Core.List.{List, [], _∷_}
+use mathlib.Core.Path.{_≡_, refl, subst}
+use mathlib.Core.Bool.{Bool, true, false, cond}
+use mathlib.Core.List.{List, [], _∷_, _++_, map}
 use Prim.Native.Nat.{ℕ, suc}
 use Rattle.lists.specs.Tests.{case}
 use Rattle.lists.specs.Lists.{keep}
@@ -14,13 +14,14 @@ use Rattle.scheduler.specs.declared.Select.the-variants as select
 use Rattle.scheduler.specs.Jobs.{picks}
 use Rattle.scheduler.specs.Table.{ticketsOf}
 use Rattle.scheduler.specs.Model.{Model}
-use Rattle.scheduler.specs.Answers.{Reply, Result, accepts}
+use Rattle.scheduler.specs.Answers.{Result, accepts}
 use Rattle.scheduler.specs.Refusals.{completeRefusal, tickRefusal}
 use Rattle.jobs.specs.Order.{asc-keep}
 use Rattle.jobs.specs.Sound.{Sound}
 use Rattle.jobs.specs.Judged.{judged-by}
-use Rattle.history.specs.Calls.{Call, submit, complete, tick, profile, refusedWait, events}
-use Rattle.history.specs.Tickets.{nextAfter, andTicket, ticketsGiven, Upward}
+use Rattle.history.specs.Calls.{Call, submit, complete, tick, unchanged, events}
+use Rattle.history.specs.News.{Newcomer, newsOf}
+use Rattle.history.specs.Tickets.{givenTicket, nextAfter, ticketsGiven, Upward}
 use Rattle.conservative_rules.specs.Faithful as conservative
 use Rattle.conservative_rules.specs.Faithful.{Rising, tickets-rise}
 use Rattle.easy_rules.specs.Easy as rules
@@ -28,7 +29,7 @@ use Rattle.easy_rules.specs.Faithful as easy
 use Rattle.guarantees.specs.Rules.{rulesOf, call}
 use Rattle.guarantees.specs.Premise.{ValidBy, Valid, call-valid}
 
-next-by : (k : Kind) (m : Model) (c : Call) → ValidBy k m → rulesOf k m c .model .next ≡ nextAfter c (rulesOf k m c .reply .refusal) (m .next)
+next-by : (k : Kind) (m : Model) (c : Call) → ValidBy k m → rulesOf k m c .model .next ≡ nextAfter (newsOf c (rulesOf k m c .reply) .came) (m .next)
 next-by Conservative m c v = conservative.next-is m c
 next-by Easy m c v = easy.call-next m c v
 
@@ -36,23 +37,32 @@ ticket-by : (k : Kind) (m : Model) (n e : ℕ) → accepts (rulesOf k m (submit 
 ticket-by Conservative m n e a = conservative.submit-taken m n e a .ticket-is
 ticket-by Easy m n e a = easy.submit-ticket m n e a
 
+no-newcomers : (taken : Bool) → _≡_ {A = List Newcomer} (cond taken [] []) []
+no-newcomers true = refl
+no-newcomers false = refl
+
 -- one call more: its own ticket, and those of the calls after it
-one-more : (c : Call) (r : Reply) (t : ℕ) (ts : List ℕ) → (accepts (r .refusal) ≡ true → (n e : ℕ) → c ≡ submit n e → r .ticket ≡ t) → Upward (nextAfter c (r .refusal) t) ts → Upward t (andTicket c r ts)
-one-more (submit n e) r t ts h u = case (accepts (r .refusal)) (λ a. rw a (h a n e refl, rw a at u)) (λ a. rw a (rw a at u))
-one-more (complete k) r t ts h u = u
-one-more tick r t ts h u = u
-one-more (profile room) r t ts h u = u
-one-more (refusedWait w) r t ts h u = u
+module _ (m : Model) (ts : List ℕ) where
+  abbrev Given : Call → Type 0
+  Given c = Upward (nextAfter (newsOf c (call m c .reply) .came) (m .next)) ts → Upward (m .next) (map givenTicket (newsOf c (call m c .reply) .came) ++ ts)
+
+  none-more : (c : Call) → newsOf c (call m c .reply) .came ≡ [] → Given c
+  none-more c n u = rw n (rw n at u)
+
+  one-more : (c : Call) → Given c
+  one-more (submit n e) =
+      case (accepts (call m (submit n e) .reply .refusal)) (λ a. rw a (λ u. (ticket-by (m .settings .kind) m n e a, u))) (λ a. rw a (λ u. u))
+  one-more (complete t) = none-more (complete t) (no-newcomers (accepts (call m (complete t) .reply .refusal)))
+  one-more tick = none-more tick (no-newcomers (accepts (call m tick .reply .refusal)))
+  one-more (unchanged w) = none-more (unchanged w) (no-newcomers (accepts (call m (unchanged w) .reply .refusal)))
 
 pub tickets-upward : (m : Model) (cs : List Call) → Valid m → Upward (m .next) (ticketsGiven (events call m cs))
 tickets-upward m [] v = tt
 tickets-upward m (c ∷ cs) v =
     let r = call m c in
-    let rest = subst (λ (t : ℕ). Upward t (ticketsGiven (events call (r .model) cs))) (next-by (m .settings .kind) m c v) (tickets-upward (r .model) cs (call-valid m c v)) in
-    one-more c (r .reply) (m .next) _ (λ a n e q. own a n e q) rest
-  where
-    own : accepts (call m c .reply .refusal) ≡ true → (n e : ℕ) → c ≡ submit n e → call m c .reply .ticket ≡ m .next
-    own a n e q = subst (λ (x : Call). accepts (call m x .reply .refusal) ≡ true → call m x .reply .ticket ≡ m .next) (sym q) (ticket-by (m .settings .kind) m n e) a
+    one-more m (ticketsGiven (events call (r .model) cs)) c
+    (subst (λ (t : ℕ). Upward t (ticketsGiven (events call (r .model) cs))) (next-by (m .settings .kind) m c v)
+    (tickets-upward (r .model) cs (call-valid m c v)))
 
 abbrev Ascends : Result → Type 0
 Ascends r = Rising 1 (r .reply .ended)
@@ -70,8 +80,7 @@ ended-by Conservative m c v = conservative.answers-rise m c v .0
 ended-by Easy m (submit n e) v = judged-by Ascends m (rules.submitRefusal m n e) _ (λ a. tt) (λ a. tt)
 ended-by Easy m (complete t) v = judged-by Ascends m (completeRefusal m t) (rules.advanced m (m .clock) (select.RunningTicket t)) (λ a. leaves m (select.RunningTicket t) (v .ready .sound)) (λ a. tt)
 ended-by Easy m tick v = judged-by Ascends m (tickRefusal m) (rules.advanced m (suc (m .clock)) (select.EndingAt (suc (m .clock)))) (λ a. leaves m (select.EndingAt (suc (m .clock))) (v .ready .sound)) (λ a. tt)
-ended-by Easy m (profile room) v = tt
-ended-by Easy m (refusedWait w) v = tt
+ended-by Easy m (unchanged w) v = tt
 
 pub ended-rise : (m : Model) (c : Call) → Valid m → Rising 1 (call m c .reply .ended)
 ended-rise m c v = ended-by (m .settings .kind) m c v

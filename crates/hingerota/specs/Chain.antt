@@ -8,14 +8,14 @@ use Prim.Native.Nat.{ℕ}
 use lib.ListN.{length}
 use Rattle.scheduler.specs.declared.Opening.{Opening}
 use Rattle.scheduler.specs.Model.{Model, store, view}
-use Rattle.scheduler.specs.Answers.{Reply, code, answer, replyOf, noTickets}
+use Rattle.scheduler.specs.Answers.{Reply, answer, replyOf, noTickets}
 use Rattle.scheduler.specs.Opening.{opening, opened}
-use Rattle.history.specs.Calls.{Call, profile, Event, after, events, eventsOf}
+use Rattle.history.specs.Calls.{Call, unchanged, Event, after, events, eventsOf}
 use Rattle.history.specs.Guarantee.{Guarantee}
 use Rattle.guarantees.specs.Rules.{call}
 use Rattle.guarantees.specs.Premise.{Valid, valid-view}
 use Rattle.guarantees.specs.Replies.{reply-back}
-use Rattle.guarantees.specs.Chain.{answerOf, MadeAll, profile-refuses, made-keeps}
+use Rattle.guarantees.specs.Chain.{answerOf, MadeAll, unchanged-refuses, made-keeps}
 use Rattle.guarantees.specs.Statement.{bookOf}
 use Rattle.calls.specs.Show.{profileRefusal}
 use Rattle.hingerota.specs.declared.Desk.{Desk}
@@ -38,8 +38,9 @@ refusedBy n = record { refusal = n; ticket = 0; promise = 0; head = 0; forecast 
 -- a call on the desk d, lent, as its contract says that it was made: what it answers, and the desk after it
 pub data Made (d : Desk) : Call → Answer → Desk → Type 0 where
   onLent : {c : Call} {a : Answer} {e : Desk} → Leaves d c a e → Made d c a e
-  -- the answer of a profile in the history is its refusal
-  profileOnLent : {lent after : List Point} {s : Shown} → Shows d lent s after → Made d (profile (length lent)) (refusedBy (s .refusal)) d
+  -- a profile counts as a call that leaves the desk as it is, by the refusal that it answers
+  profileOnLent : {lent after : List Point} {s : Shown} → Shows d lent s after
+      → Made d (unchanged (profileRefusal (view (read d)) (length lent))) (refusedBy (s .refusal)) d
 
 -- where d mirrors a valid model, stored: what each leaves and answers is that of its definition
 module _ (m : Model) (v : Valid m) where
@@ -49,8 +50,7 @@ module _ (m : Model) (v : Valid m) where
   made-is : {c : Call} {a : Answer} {e : Desk} → Made (mirror (store m)) c a e → (e ≡ mirror (store (call m c .model))) × (a ≡ mirrorAnswer (answer (call m c .reply)))
   made-is (onLent {c} l) = (l .leaves ∙ ap (λ (x : Model). mirror (store (call x c .model))) desk-view, l .answers ∙ ap (λ (x : Model). mirrorAnswer (answer (call x c .reply))) desk-view)
   made-is (profileOnLent {lent} {after} {s} w) =
-      let room = length lent in
-      rw (profile-refuses m room) (refl, ap refusedBy (ap (λ (x : Shown). x .refusal) (w .answers) ∙ ap (λ (x : Model). code (profileRefusal x room)) desk-view))
+      rw (unchanged-refuses m (profileRefusal (view (read (mirror (store m)))) (length lent))) (refl, ap (λ (x : Shown). refusedBy (x .refusal)) (w .answers))
 
 -- From the desk that an opening hands back, a refused one too: desk and answers are those of the list of calls, and the book of the calls
 -- made and the answers received has the guarantees (document 01: "demand 3").

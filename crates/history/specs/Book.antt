@@ -7,8 +7,9 @@ use Prim.Native.Nat.{ℕ, suc, _+_, _*_, min}
 use lib.Dec.{eqb}
 use lib.ListN.{length}
 use Rattle.lists.specs.Lists.{keep, elem}
-use Rattle.scheduler.specs.Answers.{Reply, Forecast, accepts}
-use Rattle.history.specs.Calls.{Call, submit, complete, tick, profile, refusedWait, Event}
+use Rattle.scheduler.specs.Answers.{Forecast}
+use Rattle.history.specs.Calls.{Event}
+use Rattle.history.specs.News.{Newcomer, News, news, clockAfter}
 
 -- "It has started once a call, its intake or a later one, gives its ticket among those started; the start is the clock after that
 -- call. It runs from then until a call gives its ticket among those ended. It waits from intake until it has started."
@@ -53,42 +54,27 @@ start (ended s) = some s
 abbrev pub isWaiting : Entry → Bool
 isWaiting x = waits (x .fate)
 
--- "The clock is the opened desk's minute, plus one for each step not refused."
-abbrev pub clockAfter : Call → Reply → ℕ → ℕ
-clockAfter (submit n e) r m = m
-clockAfter (complete t) r m = m
-clockAfter tick r m = cond (accepts (r .refusal)) (suc m) m
-clockAfter (profile room) r m = m
-clockAfter (refusedWait w) r m = m
-
 -- "r is one more than the number of stacks waiting just before its intake."
 abbrev pub rank : List Entry → ℕ
 rank xs = suc (length (keep isWaiting xs))
 
 -- "A stack is taken in by an intake not refused." u is the unit of the bound
-abbrev pub entry : ℕ → Book → ℕ → Reply → Entry
-entry u b n r = record {
-  ticket = r .ticket;
-  nodes = n;
-  promise = r .promise;
+abbrev pub entry : ℕ → Book → Newcomer → Entry
+entry u b o = record {
+  ticket = o .ticket;
+  nodes = o .nodes;
+  promise = o .promise;
   bound = b .clock + rank (b .entries) * u;
   fate = waiting;
   headed = false;
   forecast = none;
 }
 
-abbrev pub newcomers : ℕ → Book → Call → Reply → List Entry
-newcomers u b (submit n w) r = cond (accepts (r .refusal)) (entry u b n r ∷ []) []
-newcomers u b (complete t) r = []
-newcomers u b tick r = []
-newcomers u b (profile room) r = []
-newcomers u b (refusedWait w) r = []
-
--- the fate of the job with ticket t, after a call that left the clock at c
-abbrev pub fateAfter : ℕ → Reply → ℕ → Fate → Fate
-fateAfter c r t waiting = cond (elem t (r .started)) (running c) waiting
-fateAfter c r t (running s) = cond (elem t (r .ended)) (ended s) (running s)
-fateAfter c r t (ended s) = ended s
+-- the fate of the job with ticket t, after an event that left the clock at c
+abbrev pub fateAfter : ℕ → News → ℕ → Fate → Fate
+fateAfter c e t waiting = cond (elem t (e .started)) (running c) waiting
+fateAfter c e t (running s) = cond (elem t (e .ended)) (ended s) (running s)
+fateAfter c e t (ended s) = ended s
 
 abbrev pub withFate : Entry → Fate → Entry
 withFate x f = record {
@@ -101,8 +87,8 @@ withFate x f = record {
   forecast = x .forecast;
 }
 
-abbrev pub marked : ℕ → Reply → Entry → Entry
-marked c r x = withFate x (fateAfter c r (x .ticket) (x .fate))
+abbrev pub marked : ℕ → News → Entry → Entry
+marked c e x = withFate x (fateAfter c e (x .ticket) (x .fate))
 
 -- "The head is the waiting stack with the lowest ticket."
 abbrev pub lowest : List ℕ → Option ℕ
@@ -139,14 +125,14 @@ hearing f x = record {
 abbrev pub heard : Option ℕ → Option Forecast → Entry → Entry
 heard h f x = cond (isWaiting x && is h (x .ticket) && not (x .headed)) (hearing f x) x
 
-abbrev pub told : ℕ → Reply → List Entry → List Entry
-told c r xs = map (heard (headOf (map (marked c r) xs)) (r .head)) (map (marked c r) xs)
+abbrev pub told : ℕ → News → List Entry → List Entry
+told c e xs = map (heard (headOf (map (marked c e) xs)) (e .head)) (map (marked c e) xs)
 
-unfoldable pub enter : ℕ → Book → Event → Book
+unfoldable pub enter : ℕ → Book → News → Book
 enter u b e =
-    let c = clockAfter (e .call) (e .reply) (b .clock) in
-    record { clock = c; entries = told c (e .reply) (b .entries ++ newcomers u b (e .call) (e .reply)) }
+    let c = clockAfter e (b .clock) in
+    record { clock = c; entries = told c e (b .entries ++ map (entry u b) (e .came)) }
 
 abbrev pub enterAll : ℕ → Book → List Event → Book
 enterAll u b [] = b
-enterAll u b (e ∷ es) = enterAll u (enter u b e) es
+enterAll u b (e ∷ es) = enterAll u (enter u b (news e)) es

@@ -13,6 +13,7 @@ use Rattle.scheduler.specs.declared.Kind.the-variants.{Conservative, Easy}
 use Rattle.scheduler.specs.declared.Refusal.the-variants as refusal
 use Rattle.scheduler.specs.Answers.{Forecast}
 use Rattle.history.specs.Calls.{submit, tick, Event}
+use Rattle.history.specs.News.{news}
 use Rattle.history.specs.Book.{Book, Entry, waiting, running, enter, enterAll}
 use Rattle.history.specs.Guarantee.{StartedBy, Guarantee}
 
@@ -74,10 +75,11 @@ bound-broken g =
     let h : Guarantee Easy 10 (waiting-at 10080) = subst (Guarantee Easy 10) at-bound-is g in
     never late 10080 refl (h .bounds refl late (here refl) (omega arith))
 
-pub bound-late : Guarantee Easy 10 (enter 10080 at-bound (ticked (1 ∷ []))) → ⊥
+pub bound-late : Guarantee Easy 10 (enter 10080 at-bound (news (ticked (1 ∷ [])))) → ⊥
 unfolding enter late
 bound-late g =
-    let h : Guarantee Easy 10 (enter 10080 (waiting-at 10080) (ticked (1 ∷ []))) = subst (λ (b : Book). Guarantee Easy 10 (enter 10080 b (ticked (1 ∷ [])))) at-bound-is g in
+    let h : Guarantee Easy 10 (enter 10080 (waiting-at 10080) (news (ticked (1 ∷ [])))) =
+    subst (λ (b : Book). Guarantee Easy 10 (enter 10080 b (news (ticked (1 ∷ []))))) at-bound-is g in
     too-late _ 10080 refl (h .bounds refl _ (here refl) (omega arith))
 
 abbrev soon : Option Forecast

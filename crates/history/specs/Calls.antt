@@ -16,10 +16,8 @@ pub data Call : Type 0 where
   submit : (nodes estimate : ℕ) → Call
   complete : (ticket : ℕ) → Call
   tick : Call
-  -- the list lent to it has room for so many points
-  profile : (room : ℕ) → Call
-  -- a wait that was refused
-  refusedWait : Refusal → Call
+  -- a call that leaves the scheduler as it is, and answers with this refusal or none: a profile, a refused wait
+  unchanged : Refusal → Call
 
 -- the call that a request of the code asks for
 abbrev pub asked : Request → Call
@@ -56,7 +54,7 @@ pub data Command : Type 0 where
 
 abbrev pub callsOf : Model → Command → List Call
 callsOf m (ask c) = c ∷ []
-callsOf m (wait n) = cond (accepts (waitRefusal m n)) (replicate n tick) (refusedWait (waitRefusal m n) ∷ [])
+callsOf m (wait n) = cond (accepts (waitRefusal m n)) (replicate n tick) (unchanged (waitRefusal m n) ∷ [])
 
 abbrev pub allCalls : Rules → Model → List Command → List Call
 allCalls R m [] = []

@@ -1,4 +1,5 @@
 pub mod Calls
+pub mod News
 pub mod Tickets
 pub mod Book
 pub mod Guarantee

@@ -4,7 +4,7 @@
 -- Assumes nothing.
 use mathlib.Core.Path.{_≡_, refl, sym, ap, subst, _∙_}
 use mathlib.Core.Bool.{true, false, not, _&&_}
-use mathlib.Core.List.{List, [], _∷_, _++_, map, map-append}
+use mathlib.Core.List.{List, [], _∷_, _++_, map}
 use mathlib.Core.Logic.{_⊎_, inl, inr}
 use mathlib.Core.Option.{Option, none, some}
 use Prim.Native.Nat.{ℕ, _+_, _*_, _≤_}
@@ -13,27 +13,26 @@ use lib.Dec.{eqb}
 use lib.ListN.{length, length-map}
 use borrow.Author.Tests.{eqb-true, eq-eqb, not-false}
 use Rattle.lists.specs.Tests.{case, true-false}
-use Rattle.lists.specs.Lists.{keep, elem, In, in-nil, in-cons, in-append, map-in, keep-append}
+use Rattle.lists.specs.Lists.{keep, elem, In, in-append, map-in}
 use Rattle.scheduler.specs.declared.Kind.{Kind}
 use Rattle.scheduler.specs.declared.Kind.the-variants.{Conservative, Easy}
 use Rattle.scheduler.specs.Jobs as jobs
 use Rattle.scheduler.specs.Settings.{unit}
 use Rattle.scheduler.specs.Table.{ticketOf}
 use Rattle.scheduler.specs.Model.{Model}
-use Rattle.scheduler.specs.Answers.{Reply, Forecast, accepts}
-use Rattle.history.specs.Calls.{Call, submit, complete, tick, profile, refusedWait, Rules, after, events}
-use Rattle.history.specs.Book.{Fate, waiting, running, ended, Entry, Book, waits, start, isWaiting, clockAfter, rank, entry, newcomers, fateAfter, marked, lowest, entryTicket, headOf, is, given, hearing, heard, enter, enterAll}
+use Rattle.scheduler.specs.Answers.{Forecast}
+use Rattle.history.specs.Calls.{Call, Rules, after, events}
+use Rattle.history.specs.News.{Newcomer, News, clockAfter}
+use Rattle.history.specs.Book.{Fate, waiting, running, ended, Entry, Book, waits, start, isWaiting, rank, entry, fateAfter, marked, lowest, entryTicket, headOf, is, given, hearing, heard, enter, enterAll}
 use Rattle.history.specs.Guarantee.{StartedBy, Guarantee}
-use Rattle.history.specs.Seen.{seen, isLiveEntry, keep-seen, marked-seen, Heard, same, first-time, heard-by, heard-seen, drop-ended, queue, queue-seen, same-queue, same-nodes}
-use Rattle.history.specs.Lawful.{Shown, shown, isLive, remark, comers, deadline, boundAt, lowestWaiting, Kept, Lawful}
+use Rattle.history.specs.Seen.{seen, isLiveEntry, keep-seen, marked-seen, Heard, same, first-time, heard-by, heard-seen, drop-ended, queue, queue-seen, came-seen, same-queue, same-nodes}
+use Rattle.history.specs.Lawful.{Shown, shown, isLive, remark, comers, deadline, boundAt, lowestWaiting, said, Aim, by, For, Meets, Kept, Keeps, Lawful}
 
 -- ## Agreement
 
 -- the job t, whose fate is f, has met the deadline d, or is on course to meet it
 abbrev pub OnTime : (Model → ℕ → ℕ → Type 0) → Model → ℕ → Fate → ℕ → Type 0
-OnTime OnCourse m t waiting d = OnCourse m t d
-OnTime OnCourse m t (running s) d = s ≤ d
-OnTime OnCourse m t (ended s) d = s ≤ d
+OnTime OnCourse m t f d = Meets (by d) (For OnCourse d) m t f
 
 abbrev pub deadlineOf : Kind → Entry → ℕ
 deadlineOf k x = deadline k (x .promise) (x .bound)
@@ -48,43 +47,6 @@ pub record Agrees (k : Kind) (OnCourse : Model → ℕ → ℕ → Type 0) (m : 
 
 -- ## One call
 
--- the newcomer, as the book and as the interface have it
-newcomers-seen : (u : ℕ) (b : Book) (c : Call) (r : Reply) → map seen (newcomers u b c r) ≡ comers c r
-newcomers-seen u b (submit n e) r = case (accepts (r .refusal)) (λ a. rw a) (λ a. rw a)
-newcomers-seen u b (complete t) r = refl
-newcomers-seen u b tick r = refl
-newcomers-seen u b (profile room) r = refl
-newcomers-seen u b (refusedWait w) r = refl
-
-comers-live : (c : Call) (r : Reply) → keep isLive (comers c r) ≡ comers c r
-comers-live (submit n e) r = case (accepts (r .refusal)) (λ a. rw a) (λ a. rw a)
-comers-live (complete t) r = refl
-comers-live tick r = refl
-comers-live (profile room) r = refl
-comers-live (refusedWait w) r = refl
-
--- whoever comes new: a submission was accepted, and the entry is its
-record New (u : ℕ) (b : Book) (c : Call) (r : Reply) (x : Entry) : Type 0 where
-  nodes : ℕ
-  estimate : ℕ
-  call-is : c ≡ submit nodes estimate
-  taken : accepts (r .refusal) ≡ true
-  entry-is : x ≡ entry u b nodes r
-
-newcomer : (u : ℕ) (b : Book) (c : Call) (r : Reply) {x : Entry} → In x (newcomers u b c r) → New u b c r x
-newcomer u b (submit n e) r {x} i =
-    case (accepts (r .refusal))
-    (λ a. record { nodes = n; estimate = e; call-is = refl; taken = a; entry-is = one (in-cons (rw a at i)) })
-    (λ a. in-nil (rw a at i))
-  where
-    one : (x ≡ entry u b n r) ⊎ In x [] → x ≡ entry u b n r
-    one (inl q) = q
-    one (inr k) = in-nil k
-newcomer u b (complete t) r i = in-nil i
-newcomer u b tick r i = in-nil i
-newcomer u b (profile room) r i = in-nil i
-newcomer u b (refusedWait w) r i = in-nil i
-
 is-some : (h : Option ℕ) (t : ℕ) → is h t ≡ true → h ≡ some t
 is-some none t e = true-false false e refl
 is-some (some x) t e = ap some (eqb-true x t e)
@@ -98,7 +60,7 @@ waiting-is (running s) e = true-false false e refl
 waiting-is (ended s) e = true-false false e refl
 
 -- who waits after a call waited before it
-waited : (c : ℕ) (r : Reply) (t : ℕ) (f : Fate) → waits (fateAfter c r t f) ≡ true → waits f ≡ true
+waited : (c : ℕ) (r : News) (t : ℕ) (f : Fate) → waits (fateAfter c r t f) ≡ true → waits f ≡ true
 waited c r t waiting e = refl
 waited c r t (running s) e = case (elem t (r .ended)) (λ q. rw q at e) (λ q. rw q at e)
 waited c r t (ended s) e = e
@@ -114,40 +76,40 @@ given-is (some F) t d e = case (eqb (F .ticket) t) (λ q. (F, refl, eqb-true (F 
     never : {A : Type 0} → none ≡ some d → A
     never s = absurd (let z : _≡_ {A = ℕ} 0 1 = cc in omega arith)
 
+-- and one that the answer gives is given
+given-told : (h : Option Forecast) (F : Forecast) (t : ℕ) → h ≡ some F → F .ticket ≡ t → given h t ≡ some (F .minute)
+given-told h F t e q = rw (e, eq-eqb (F .ticket) t q)
+
+-- what each call keeps of the start of a job that waits, it keeps of every job
+module _ (R : Rules) (Valid : Model → Type 0) (a : Aim) (Course : Model → ℕ → Type 0) (K : Keeps R Valid a Course) (m : Model) (c : Call) (v : Valid m) where
+  pub kept-after : (t : ℕ) (f : Fate) → Meets a Course m t f → Meets a Course (R m c .model) t (fateAfter (R m c .model .clock) (said R m c) t f)
+  kept-after t waiting o = K .keeps m c t v o
+  kept-after t (running s) o = case (elem t (R m c .reply .ended)) (λ e. rw e o) (λ e. rw e o)
+  kept-after t (ended s) o = o
+
 module _ {k : Kind} {R : Rules} {Valid : Model → Type 0} {OnCourse : Model → ℕ → ℕ → Type 0} (L : Lawful k R Valid OnCourse) where
-  -- a fate after the call: on time before, or kept by the call, it is on time after
-  module _ (m : Model) (c : Call) (v : Valid m) where
-    kept-time : (c′ t d : ℕ) → R m c .model .clock ≡ c′ → Kept OnCourse t d (R m c .reply) (R m c .model) → OnTime OnCourse (R m c .model) t (fateAfter c′ (R m c .reply) t waiting) d
-    kept-time c′ t d q (inl (e, l)) = rw e (omega arith)
-    kept-time c′ t d q (inr (e, o)) = rw e o
-
-    time-after : (c′ t d : ℕ) (f : Fate) → R m c .model .clock ≡ c′ → OnTime OnCourse m t f d → OnTime OnCourse (R m c .model) t (fateAfter c′ (R m c .reply) t f) d
-    time-after c′ t d waiting q o = kept-time c′ t d q (L .keeps m c t d v o)
-    time-after c′ t d (running s) q o = case (elem t (R m c .reply .ended)) (λ e. rw e o) (λ e. rw e o)
-    time-after c′ t d (ended s) q o = o
-
   -- ### the book after the call
   module _ (m : Model) (c : Call) (v : Valid m) (b : Book) (a : Agrees k OnCourse m b) (u : ℕ) (u-is : u ≡ unit (m .settings)) where
-    abbrev r : Reply
-    r = R m c .reply
+    abbrev r : News
+    r = said R m c
 
     abbrev m′ : Model
     m′ = R m c .model
 
     abbrev c′ : ℕ
-    c′ = clockAfter c r (b .clock)
+    c′ = clockAfter r (b .clock)
 
     abbrev xs : List Entry
-    xs = b .entries ++ newcomers u b c r
+    xs = b .entries ++ map (entry u b) (r .came)
 
     abbrev ys : List Entry
     ys = map (marked c′ r) xs
 
     abbrev b′ : Book
-    b′ = enter u b (record { call = c; reply = r })
+    b′ = enter u b r
 
     clock-after : m′ .clock ≡ c′
-    clock-after = L .clock m c v ∙ ap (clockAfter c r) (sym (a .clock-is))
+    clock-after = L .clock m c v ∙ ap (clockAfter r) (sym (a .clock-is))
 
     -- what the entries show, up to those that have ended, is what the jobs show
     live-after : map seen (keep isLiveEntry (b′ .entries)) ≡ map shown (m′ .jobs)
@@ -156,15 +118,9 @@ module _ {k : Kind} {R : Rules} {Valid : Model → Type 0} {OnCourse : Model →
         keep-seen (map (heard (headOf ys) (r .head)) ys)
         ∙ ap (keep isLive) (heard-seen (headOf ys) (r .head) ys ∙ marked-seen c′ r xs)
         ∙ drop-ended c′ r (map seen xs)
-        ∙ ap (λ (l : List Shown). keep isLive (map (remark c′ r) l)) before
+        ∙ ap (λ (l : List Shown). keep isLive (map (remark c′ r) l))
+        (came-seen u b (b .entries) (r .came) ∙ ap (λ (l : List Shown). l ++ comers r) (a .jobs-are))
         ∙ sym (rw clock-after at (L .tells m c v))
-      where
-        before : keep isLive (map seen xs) ≡ map shown (m .jobs) ++ comers c r
-        before =
-            ap (keep isLive) (map-append seen (b .entries) (newcomers u b c r) ∙ ap (λ (l : List Shown). map seen (b .entries) ++ l) (newcomers-seen u b c r))
-            ∙ keep-append isLive (map seen (b .entries)) (comers c r)
-            ∙ ap (λ (l : List Shown). l ++ keep isLive (comers c r)) (sym (keep-seen (b .entries)) ∙ a .jobs-are)
-            ∙ ap (λ (l : List Shown). map shown (m .jobs) ++ l) (comers-live c r)
 
     -- the heads
     head-before : headOf (b .entries) ≡ lowestWaiting m
@@ -187,10 +143,10 @@ module _ {k : Kind} {R : Rules} {Valid : Model → Type 0} {OnCourse : Model →
         ∙ length-map (keep jobs.isWaiting (m .jobs)) ticketOf in
         rw (u-is, a .clock-is, q)
 
-    -- an entry before the heads are told: one of the book before, or the newcomer
+    -- an entry before the heads are told: one of the book before, or a newcomer
     data Came : Entry → Type 0 where
       old : (x : Entry) → In x (b .entries) → Came x
-      new : (n e : ℕ) → c ≡ submit n e → accepts (r .refusal) ≡ true → Came (entry u b n r)
+      new : (o : Newcomer) → In o (r .came) → Came (entry u b o)
 
     -- The walk over the entries after the call: each comes from one before it, and hears a forecast or does not.
     each : (P : Entry → Type 0)
@@ -205,9 +161,9 @@ module _ {k : Kind} {R : Rules} {Valid : Model → Type 0} {OnCourse : Model →
         from (q .0) (p .2 ∙ ap (heard (headOf ys) (r .head)) (q .2)) (origin (q .0) (in-append (b .entries) (q .1)))
         (heard-by (headOf ys) (r .head) (marked c′ r (q .0)))
       where
-        origin : (x : Entry) → In x (b .entries) ⊎ In x (newcomers u b c r) → Came x
+        origin : (x : Entry) → In x (b .entries) ⊎ In x (map (entry u b) (r .came)) → Came x
         origin x (inl k) = old x k
-        origin x (inr k) = let w = newcomer u b c r k in subst Came (sym (w .entry-is)) (new (w .nodes) (w .estimate) (w .call-is) (w .taken))
+        origin x (inr k) = let q = map-in (entry u b) (r .came) k in subst Came (sym (q .2)) (new (q .0) (q .1))
 
         from : (x : Entry) → z ≡ heard (headOf ys) (r .head) (marked c′ r x) → Came x → Heard (headOf ys) (r .head) (marked c′ r x) → P z
         from x e o (same q t) = subst P (sym (e ∙ q)) (f x o t)
@@ -215,16 +171,15 @@ module _ {k : Kind} {R : Rules} {Valid : Model → Type 0} {OnCourse : Model →
 
     -- who met a deadline, or was on course for it, does so after the call
     on-time : (t d : ℕ) (f : Fate) → OnTime OnCourse m t f d → OnTime OnCourse m′ t (fateAfter c′ r t f) d
-    on-time t d f = time-after m c v c′ t d f clock-after
+    on-time t d f o =
+        subst (λ (x : ℕ). OnTime OnCourse m′ t (fateAfter x r t f) d) clock-after
+        (kept-after R Valid (by d) (For OnCourse d) (L .keeps d) m c v t f o)
 
     deadline-came : (x : Entry) → Came x → OnTime OnCourse m′ (x .ticket) (fateAfter c′ r (x .ticket) (x .fate)) (deadlineOf k x)
     deadline-came x (old y i) = on-time (x .ticket) (deadlineOf k x) (x .fate) (a .deadlines x i)
-    deadline-came x (new n e q t) =
-        kept-time m c v c′ (r .ticket) (deadlineOf k (entry u b n r)) clock-after
-        (subst (λ (d : ℕ). Kept OnCourse (r .ticket) (deadline k (r .promise) d) r m′) bound-is (joined q t))
-      where
-        joined : c ≡ submit n e → accepts (r .refusal) ≡ true → Kept OnCourse (r .ticket) (deadline k (r .promise) (boundAt m)) r m′
-        joined q = rw q (L .joins m n e v)
+    deadline-came x (new o i) =
+        subst (λ (y : ℕ). OnTime OnCourse m′ (o .ticket) (fateAfter y r (o .ticket) waiting) (deadlineOf k (entry u b o))) clock-after
+        (subst (λ (d : ℕ). let e = deadline k (o .promise) d in Kept (by e) (For OnCourse e) (o .ticket) r m′) bound-is (L .joins m c o v i))
 
     deadline-after : (z : Entry) → In z (b′ .entries) → OnTime OnCourse m′ (z .ticket) (z .fate) (deadlineOf k z)
     deadline-after =
@@ -233,7 +188,7 @@ module _ {k : Kind} {R : Rules} {Valid : Model → Type 0} {OnCourse : Model →
     -- a forecast that an entry had, or hears now
     forecast-came : (x : Entry) (f : ℕ) → Came x → x .forecast ≡ some f → OnTime OnCourse m′ (x .ticket) (fateAfter c′ r (x .ticket) (x .fate)) f
     forecast-came x f (old y i) e = on-time (x .ticket) f (x .fate) (a .forecasts x f i e)
-    forecast-came x f (new n w q t) e = absurd (let z : _≡_ {A = ℕ} 0 1 = cc in omega arith)
+    forecast-came x f (new o i) e = absurd (let z : _≡_ {A = ℕ} 0 1 = cc in omega arith)
 
     forecast-now : (x : Entry) (f : ℕ) → given (r .head) (x .ticket) ≡ some f → OnCourse m′ (x .ticket) f
     forecast-now x f g =
@@ -251,14 +206,11 @@ module _ {k : Kind} {R : Rules} {Valid : Model → Type 0} {OnCourse : Model →
     -- who is head now for the first time was not head before
     not-before : (x : Entry) → Came x → waits (x .fate) ≡ true → x .headed ≡ false → lowestWaiting m ≡ some (x .ticket) → ⊥
     not-before x (old y i) w n h = true-false (x .headed) (a .heads x i w (head-before ∙ h)) n
-    not-before x (new n e q t) w l h = fresh q t h
-      where
-        fresh : c ≡ submit n e → accepts (r .refusal) ≡ true → lowestWaiting m ≡ some (r .ticket) → ⊥
-        fresh q = rw q (L .fresh m n e v)
+    not-before x (new o i) w n h = L .fresh m c o v i h
 
     headed-came : k ≡ Easy → (x : Entry) → Came x → x .headed ≡ true → (f : ℕ) × (x .forecast ≡ some f)
     headed-came ke x (old y i) h = a .heard-one ke x i h
-    headed-came ke x (new n e q t) h = true-false false h refl
+    headed-came ke x (new o i) h = true-false false h refl
 
     heard-after : k ≡ Easy → (z : Entry) → In z (b′ .entries) → z .headed ≡ true → (f : ℕ) × (z .forecast ≡ some f)
     heard-after ke =
@@ -267,7 +219,7 @@ module _ {k : Kind} {R : Rules} {Valid : Model → Type 0} {OnCourse : Model →
         (λ x o w hd n h.
         let now : lowestWaiting m′ ≡ some (x .ticket) = sym head-after ∙ head-heard ∙ is-some (headOf ys) (x .ticket) hd in
         let F = L .hears ke m c (x .ticket) v now (not-before x o (waited c′ r (x .ticket) (x .fate) w) n) in
-        (F .0 .minute, rw (F .1, eq-eqb (F .0 .ticket) (x .ticket) (F .2))))
+        (F .0 .minute, given-told (r .head) (F .0) (x .ticket) (F .1) (F .2)))
 
     heads-after : (z : Entry) → In z (b′ .entries) → isWaiting z ≡ true → headOf (b′ .entries) ≡ some (z .ticket) → z .headed ≡ true
     heads-after =
@@ -297,7 +249,7 @@ module _ {k : Kind} {R : Rules} {Valid : Model → Type 0} {OnCourse : Model →
   pub follows : (u : ℕ) (m : Model) (b : Book) (cs : List Call) → Follows u m b → Follows u (after R m cs) (enterAll u b (events R m cs))
   follows u m b [] f = f
   follows u m b (c ∷ cs) f =
-      follows u (R m c .model) (enter u b (record { call = c; reply = R m c .reply })) cs
+      follows u (R m c .model) (enter u b (said R m c)) cs
       (record {
         valid = L .valid m c (f .valid);
         agrees = agrees-call m c (f .valid) b (f .agrees) u (f .unit-is);
@@ -311,7 +263,7 @@ module _ {k : Kind} {R : Rules} {Valid : Model → Type 0} {OnCourse : Model →
     started-by x d o l = go (x .fate) refl o
       where
         go : (f : Fate) → x .fate ≡ f → OnTime OnCourse m (x .ticket) f d → StartedBy x d
-        go waiting e o = absurd (omega (arith, L .rest m (x .ticket) d v o, a .clock-is))
+        go waiting e o = absurd (omega (arith, L .keeps d .rest m (x .ticket) v o, a .clock-is))
         go (running s) e o = record { minute = s; started = ap start e; by = o }
         go (ended s) e o = record { minute = s; started = ap start e; by = o }
 

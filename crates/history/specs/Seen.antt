@@ -2,12 +2,12 @@
 -- Assumes nothing.
 use mathlib.Core.Path.{_≡_, refl, sym, ap, _∙_}
 use mathlib.Core.Bool.{Bool, true, false, not, _&&_}
-use mathlib.Core.List.{List, map, map-map}
+use mathlib.Core.List.{List, _++_, map, map-map, map-append}
 use mathlib.Core.Option.{Option}
 use Prim.Native.Nat.{ℕ}
 use borrow.Author.Tests.{not-true}
 use Rattle.lists.specs.Tests.{case, true-false, both, on}
-use Rattle.lists.specs.Lists.{keep, sum, sum-kept, sum-map, sum-cong, All, all-in, keep-keep, keep-cong, keep-map, map-cong}
+use Rattle.lists.specs.Lists.{keep, keep-append, keep-all, sum, sum-kept, sum-map, sum-cong, All, all-in, keep-keep, keep-cong, keep-map, map-cong}
 use Rattle.scheduler.specs.declared.State.{State}
 use Rattle.scheduler.specs.declared.State.the-variants.{Unused, Waiting, Running}
 use Rattle.scheduler.specs.declared.Job.{Job}
@@ -15,10 +15,11 @@ use Rattle.scheduler.specs.Jobs as jobs
 use Rattle.scheduler.specs.Jobs.{live?, waiting?, running?}
 use Rattle.scheduler.specs.Table.{nodesHeld, ticketsOf}
 use Rattle.scheduler.specs.Model.{Live}
-use Rattle.scheduler.specs.Answers.{Reply, Forecast}
-use Rattle.history.specs.Book.{Fate, waiting, running, ended, Entry, waits, runs, isWaiting, fateAfter, marked, entryTicket, is, hearing, heard}
+use Rattle.scheduler.specs.Answers.{Forecast}
+use Rattle.history.specs.News.{Newcomer, News}
+use Rattle.history.specs.Book.{Fate, waiting, running, ended, Entry, Book, entry, waits, runs, isWaiting, fateAfter, marked, entryTicket, is, hearing, heard}
 use Rattle.history.specs.Guarantee.{running-nodes}
-use Rattle.history.specs.Lawful.{Shown, fateBy, shown, live, isLive, remark}
+use Rattle.history.specs.Lawful.{Shown, fateBy, shown, live, isLive, remark, newly}
 
 abbrev pub seen : Entry → Shown
 seen x = record { ticket = x .ticket; nodes = x .nodes; promise = x .promise; fate = x .fate }
@@ -29,10 +30,10 @@ isLiveEntry x = live (x .fate)
 pub keep-seen : (xs : List Entry) → map seen (keep isLiveEntry xs) ≡ keep isLive (map seen xs)
 keep-seen xs = sym (keep-map isLive seen xs)
 
--- ## After a call
+-- ## After an event
 
-pub marked-seen : (c : ℕ) (r : Reply) (xs : List Entry) → map seen (map (marked c r) xs) ≡ map (remark c r) (map seen xs)
-marked-seen c r xs = map-map seen (marked c r) xs ∙ sym (map-map (remark c r) seen xs)
+pub marked-seen : (c : ℕ) (e : News) (xs : List Entry) → map seen (map (marked c e) xs) ≡ map (remark c e) (map seen xs)
+marked-seen c e xs = map-map seen (marked c e) xs ∙ sym (map-map (remark c e) seen xs)
 
 -- an entry that hears a forecast was waiting, head, and had not been head before
 pub data Heard (h : Option ℕ) (f : Option Forecast) (y : Entry) : Type 0 where
@@ -55,17 +56,28 @@ heard-seen h f ys = map-map seen (heard h f) ys ∙ map-cong (λ (y : Entry). se
     one y (first-time e w i n) = ap seen e
 
 -- who has ended stays so
-ended-stays : (c : ℕ) (r : Reply) (t : ℕ) (f : Fate) → (live f && live (fateAfter c r t f)) ≡ live (fateAfter c r t f)
-ended-stays c r t waiting = refl
-ended-stays c r t (running s) = refl
-ended-stays c r t (ended s) = refl
+ended-stays : (c : ℕ) (e : News) (t : ℕ) (f : Fate) → (live f && live (fateAfter c e t f)) ≡ live (fateAfter c e t f)
+ended-stays c e t waiting = refl
+ended-stays c e t (running s) = refl
+ended-stays c e t (ended s) = refl
 
-pub drop-ended : (c : ℕ) (r : Reply) (xs : List Shown) → keep isLive (map (remark c r) xs) ≡ keep isLive (map (remark c r) (keep isLive xs))
-drop-ended c r xs =
-    let after : Shown → Bool = λ (x : Shown). isLive (remark c r x) in
-    keep-map isLive (remark c r) xs
-    ∙ ap (map (remark c r)) (sym (keep-keep after isLive xs ∙ keep-cong (λ (x : Shown). isLive x && after x) after xs (λ x i. ended-stays c r (x .ticket) (x .fate))))
-    ∙ sym (keep-map isLive (remark c r) (keep isLive xs))
+pub drop-ended : (c : ℕ) (e : News) (xs : List Shown) → keep isLive (map (remark c e) xs) ≡ keep isLive (map (remark c e) (keep isLive xs))
+drop-ended c e xs =
+    let after : Shown → Bool = λ (x : Shown). isLive (remark c e x) in
+    keep-map isLive (remark c e) xs
+    ∙ ap (map (remark c e))
+    (sym (keep-keep after isLive xs ∙ keep-cong (λ (x : Shown). isLive x && after x) after xs (λ x i. ended-stays c e (x .ticket) (x .fate))))
+    ∙ sym (keep-map isLive (remark c e) (keep isLive xs))
+
+-- who comes is live
+pub came-seen : (u : ℕ) (b : Book) (xs : List Entry) (os : List Newcomer)
+    → keep isLive (map seen (xs ++ map (entry u b) os)) ≡ map seen (keep isLiveEntry xs) ++ map newly os
+came-seen u b xs os =
+    ap (keep isLive) (map-append seen xs (map (entry u b) os))
+    ∙ keep-append isLive (map seen xs) (map seen (map (entry u b) os))
+    ∙ ap (λ (l : List Shown). l ++ keep isLive (map seen (map (entry u b) os))) (keep-map isLive seen xs)
+    ∙ ap (λ (l : List Shown). map seen (keep isLiveEntry xs) ++ l)
+    (ap (keep isLive) (map-map seen (entry u b) os) ∙ keep-map isLive newly os ∙ ap (map newly) (keep-all (λ (o : Newcomer). true) os (λ o i. refl)))
 
 -- ## Who waits
 

@@ -7,7 +7,6 @@ use mathlib.Core.Path.{_≡_, refl, ap, _∙_}
 use mathlib.Core.Bool.{false}
 use mathlib.Core.List.{List, map}
 use Prim.Native.Nat.{ℕ}
-use lib.ListN.{length}
 use Rattle.plan.specs.declared.Point.{Point}
 use Rattle.scheduler.specs.declared.Answer.{Answer}
 use Rattle.scheduler.specs.declared.Opening.{Opening}
@@ -18,16 +17,16 @@ use Rattle.scheduler.specs.Model.{Model, store, view}
 use Rattle.scheduler.specs.Answers.{accepts, answer, replyOf, outcome, refusedAnswer}
 use Rattle.scheduler.specs.Refusals.{waitRefusal}
 use Rattle.scheduler.specs.Opening.{opening, opened}
-use Rattle.history.specs.Calls.{Call, profile, refusedWait, after, events, eventsOf}
+use Rattle.history.specs.Calls.{Call, unchanged, after, events, eventsOf}
 use Rattle.history.specs.Guarantee.{Guarantee}
 use Rattle.guarantees.specs.Rules.{call}
 use Rattle.guarantees.specs.Premise.{Valid, valid-view}
 use Rattle.guarantees.specs.Replies.{reply-back}
-use Rattle.guarantees.specs.Chain.{gives, answerOf, MadeAll, profile-refuses, wait-refuses, made-keeps}
+use Rattle.guarantees.specs.Chain.{gives, answerOf, MadeAll, unchanged-refuses, made-keeps}
 use Rattle.guarantees.specs.Statement.{bookOf}
 use Rattle.calls.specs.declared.Shown.{Shown}
 use Rattle.calls.specs.declared.ProfileOutcome.{ProfileOutcome}
-use Rattle.calls.specs.Show.{profileRefusal, showing, profileOutcome}
+use Rattle.calls.specs.Show.{profileOutcome}
 use Rattle.lent_calls.specs.Left.{Leaves}
 use Rattle.lent_calls.specs.Shows.{Shows}
 
@@ -35,25 +34,24 @@ use Rattle.lent_calls.specs.Shows.{Shows}
 pub data Made (d : Scheduler) : Call → Answer → Scheduler → Type 0 where
   byValue : {c : Call} {o : Outcome} → o ≡ gives d c → Made d c (o .answer) (o .scheduler)
   onLent : {c : Call} {a : Answer} {e : Scheduler} → Leaves d c a e → Made d c a e
-  -- the answer of a profile in the history is its refusal
-  profileByValue : {room : ℕ} {p : ProfileOutcome} → p ≡ profileOutcome (view d) room → Made d (profile room) (refusedAnswer (p .answer .refusal)) d
-  profileOnLent : {lent after : List Point} {s : Shown} → Shows d lent s after → Made d (profile (length lent)) (refusedAnswer (s .refusal)) d
-  -- and so is that of a wait which is refused; one that is not is as many ticks
-  waitRefused : {r : Refusal} (minutes : ℕ) → r ≡ waitRefusal (view d) minutes → accepts r ≡ false → Made d (refusedWait r) (refusedAnswer r) d
+  -- a profile counts as a call that leaves the scheduler as it is, by the refusal that it answers
+  profileByValue : (room : ℕ) {p : ProfileOutcome} → p ≡ profileOutcome (view d) room
+      → Made d (unchanged (p .answer .refusal)) (refusedAnswer (p .answer .refusal)) d
+  profileOnLent : {lent after : List Point} {s : Shown} → Shows d lent s after → Made d (unchanged (s .refusal)) (refusedAnswer (s .refusal)) d
+  -- and so does a wait which is refused; one that is not is as many ticks
+  waitRefused : {r : Refusal} (minutes : ℕ) → r ≡ waitRefusal (view d) minutes → accepts r ≡ false → Made d (unchanged r) (refusedAnswer r) d
 
 -- where d is a valid model, stored: what each leaves and answers is that of its definition
 module _ (m : Model) (v : Valid m) where
-  refused-profile : (room : ℕ) (r : Refusal) → r ≡ profileRefusal (view (store m)) room
-      → (store m ≡ store (call m (profile room) .model)) × (refusedAnswer r ≡ answer (call m (profile room) .reply))
-  refused-profile room r e = rw (profile-refuses m room) (refl, ap refusedAnswer (e ∙ ap (λ (x : Model). profileRefusal x room) (valid-view m v)))
+  unchanged-is : (r : Refusal) → (store m ≡ store (call m (unchanged r) .model)) × (refusedAnswer r ≡ answer (call m (unchanged r) .reply))
+  unchanged-is r = rw (unchanged-refuses m r) (refl, refl)
 
   made-is : {c : Call} {a : Answer} {e : Scheduler} → Made (store m) c a e → (e ≡ store (call m c .model)) × (a ≡ answer (call m c .reply))
-  unfolding showing
   made-is (byValue {c} q) = let p = q ∙ ap (λ (x : Model). outcome (call x c)) (valid-view m v) in (ap (λ (o : Outcome). o .scheduler) p, ap (λ (o : Outcome). o .answer) p)
   made-is (onLent {c} l) = (l .leaves ∙ ap (λ (x : Model). store (call x c .model)) (valid-view m v), l .answers ∙ ap (λ (x : Model). answer (call x c .reply)) (valid-view m v))
-  made-is (profileByValue {room} {p} e) = refused-profile room (p .answer .refusal) (ap (λ (q : ProfileOutcome). q .answer .refusal) e)
-  made-is (profileOnLent {lent} {after} {s} w) = refused-profile (length lent) (s .refusal) (ap (λ (x : Shown). x .refusal) (w .answers))
-  made-is (waitRefused {r} minutes e n) = rw (wait-refuses m r) (refl, refl)
+  made-is (profileByValue room {p} e) = unchanged-is (p .answer .refusal)
+  made-is (profileOnLent {lent} {after} {s} w) = unchanged-is (s .refusal)
+  made-is (waitRefused {r} minutes e n) = unchanged-is r
 
 -- From the scheduler that an opening hands back, a refused one too: scheduler and answers are those of the list of calls, and the book of
 -- the calls made and the answers received has the guarantees (document 01: "demand 3").

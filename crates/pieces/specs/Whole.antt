@@ -13,20 +13,17 @@ use borrow.Author.Tests.{ne-eqb, leb-true, leb-false, ltb-true, ltb-false}
 use Rattle.lists.specs.Tests.{case}
 use Rattle.text.specs.Upto.{upto, upto-take}
 use Rattle.text.specs.Lines.{lineAt}
-use Rattle.scheduler.specs.declared.Kind.{Kind}
-use Rattle.scheduler.specs.declared.Kind.the-variants.{Conservative, Easy}
 use Rattle.scheduler.specs.declared.Opening.{Opening}
 use Rattle.scheduler.specs.declared.Refusal.{Refusal}
 use Rattle.scheduler.specs.declared.Scheduler.{Scheduler}
 use Rattle.scheduler.specs.Model.{Model, view, store}
 use Rattle.scheduler.specs.Opening.{opening, openingRefusal, opened}
-use Rattle.scheduler.specs.Answers.{Result, accepts, code, refuse}
+use Rattle.scheduler.specs.Answers.{Result, accepts, code}
 use Rattle.scheduler.specs.Refusals.{waitRefusal}
-use Rattle.history.specs.Calls.{Call, Command, ask, wait, tick, refusedWait, after}
-use Rattle.conservative_rules.specs.Conservative as conservative
-use Rattle.easy_rules.specs.Easy as easy
-use Rattle.guarantees.specs.Rules.{rulesOf, call}
+use Rattle.history.specs.Calls.{Call, Command, ask, wait, tick, unchanged, after}
+use Rattle.guarantees.specs.Rules.{call}
 use Rattle.guarantees.specs.Premise.{Premise, Valid, valid-view, call-valid, opening-valid}
+use Rattle.guarantees.specs.Chain.{unchanged-refuses}
 use Rattle.script_rules.specs.Lines.{linesOf}
 use Rattle.script_rules.specs.LineLaws.{lines-closed, lines-unclosed}
 use Rattle.script_rules.specs.Reading.{openingOf, commandOf}
@@ -86,17 +83,10 @@ module _ (m : Model) (c : Call) (v : Valid m) where
   model-after : view (store (call m c .model)) ≡ call m c .model
   model-after = valid-view (call m c .model) (call-valid m c v)
 
-wait-refused : (k : Kind) (m : Model) (r : Refusal) → rulesOf k m (refusedWait r) ≡ refuse m r
-unfolding
-    conservative.call
-    easy.call
-wait-refused Conservative m r = refl
-wait-refused Easy m r = refl
-
 -- a refused wait prints its number
-refusal-text : (m : Model) (r : Refusal) → accepts r ≡ false → printed m (refusedWait r) ≡ noRow (code r)
+refusal-text : (m : Model) (r : Refusal) → accepts r ≡ false → printed m (unchanged r) ≡ noRow (code r)
 unfolding textOf
-refusal-text m r e = rw (wait-refused (m .settings .kind) m r, e)
+refusal-text m r e = rw (unchanged-refuses m r, e)
 
 module _ (s : List ℕ) where
   -- one line more, and one step more
@@ -117,8 +107,8 @@ module _ (s : List ℕ) where
         let m = view d in
         let w = waitRefusal m n in
         let ls = linesOf (drop at s) in
-        rw e (ap (λ t. t ++ played (call m (refusedWait w) .model) ls) (append-nil (printed m (refusedWait w)) ∙ refusal-text m w e)
-        ∙ ap (λ (r : Result). noRow (code w) ++ played (r .model) ls) (wait-refused (m .settings .kind) m w)))
+        rw e (ap (λ t. t ++ played (call m (unchanged w) .model) ls) (append-nil (printed m (unchanged w)) ∙ refusal-text m w e)
+        ∙ ap (λ (r : Result). noRow (code w) ++ played (r .model) ls) (unchanged-refuses m w)))
 
   by-opening : (p : Play) (at : ℕ) (q : Option Opening) → openedBy q (linesOf (drop at s)) ≡ openingPiece p at q .text ++ left s (openingPiece p at q .play)
   unfolding

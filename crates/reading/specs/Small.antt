@@ -13,7 +13,7 @@ use Rattle.text.specs.NumberLaws.{number-most}
 use Rattle.text.specs.Fields.{fieldOf}
 use Rattle.scheduler.specs.declared.Kind.{Kind}
 use Rattle.scheduler.specs.declared.Opening.{Opening}
-use Rattle.history.specs.Calls.{Command, ask, wait, submit, complete, tick, profile, refusedWait}
+use Rattle.history.specs.Calls.{Command, ask, wait, submit, complete, tick, unchanged}
 use Rattle.script_rules.specs.Reading.{numberAt, withNumber, withKind, kindOf, hasForm, inWord, endWord, waitWord, deskWord, openingIn, commandIn}
 
 abbrev pub Small : ℕ → Type 0
@@ -26,8 +26,7 @@ abbrev pub SmallCommand : Command → Type 0
 SmallCommand (ask (submit n e)) = Small n × Small e
 SmallCommand (ask (complete t)) = Small t
 SmallCommand (ask tick) = ⊥
-SmallCommand (ask (profile room)) = ⊥
-SmallCommand (ask (refusedWait why)) = ⊥
+SmallCommand (ask (unchanged why)) = ⊥
 SmallCommand (wait n) = Small n
 
 -- what holds of an answer, where there is one

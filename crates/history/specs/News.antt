@@ -1,0 +1,63 @@
+-- What a call and its answer say, in one place: the book, the tickets given and what a kind owes go by this, and by no call.
+-- Assumes nothing.
+use mathlib.Core.Path.{_≡_}
+use mathlib.Core.Bool.{Bool, true, false, _&&_, cond}
+use mathlib.Core.List.{List, [], _∷_}
+use mathlib.Core.Option.{Option, none}
+use Prim.Native.Nat.{ℕ, suc}
+use Rattle.lists.specs.Tests.{case}
+use Rattle.scheduler.specs.declared.Refusal.{Refusal}
+use Rattle.scheduler.specs.Answers.{Reply, Forecast, accepts, refusing}
+use Rattle.history.specs.Calls.{Call, submit, complete, tick, unchanged, Event}
+
+-- "Its ticket and promise are what that intake answered, its nodes those last asked for it in a call not refused."
+pub record Newcomer : Type 0 where
+  pub ticket : ℕ
+  pub nodes : ℕ
+  pub promise : ℕ
+
+pub record News : Type 0 where
+  -- a minute has passed
+  pub passed : Bool
+  -- who came, whose run ended, who started, and which head hears a forecast
+  pub came : List Newcomer
+  pub ended : List ℕ
+  pub started : List ℕ
+  pub head : Option Forecast
+
+-- what is said by a call not refused: that a minute passes, and who comes
+abbrev passes : Call → Bool
+passes (submit n e) = false
+passes (complete t) = false
+passes tick = true
+passes (unchanged w) = false
+
+abbrev comes : Call → Reply → List Newcomer
+comes (submit n e) r = record { ticket = r .ticket; nodes = n; promise = r .promise } ∷ []
+comes (complete t) r = []
+comes tick r = []
+comes (unchanged w) r = []
+
+-- "A stack is taken in by an intake not refused."
+abbrev pub newsOf : Call → Reply → News
+newsOf c r =
+    let taken = accepts (r .refusal) in
+    record { passed = taken && passes c; came = cond taken (comes c r) []; ended = r .ended; started = r .started; head = r .head }
+
+abbrev pub news : Event → News
+news e = newsOf (e .call) (e .reply)
+
+-- "The clock is the opened desk's minute, plus one for each step not refused."
+abbrev pub clockAfter : News → ℕ → ℕ
+clockAfter e c = cond (e .passed) (suc c) c
+
+-- ## Calls that say nothing
+
+abbrev pub nothing : News
+nothing = record { passed = false; came = []; ended = []; started = []; head = none }
+
+pub refused-news : (c : Call) (r : Refusal) → accepts r ≡ false → newsOf c (refusing r) ≡ nothing
+refused-news c r e = rw e
+
+pub unchanged-news : (w r : Refusal) → newsOf (unchanged w) (refusing r) ≡ nothing
+unchanged-news w r = case (accepts r) (λ e. rw e) (λ e. rw e)
