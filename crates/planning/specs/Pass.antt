@@ -28,7 +28,7 @@ use Rattle.conservative_rules.specs.Conservative.{spans, moved, pass}
 use Rattle.conservative_rules.specs.Valid.{used-append}
 use Rattle.conservative_rules.specs.Loops.{moved-same, loop, pass-as-loop}
 use Rattle.planning.specs.declared.Replanned.{Replanned}
-use Rattle.planning.specs.Slots.{Planned, Slots, Tabulated, planned-slots, takes-unused}
+use Rattle.planning.specs.Slots.{Planned, Slots, Tabulated, HoldsTo, planned-slots, takes-unused, waiting-live}
 use Rattle.planning.specs.Replan.{Replans, Turned, movedTo, fits-after}
 
 -- a model whose waiting jobs are planned for later than now
@@ -78,26 +78,27 @@ pass-begins s t = record { low = omega arith; fits = s; same = refl; rest = refl
 
 module _ {S : Settings} {now : ℕ} {js₀ js : List Job} {i n : ℕ} {ms fs : List ℕ} (b : Before S now js₀) (v : Passing S now js₀ js i n ms fs) (l : i < slots) where
   abbrev j : Job
-  j = getD js₀ i unused
+  j = getD js i unused
 
   in₀ : i < length js
   in₀ = omega (arith, v .fits .all)
 
-  here-is : getD js i unused ≡ j
+  -- its turn is still to come
+  here-is : getD js₀ i unused ≡ j
   here-is =
-      ap (λ (n : ℕ). getD js n unused) (sym (add-zero i))
-      ∙ sym (getD-drop i js 0 unused)
-      ∙ ap (λ (l : List Job). getD l 0 unused) (v .same)
-      ∙ getD-drop i js₀ 0 unused
-      ∙ ap (λ (n : ℕ). getD js₀ n unused) (add-zero i)
+      ap (λ (n : ℕ). getD js₀ n unused) (sym (add-zero i))
+      ∙ sym (getD-drop i js₀ 0 unused)
+      ∙ ap (λ (l : List Job). getD l 0 unused) (sym (v .same))
+      ∙ getD-drop i js 0 unused
+      ∙ ap (λ (n : ℕ). getD js n unused) (add-zero i)
 
   split : js ≡ take i js ++ j ∷ drop (i + 1) js
-  split = split-at js i unused in₀ ∙ rw (here-is, ← add-one i)
+  split = split-at js i unused in₀ ∙ rw (← add-one i)
 
   -- the turn of a waiting job
   pub replans : isWaiting j ≡ true → Replans ms fs n j now
   replans w =
-      let s = all-at (SlotJob S now) js₀ i unused (b .each) (omega (arith, b .fits .all)) in
+      let s = subst (SlotJob S now) here-is (all-at (SlotJob S now) js₀ i unused (b .each) (omega (arith, b .fits .all))) in
       record {
         settings = S;
         xs = take i js;
@@ -110,6 +111,9 @@ module _ {S : Settings} {now : ℕ} {js₀ js : List Job} {i n : ℕ} {ms fs : L
         nodes-to = s .nodes-to;
         hold-from = s .hold-from w;
       }
+
+  pub hold-is : {hs : List ℕ} → HoldsTo js₀ slots hs → isWaiting j ≡ true → getD hs i 0 ≡ wallTime (j .estimate)
+  hold-is h w = h .are i l (waiting-live (getD js₀ i unused) (ap isWaiting here-is ∙ w)) ∙ ap (λ (k : Job). wallTime (k .estimate)) here-is
 
   more : slots - i ≡ suc (slots - (i + 1))
   more = omega arith
@@ -124,9 +128,7 @@ module _ {S : Settings} {now : ℕ} {js₀ js : List Job} {i n : ℕ} {ms fs : L
   -- one turn of the definition's loop
   loop-turn : loop S now unused (slots - (i + 1)) (i + 1) (set js i (moved S now (take i js ++ drop (i + 1) js) j)) ≡ loop S now unused slots 0 js₀
   unfolding loop
-  loop-turn =
-      ap (λ (k : Job). loop S now unused (slots - (i + 1)) (i + 1) (set js i (moved S now (take i js ++ drop (i + 1) js) k))) (sym here-is)
-      ∙ (rw more at (v .rest))
+  loop-turn = rw more at (v .rest)
 
   pub turn-taken : (w : isWaiting j ≡ true) (r : Replanned) {ms′ fs′ : List ℕ} → ((q : Replans ms fs n j now) → Turned q r ms′ fs′) → Passing S now js₀ (set js i (r .job)) (i + 1) (r .count) ms′ fs′
   unfolding replans
@@ -145,7 +147,7 @@ module _ {S : Settings} {now : ℕ} {js₀ js : List Job} {i n : ℕ} {ms fs : L
 
   pub turn-passed : isWaiting j ≡ false → Passing S now js₀ js (i + 1) n ms fs
   turn-passed w =
-      let still : moved S now (take i js ++ drop (i + 1) js) j ≡ getD js i unused = rw w (sym here-is) in
+      let still : moved S now (take i js ++ drop (i + 1) js) j ≡ j = rw w in
       let set-is : js ≡ set js i (moved S now (take i js ++ drop (i + 1) js) j) = sym (ap (set js i) still ∙ set-getD js i unused) in
       record {
         low = omega arith;

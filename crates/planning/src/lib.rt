@@ -172,7 +172,7 @@ pub fn replan_all(d: Scheduler) -> Scheduler
     let mut e = d;
     let mut i: usize = 0;
     while i < Scheduler::LIVE {
-        let j = d.jobs[i];
+        let j = e.jobs[i];
         if j.is_waiting() {
             let t = replan(j, holds[i], clock, &mut minutes, &mut free, count);
             let k = t.job;

@@ -16,12 +16,12 @@ element-copy-out-start c = search needs
 span-requires : tie.Need-span-requires
 span-requires c κs =
     let s = c .before in
-    (start-of (s .pre .replans), omega (arith, s .pre .hold-is, wallTime-le (s .args .job .estimate)))
+    (omega (arith, start-of (s .pre .replans)), omega (arith, s .pre .hold-is, wallTime-le (s .args .job .estimate)))
 
 span-requires-2 : tie.Need-span-requires-2
 span-requires-2 c κs =
     let s = c .before .before in
-    (start-to (s .pre), omega (arith, s .pre .hold-is, wallTime-le (s .args .job .estimate)))
+    (omega (arith, start-to (s .pre), start-of (s .pre .replans)), omega (arith, s .pre .hold-is, wallTime-le (s .args .job .estimate)))
 
 shift-requires : tie.Need-shift-requires
 shift-requires c κs = rw (c .before .before .before .span .ensures, c .before .before .span2 .ensures) (shifts (c .before .before .before .before .before .pre))

@@ -5,14 +5,13 @@ use mathlib.Core.List.{List}
 use mathlib.Core.Logic.{⊎-elim}
 use Prim.Native.Nat.{ℕ, _-_, _<_}
 use native.Mathlib.Omega.{arith}
-use lib.ListN.{set, getD}
-use Rattle.scheduler.specs.Jobs.{unused}
+use lib.ListN.{set}
 use Rattle.scheduler.specs.declared.Scheduler.{Scheduler}
 use Rattle.scheduler.specs.Model.{view}
 use Rattle.scheduler.specs.Table.{withJobs}
 use Rattle.jobs.specs.Premise.{holds-as}
-use Rattle.planning.specs.Slots.{Planned, waiting-live}
-use Rattle.planning.specs.Pass.{Replannable, Passing, held-before, pass-begins, replans, turn-taken, turn-passed, pass-ends}
+use Rattle.planning.specs.Slots.{Planned}
+use Rattle.planning.specs.Pass.{Replannable, Passing, held-before, pass-begins, replans, hold-is, turn-taken, turn-passed, pass-ends}
 use borrow.Author.Needs.{needs}
 use Rattle.planning.proofs.replan_all.Statement.{statement}
 use Rattle.planning.proofs.replan_all.Tie as tie
@@ -22,18 +21,18 @@ record Inv (d e : Scheduler) (i n : ℕ) (ms fs : List ℕ) : Type 0 where
   passing : Passing (view d .settings) (d .clock) (d .jobs) (e .jobs) i n ms fs
 
 abbrev Inv-loop : tie.InvT-loop
-Inv-loop d clock minutes₀ free₀ holds count₀ e₀ i₀ minutes free count e i = Inv d e i count minutes free
+Inv-loop clock minutes₀ free₀ holds count₀ e₀ i₀ minutes free count e i = Inv e₀ e i count minutes free
 
 abbrev μ-loop : tie.MeasureT-loop
-μ-loop d clock minutes₀ free₀ holds count₀ e₀ i₀ minutes free count e i = 64 - i
+μ-loop clock minutes₀ free₀ holds count₀ e₀ i₀ minutes free count e i = 64 - i
 
 tabulate-requires : tie.Need-tabulate-requires Inv-loop μ-loop
-tabulate-requires c κs = (holds-as Replannable Planned (c .before .before .before .args .t1) (λ m r. r .planned) (c .before .before .before .pre), refl, refl, refl)
+tabulate-requires c κs = (holds-as Replannable Planned (c .before .before .before .args .d) (λ m r. r .planned) (c .before .before .before .pre), refl, refl, refl)
 
 loop-holds : tie.Need-loop-holds Inv-loop μ-loop
 loop-holds c =
     let s = c .before .before .before .before in
-    record { scheduler-is = refl; passing = pass-begins (held-before (s .args .t1) (s .pre) .fits) (c .tabulate .ensures .0) }
+    record { scheduler-is = refl; passing = pass-begins (held-before (s .args .d) (s .pre) .fits) (c .tabulate .ensures .0) }
 
 mul-j : tie.Need-mul-j Inv-loop μ-loop
 mul-j c = search needs
@@ -55,7 +54,8 @@ replan-requires c κs =
     let s = c .before .before .before .before .before .before .before .before .before .before .before in
     let l = c .before .before .before .before .before .before .loop in
     let w = sym (c .before .before .before .is-waiting .ensures) ∙ c .before .before .if1 .taken in
-    (replans (held-before (s .args .t1) (s .pre)) (l .inv .passing) (omega arith) w, c .before .before .before .before .before .before .before .tabulate .ensures .1 .are (l .i) (omega arith) (waiting-live (getD (s .args .t1 .jobs) (l .i) unused) w))
+    let q = held-before (s .args .d) (s .pre) in
+    (replans q (l .inv .passing) (omega arith) w, hold-is q (l .inv .passing) (omega arith) (c .before .before .before .before .before .before .before .tabulate .ensures .1) w)
 
 mul-k : tie.Need-mul-k Inv-loop μ-loop
 mul-k c = search needs
@@ -74,7 +74,7 @@ loop-again c =
     let s = c .before .before .before .before .before .before .before .before .before in
     let l = c .before .before .before .before .loop in
     let h : l .i < 64 = omega arith in
-    let q = held-before (s .args .t1) (s .pre) in
+    let q = held-before (s .args .d) (s .pre) in
     let e = c .before .is-waiting .ensures in
     ⊎-elim
     (λ w. rw (w .5, w .6, w .7, w .8) (record {
@@ -88,7 +88,7 @@ returns : tie.Need-returns Inv-loop μ-loop
 returns c =
     let s = c .before .before .before .before .before .before in
     let l = c .before .loop in
-    l .inv .scheduler-is ∙ ap (withJobs (s .args .t1)) (pass-ends (held-before (s .args .t1) (s .pre)) (l .inv .passing) (omega arith))
+    l .inv .scheduler-is ∙ ap (withJobs (s .args .d)) (pass-ends (held-before (s .args .d) (s .pre)) (l .inv .passing) (omega arith))
 
 pub replan-all-spec : {M : Type 1} → statement M
 replan-all-spec =
