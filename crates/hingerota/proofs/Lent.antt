@@ -22,7 +22,8 @@ pub answer-laws : FlatLaws answer
 answer-laws = struct-laws N.the-type N′.the-laws N′.the-plain
 
 abbrev pub outcome-two : Two answer D.the-type D′.the-laws
-outcome-two = two-of N.the-type N′.the-laws N′.lowers (S.the-type .name) (S.the-type .D) (λ r. r .answer) D.the-type D′.the-laws D′.lowers (λ r. r .desk) (S.the-type .to-one)
+outcome-two = two-of N.the-type N′.the-laws N′.lowers (S.the-type .name) (S.the-type .D) (λ r. r .answer) D.the-type D′.the-laws D′.lowers (λ r. r .desk)
+    (S.the-type .to-one)
 
 abbrev pub shown : Flat
 shown = struct-flat W.the-type W′.the-laws
@@ -32,5 +33,6 @@ shown-laws = struct-laws W.the-type W′.the-laws W′.the-plain
 
 abbrev pub profile-sheet : Sheet shown
 profile-sheet =
-    sheet-of W.the-type W′.the-laws W′.lowers (P.the-type .name) (P.the-type .D) (λ s. s .answer) W′.the-plain Q.the-type Q′.the-laws Q′.lowers Q′.the-plain 129 (λ s. s .count) (λ s. s .points)
+    sheet-of W.the-type W′.the-laws W′.lowers (P.the-type .name) (P.the-type .D)
+    (λ s. s .answer) W′.the-plain Q.the-type Q′.the-laws Q′.lowers Q′.the-plain 129 (λ s. s .count) (λ s. s .points)
     (P.the-type .to-one)

@@ -34,12 +34,15 @@ pub valued : (N : Flat) → FlatLaws N → (r : N .Denot) (v : Val) → Is (rowO
 valued N LN r v is = subst (Is (rowOf N) r) (LN .tells r _ is) is
 
 -- a struct in its own local, as a borrow holds it
-pub lies-in : (D : Declared) (L : LL.Laws D) → Plains (fields D) → {M : Type 1} (𝓤 : URA M) (H : Heap 𝓤) (A : Atoms 𝓤) → Given 𝓤 H A → (h : D .D) → Is (row D) h (LL.vals D L h) → (b : ℕ)
+pub lies-in : (D : Declared) (L : LL.Laws D) → Plains (fields D) → {M : Type 1} (𝓤 : URA M) (H : Heap 𝓤) (A : Atoms 𝓤) → Given 𝓤 H A → (h : D .D)
+    → Is (row D) h (LL.vals D L h) → (b : ℕ)
     → ent 𝓤 (sem 𝓤 H A (fat fullShare (layout (shape D)) b 0 (LL.val D L h))) (sem 𝓤 H A (partAt (row D) fullShare h b 0))
 unfolding partOf
 lies-in D L pl 𝓤 H A W h isd b =
-    qed W (‵ (fat fullShare (layout (shape D)) b 0 (LL.val D L h)) ∷ []) ∵ use1 W (‵ (cellAt fullShare (row D .mir) (LL.vals D L h) b 0)) (W .laws .at-raw fullShare (layout (shape D)) b 0 (LL.val D L h)) $
-    owned ! (row D) (Is (row D)) (LL.makes D pl 𝓤 H A) h _ isd $ move ! (1 ∷ 0 ∷ []) $ fjoin ! $ fpack ! (List Val) (λ us. fsep (cellAt fullShare (row D .mir) us b 0) (row D .own h us)) (LL.vals D L h) $ done !
+    qed W (‵ (fat fullShare (layout (shape D)) b 0 (LL.val D L h)) ∷ []) ∵ use1 W (‵ (cellAt fullShare (row D .mir) (LL.vals D L h) b 0))
+    (W .laws .at-raw fullShare (layout (shape D)) b 0 (LL.val D L h)) $
+    owned ! (row D) (Is (row D)) (LL.makes D pl 𝓤 H A) h _ isd $ move ! (1 ∷ 0 ∷ []) $ fjoin ! $
+    fpack ! (List Val) (λ us. fsep (cellAt fullShare (row D .mir) us b 0) (row D .own h us)) (LL.vals D L h) $ done !
 
 -- ---- the body `function` of one call, to f
 module _ {M : Type 1} (𝓤 : URA M) (H : Heap 𝓤) (T : Ended) (clauses : Clauses 𝓤 T) (function : Fn) (f : Name) (callee : Contract 𝓤) where
@@ -51,10 +54,12 @@ module _ {M : Type 1} (𝓤 : URA M) (H : Heap 𝓤) (T : Ended) (clauses : Clau
     -- the theorem: `own` is the function's key, and the rest is of its `Code` and of its callee
     abbrev pub Theorem : Type 2
     Theorem =
-        (env : Env) (own : Name) → Closed 𝓤 H (tables 𝓤 H 𝓜 𝓡 env .C) (tables 𝓤 H 𝓜 𝓡 env .Λ) own function → (routine : Routine) → env f ≡ routine → Triple 𝓤 (𝓡 .run routine) callee
+        (env : Env) (own : Name) → Closed 𝓤 H (tables 𝓤 H 𝓜 𝓡 env .C) (tables 𝓤 H 𝓜 𝓡 env .Λ) own function → (routine : Routine) → env f ≡ routine
+        → Triple 𝓤 (𝓡 .run routine) callee
         → Meets 𝓤 H (𝓖 .A) (T .signature) (𝓡 .run (env own)) (closing 𝓤 H (𝓖 .A) T clauses)
 
-    pub enters : (hs : Stays (T .signature .params) (T .kept)) → AllGo 𝓤 H (𝓖 .A) (givenOf 𝓤 H 𝓜 𝓖) (T .signature .lifetimes) (T .signature .params) (T .kept) hs → Walk (𝓖 .A) (givenOf 𝓤 H 𝓜 𝓖) hs → Theorem
+    pub enters : (hs : Stays (T .signature .params) (T .kept)) → AllGo 𝓤 H (𝓖 .A) (givenOf 𝓤 H 𝓜 𝓖) (T .signature .lifetimes) (T .signature .params)
+        (T .kept) hs → Walk (𝓖 .A) (givenOf 𝓤 H 𝓜 𝓖) hs → Theorem
     unfolding tablesOf
     enters hs go walks env own unfolded routine calls met =
         let W = givenOf 𝓤 H 𝓜 𝓖 in

@@ -4,8 +4,10 @@ pub mod Fills_ds
 pub mod Own0
 pub mod Own1
 pub mod OwnSlice_ds
+pub mod Params
 pub mod Results
 pub mod Thin
 pub mod Thin0
 pub mod Thin1
 pub mod Thin2
+pub mod Thinned

@@ -46,7 +46,8 @@ module _ (N : Declared) (LN : LL.Laws N) (wN : LL.Lowered N) (name : Sym) (X : T
         }
 
   -- of a count, the answer and n elements
-  module _ (plN : Plains (fields N)) (Q : Declared) (LQ : LL.Laws Q) (wQ : LL.Lowered Q) (plQ : Plains (fields Q)) (n : ℕ) (count : X → ℕ) (points : X → List (Q .D)) where
+  module _ (plN : Plains (fields N)) (Q : Declared) (LQ : LL.Laws Q) (wQ : LL.Lowered Q) (plQ : Plains (fields Q)) (n : ℕ) (count : X → ℕ)
+      (points : X → List (Q .D)) where
     abbrev sheet-parts : List Field
     sheet-parts = usize-field ∷ field N ∷ array-field (field Q) n ∷ []
 

@@ -30,7 +30,8 @@ pub submission-laws : FlatLaws submission
 submission-laws = struct-laws X.the-type X′.the-laws X′.the-plain
 
 abbrev pub outcome-two : Two answer D.the-type D′.the-laws
-outcome-two = two-of N.the-type N′.the-laws N′.lowers (S.the-type .name) (S.the-type .D) (λ r. r .answer) D.the-type D′.the-laws D′.lowers (λ r. r .scheduler) (S.the-type .to-one)
+outcome-two = two-of N.the-type N′.the-laws N′.lowers (S.the-type .name) (S.the-type .D) (λ r. r .answer) D.the-type D′.the-laws D′.lowers (λ r. r .scheduler)
+    (S.the-type .to-one)
 
 abbrev pub shown : Flat
 shown = struct-flat W.the-type W′.the-laws
@@ -40,5 +41,6 @@ shown-laws = struct-laws W.the-type W′.the-laws W′.the-plain
 
 abbrev pub profile-sheet : Sheet shown
 profile-sheet =
-    sheet-of W.the-type W′.the-laws W′.lowers (P.the-type .name) (P.the-type .D) (λ s. s .answer) W′.the-plain Q.the-type Q′.the-laws Q′.lowers Q′.the-plain 129 (λ s. s .count) (λ s. s .points)
+    sheet-of W.the-type W′.the-laws W′.lowers (P.the-type .name) (P.the-type .D)
+    (λ s. s .answer) W′.the-plain Q.the-type Q′.the-laws Q′.lowers Q′.the-plain 129 (λ s. s .count) (λ s. s .points)
     (P.the-type .to-one)

@@ -14,7 +14,8 @@ abbrev line : tie.After-field → List ℕ
 line c = c .before .before .before .args .line .now
 
 -- what a test says of the line, once its fields are counted and the first is read
-form : (c : tie.After-field) (n : ℕ) (w : List ℕ) {r b : Bool} → r ≡ formFrom (c .before .field-count .result) (c .field .result .now) n w → r ≡ b → hasForm (line c) n w ≡ b
+form : (c : tie.After-field) (n : ℕ) (w : List ℕ) {r b : Bool} → r ≡ formFrom (c .before .field-count .result) (c .field .result .now) n w → r ≡ b
+    → hasForm (line c) n w ≡ b
 form c n w = form-said (line c) n w (c .before .field-count .ensures) (c .field .ensures)
 
 not-in : (c : tie.Else1) → hasForm (line (c .before .before .before)) 3 inWord ≡ false
@@ -48,7 +49,12 @@ returns-3 c =
     let p = c .before .before in
     let q = p .before .before .before in
     let r = q .before .before .before in
-    rw (not-in r, not-end q, form (r .before .before .before) 2 waitWord (p .before .has-form3 .ensures) (p .if3 .taken), sym (c .before .field-number4 .ensures))
+    rw (
+      not-in r,
+      not-end q,
+      form (r .before .before .before) 2 waitWord (p .before .has-form3 .ensures) (p .if3 .taken),
+      sym (c .before .field-number4 .ensures),
+    )
     (c .waiting .ensures)
 
 returns-4 : tie.Need-returns-4

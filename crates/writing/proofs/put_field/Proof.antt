@@ -15,7 +15,8 @@ put-number-requires c κs = omega (arith, decimal-ten (c .before .before .before
 returns : tie.Need-returns
 returns c =
     let v = c .before .before .before .before .before .before .before .before .before .args .v in
-    and-then (wrote 1 _ _ (9 ∷ []) _ _ (omega arith) (c .before .before .before .before .before .before .put-byte .ensures)) (wrote 10 _ _ (decimalOf v) _ _ (decimal-ten v (omega arith)) (c .before .before .put-number .ensures))
+    and-then (wrote 1 _ _ (9 ∷ []) _ _ (omega arith) (c .before .before .before .before .before .before .put-byte .ensures))
+    (wrote 10 _ _ (decimalOf v) _ _ (decimal-ten v (omega arith)) (c .before .before .put-number .ensures))
 
 pub put-field-spec : {M : Type 1} → statement M
 put-field-spec = tie.close (tie.spec (λ c κs. search needs) put-number-requires (λ c. search needs) returns)

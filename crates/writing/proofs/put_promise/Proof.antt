@@ -23,4 +23,5 @@ returns-2 c =
     (wrote 12 _ _ (9 ∷ 45 ∷ 10 ∷ []) _ _ (omega arith) (c .before .before .put-word .ensures))
 
 pub put-promise-spec : {M : Type 1} → statement M
-put-promise-spec = tie.close (tie.spec (λ c κs. search needs) (λ c κs. search needs) (λ c. search needs) returns (λ c. search needs) (λ c κs. search needs) (λ c. search needs) returns-2)
+put-promise-spec = tie.close (tie.spec (λ c κs. search needs) (λ c κs. search needs) (λ c. search needs) returns (λ c. search needs) (λ c κs. search needs)
+    (λ c. search needs) returns-2)

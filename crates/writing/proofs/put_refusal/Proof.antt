@@ -13,7 +13,8 @@ returns c =
     let last = c .before .before in
     let number = last .before in
     let word = number .before .before .before .before in
-    with-room (and-then (wrote 2 _ _ noWord _ _ (omega arith) (word .put-word .ensures)) (rw (number .code .ensures) at (last .put-last .ensures))) _ (omega arith)
+    let start = wrote 2 _ _ noWord _ _ (omega arith) (word .put-word .ensures) in
+    with-room (and-then start (rw (number .code .ensures) at (last .put-last .ensures))) _ (omega arith)
 
 pub put-refusal-spec : {M : Type 1} → statement M
 put-refusal-spec = tie.close (tie.spec (λ c. search needs) (λ c κs. search needs) (λ c κs. search needs) (λ c κs. search needs) (λ c. search needs) returns)

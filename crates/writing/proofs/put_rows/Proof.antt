@@ -43,7 +43,8 @@ loop-again c =
       low = omega arith;
       written =
           rw (rows-more (a .word .now) (a .minute) (a .list .now) (l .i) (omega (arith, s .pre)))
-          (with-room (and-then (l .inv .written) (c .before .before .put-row .ensures)) _ (one-row (length (a .word .now) + 23) (l .i) (l .i + 1) (omega arith)));
+          (with-room (and-then (l .inv .written) (c .before .before .put-row .ensures)) _
+          (one-row (length (a .word .now) + 23) (l .i) (l .i + 1) (omega arith)));
     }
 
 same-length : tie.Need-same-length Inv-loop μ-loop

@@ -26,4 +26,5 @@ returns-2 c =
     (and-then (wrote 4 _ _ tookWord _ _ (omega arith) (word .put-word .ensures)) (and-then (ticket .put-field .ensures) (promise .put-promise .ensures)))
 
 pub put-took-spec : {M : Type 1} → statement M
-put-took-spec = tie.close (tie.spec returns (λ c. search needs) (λ c κs. search needs) (λ c κs. search needs) (λ c κs. search needs) (λ c. search needs) returns-2)
+put-took-spec = tie.close (tie.spec returns (λ c. search needs) (λ c κs. search needs) (λ c κs. search needs) (λ c κs. search needs)
+    (λ c. search needs) returns-2)
