@@ -190,7 +190,8 @@ module _ {ms fs : List ℕ} {a : Row} {x : Span} {release : Bool} (l : LaysAt ms
             ∙ ap (λ (k : ℕ). changed release (x .nodes) k) (old i t h d e)
             ∙ sym (w .inside i v z)
 
-module _ {ms fs : List ℕ} {own : Row} {x : Span} {at : ℕ} {y : Span} (s : Shifts ms fs own x at y) {n : ℕ} {ms₁ fs₁ : List ℕ} (f : (l : LaysAt ms fs own x true) → LaidAt l n ms₁ fs₁) where
+module _ {ms fs : List ℕ} {own : Row} {x : Span} {at : ℕ} {y : Span} (s : Shifts ms fs own x at y)
+    {n : ℕ} {ms₁ fs₁ : List ℕ} (f : (l : LaysAt ms fs own x true) → LaidAt l n ms₁ fs₁) where
   -- x is out
   pub shift-in : LaysAt ms₁ fs₁ (record { at = at; count = n }) y false
   shift-in = record {

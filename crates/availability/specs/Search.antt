@@ -76,7 +76,9 @@ module _ {ms fs : List ℕ} {at n h : ℕ} (s : Seeks ms fs at n h) where
     where
       go : (r < getD ms k 0 → i ≤ k → n ≤ f r) → (getD ms k 0 ≤ r) ⊎ (r < getD ms k 0) → (i ≤ k) ⊎ (k < i) → n ≤ f r
       go c y (inr z) = let q : i ≡ suc k = omega arith in absurd (omega (arith, ap (λ (j : ℕ). getD ms j 0) q))
-      go c (inl y) (inl z) = let q : k + 1 ≡ suc k = omega arith in omega (arith, e k z (omega arith), value k (omega arith) r y (omega (arith, ap (λ (j : ℕ). getD ms j 0) q)))
+      go c (inl y) (inl z) =
+          let q : k + 1 ≡ suc k = omega arith in
+          omega (arith, e k z (omega arith), value k (omega arith) r y (omega (arith, ap (λ (j : ℕ). getD ms j 0) q)))
       go c (inr y) (inl z) = c y z
 
   module _ (i : ℕ) (p : Past ms fs at n h i) where

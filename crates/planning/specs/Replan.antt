@@ -97,7 +97,13 @@ module _ {ms fs : List ℕ} {n : ℕ} {j : Job} {now : ℕ} (q : Replans ms fs n
 
   -- its start gets a place
   pub ascends : Ascends ms 1 n (j .start)
-  ascends = record { long = q .table .minutes-long; some = omega arith; low = q .table .some; fit = omega (arith, q .room-left); last = omega (arith, q .table .first, q .ahead) }
+  ascends = record {
+    long = q .table .minutes-long;
+    some = omega arith;
+    low = q .table .some;
+    fit = omega (arith, q .room-left);
+    last = omega (arith, q .table .first, q .ahead);
+  }
 
   module _ {r : Row} {ms₁ fs₁ : List ℕ} (s : Split ms fs n (j .start) r ms₁ fs₁) where
     pub own-table : Table (with j) now (r .count) ms₁ fs₁
@@ -192,14 +198,16 @@ pub record Moves (ms₁ fs₁ : List ℕ) (r : Row) (k : ℕ) (j : Job) (hold no
   pub split : Split ms fs n (j .start) r ms₁ fs₁
   pub place : Found (seeks replans split) k
 
-module _ {ms fs : List ℕ} {n : ℕ} {j : Job} {hold now : ℕ} (q : Replans ms fs n j now) (w : hold ≡ wallTime (j .estimate)) {r : Row} {ms₁ fs₁ : List ℕ} (s : Split ms fs n (j .start) r ms₁ fs₁) where
+module _ {ms fs : List ℕ} {n : ℕ} {j : Job} {hold now : ℕ} (q : Replans ms fs n j now) (w : hold ≡ wallTime (j .estimate))
+    {r : Row} {ms₁ fs₁ : List ℕ} (s : Split ms fs n (j .start) r ms₁ fs₁) where
   pub seeks-hold : Seeks ms₁ fs₁ (r .at) (j .nodes) hold
   seeks-hold = rw w (seeks q s)
 
   pub moves : {k : ℕ} → ((l : Seeks ms₁ fs₁ (r .at) (j .nodes) hold) → Found l k) → Moves ms₁ fs₁ r k j hold now
   moves f = record { ms = ms; fs = fs; n = n; replans = q; hold-is = w; split = s; place = (rw w at f) (seeks q s) }
 
-  pub turned-as : {k : ℕ} (f : (l : Seeks ms₁ fs₁ (r .at) (j .nodes) hold) → Found l k) {z : Replanned} {ms₂ fs₂ : List ℕ} → ((m : Moves ms₁ fs₁ r k j hold now) → Turned (m .replans) z ms₂ fs₂) → Turned q z ms₂ fs₂
+  pub turned-as : {k : ℕ} (f : (l : Seeks ms₁ fs₁ (r .at) (j .nodes) hold) → Found l k) {z : Replanned} {ms₂ fs₂ : List ℕ}
+      → ((m : Moves ms₁ fs₁ r k j hold now) → Turned (m .replans) z ms₂ fs₂) → Turned q z ms₂ fs₂
   unfolding moves
   turned-as f g = g (moves f)
 
@@ -229,7 +237,9 @@ module _ {ms₁ fs₁ : List ℕ} {r : Row} {k : ℕ} {j : Job} {hold now : ℕ}
   from-own = record {
     out = take-out q (m .split);
     h = with q (movedTo q);
-    change = λ t l. free-less t (q .settings .nodes) (span (q .settings) (movedTo q)) (spans (q .settings) (others q)) (spans (q .settings) (q .xs ++ movedTo q ∷ q .ys)) (among q t (movedTo q));
+    change = λ t l.
+        let S = q .settings in
+        free-less t (S .nodes) (span S (movedTo q)) (spans S (others q)) (spans S (q .xs ++ movedTo q ∷ q .ys)) (among q t (movedTo q));
     room = λ t l. omega (arith, room-after q t l);
     until = end-after q;
     earlier = m .place .inside;
@@ -244,7 +254,8 @@ module _ {ms₁ fs₁ : List ℕ} {r : Row} {k : ℕ} {j : Job} {hold now : ℕ}
   pub shifts : Shift
   shifts = rw (m .hold-is, start-is, ← moved-span q) from-own
 
-  pub turned-moves : {n₂ : ℕ} {ms₂ fs₂ : List ℕ} → ((l : Shift) → Shifted l n₂ ms₂ fs₂) → Turned q (record { job = placed now (getD ms₁ k 0) j; count = n₂ }) ms₂ fs₂
+  pub turned-moves : {n₂ : ℕ} {ms₂ fs₂ : List ℕ} → ((l : Shift) → Shifted l n₂ ms₂ fs₂)
+      → Turned q (record { job = placed now (getD ms₁ k 0) j; count = n₂ }) ms₂ fs₂
   unfolding from-own take-out
   turned-moves g =
       let u = (rw (m .hold-is, start-is, ← moved-span q) at g) from-own in

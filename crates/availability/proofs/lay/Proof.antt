@@ -27,8 +27,17 @@ split-requires c κs =
     let j = c .before .before .before .before in
     let from-is : j .if1 .from ≡ max (getD (s .args .minutes .now) 0 0) (s .args .x .from) =
     ⊎-elim (λ w. omega (arith, w .1, w .0 .taken)) (λ w. omega (arith, w .1, w .0 .left)) (j .if1 .came) in
-    let l = s .pre in
-    (record { long = l .table .minutes-long; some = omega arith; low = l .table .some; fit = omega (arith, l .fits); last = omega arith }, l .table .free-long, omega (arith, l .fits))
+    let l = s .pre in (
+      record {
+        long = l .table .minutes-long;
+        some = omega arith;
+        low = l .table .some;
+        fit = omega (arith, l .fits);
+        last = omega arith;
+      },
+      l .table .free-long,
+      omega (arith, l .fits),
+    )
 
 lay-at-requires : tie.Need-lay-at-requires
 lay-at-requires c κs =

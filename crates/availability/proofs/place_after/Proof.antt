@@ -25,7 +25,12 @@ above {ms} mid l h v =
 found : {ms : List ℕ} {n t low high : ℕ} → high ≤ low → Inv ms n t low high → Place ms n t low
 found {ms} {low = low} {high = high} l v =
     let e : low ≡ high = omega (arith, v .order) in
-    record { some = v .some; low = omega (arith, v .inside, v .order); last = v .last; next = λ k. omega (arith, v .next (omega arith), ap (λ (k : ℕ). getD ms k 0) e) }
+    record {
+      some = v .some;
+      low = omega (arith, v .inside, v .order);
+      last = v .last;
+      next = λ k. omega (arith, v .next (omega arith), ap (λ (k : ℕ). getD ms k 0) e);
+    }
 
 abbrev Inv-loop : tie.InvT-loop
 Inv-loop minutes first count t low₀ high₀ low high = Inv minutes count t low high

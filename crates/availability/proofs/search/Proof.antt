@@ -58,7 +58,9 @@ element-copy-out-if3 : tie.Need-element-copy-out-if3 Inv-loop μ-loop
 element-copy-out-if3 c = search needs
 
 returns-2 : tie.Need-returns-2 Inv-loop μ-loop
-returns-2 c = past-far (c .before .before .before .before .before .before .before .before .loop .inv) (omega arith) (omega arith) (c .before .before .before .reach .ensures) (omega arith)
+returns-2 c =
+    let l = c .before .before .before .before .before .before .before .before .loop in
+    past-far (l .inv) (omega arith) (omega arith) (c .before .before .before .reach .ensures) (omega arith)
 
 add-i-2 : tie.Need-add-i-2 Inv-loop μ-loop
 add-i-2 c = search needs
@@ -67,7 +69,10 @@ loop-less-2 : tie.Need-loop-less-2 Inv-loop μ-loop
 loop-less-2 c = omega (arith, c .before .before .before .reach .ensures .above, c .before .before .before .reach .ensures .to)
 
 loop-again-2 : tie.Need-loop-again-2 Inv-loop μ-loop
-loop-again-2 c = past-skip (c .before .before .before .before .before .before .before .before .loop .inv) (omega arith) (omega arith) (c .before .before .before .reach .ensures) (omega (arith, c .before .before .before .reach .ensures .to)) (omega arith)
+loop-again-2 c =
+    let l = c .before .before .before .before .before .before .before .before .loop in
+    let z = c .before .before .before .reach .ensures in
+    past-skip (l .inv) (omega arith) (omega arith) z (omega (arith, z .to)) (omega arith)
 
 returns-3 : tie.Need-returns-3 Inv-loop μ-loop
 returns-3 c = past-last (c .before .loop .inv) (omega arith)

@@ -19,10 +19,14 @@ returns : tie.Need-returns
 returns c = last-found (c .before .before .before .before .before .before .before .pre) (c .before .before .before .tabulate .ensures .0) (c .search .ensures)
 
 mul-result : tie.Need-mul-result
-mul-result c = omega (arith, last-low (c .before .before .before .before .before .before .before .pre) (c .before .before .before .tabulate .ensures .0) (c .search .ensures))
+mul-result c =
+    let a = c .before .before .before .before .before .before .before .pre in
+    omega (arith, last-low a (c .before .before .before .tabulate .ensures .0) (c .search .ensures))
 
 array-read-result : tie.Need-array-read-result
-array-read-result c = omega (arith, last-low (c .before .before .before .before .before .before .before .pre) (c .before .before .before .tabulate .ensures .0) (c .search .ensures))
+array-read-result c =
+    let a = c .before .before .before .before .before .before .before .pre in
+    omega (arith, last-low a (c .before .before .before .tabulate .ensures .0) (c .search .ensures))
 
 pub earliest-spec : {M : Type 1} → statement M
 earliest-spec = tie.close (tie.spec tabulate-requires sub-search search-requires mul-result array-read-result returns)

@@ -31,7 +31,9 @@ place-requires c κs = search needs
 
 returns : tie.Need-returns
 returns c =
-    λ m. rw (c .place .ensures) (turned-moves m (rw (c .before .before .before .before .before .span .ensures, c .before .before .before .before .span2 .ensures) at (c .before .shift .ensures)))
+    let u = c .before .before .before .before .before .span .ensures in
+    let v = c .before .before .before .before .span2 .ensures in
+    λ m. rw (c .place .ensures) (turned-moves m (rw (u, v) at (c .before .shift .ensures)))
 
 pub move-to-spec : {M : Type 1} → statement M
 move-to-spec =

@@ -19,7 +19,8 @@ search-requires c κs =
 returns : tie.Need-returns
 returns c =
     let p = c .before .before .before .before .before .before .before .before .pre in
-    λ q. turned-as q (p .1) (c .before .before .before .before .before .split .ensures) (c .before .before .search .ensures) (λ m. turned-stays m (omega (arith, c .if1 .taken)))
+    let s = c .before .before .before .before .before .split .ensures in
+    λ q. turned-as q (p .1) s (c .before .before .search .ensures) (λ m. turned-stays m (omega (arith, c .if1 .taken)))
 
 move-to-requires : tie.Need-move-to-requires
 move-to-requires c κs =
@@ -29,7 +30,8 @@ move-to-requires c κs =
 returns-2 : tie.Need-returns-2
 returns-2 c =
     let p = c .before .before .before .before .before .before .before .before .before .before .before .pre in
-    λ q. turned-as q (p .1) (c .before .before .before .before .before .before .before .before .split .ensures) (c .before .before .before .before .before .search .ensures) (c .move-to .ensures)
+    let s = c .before .before .before .before .before .before .before .before .split .ensures in
+    λ q. turned-as q (p .1) s (c .before .before .before .before .before .search .ensures) (c .move-to .ensures)
 
 pub replan-spec : {M : Type 1} → statement M
 replan-spec = tie.close (tie.spec split-requires search-requires returns move-to-requires returns-2)

@@ -27,7 +27,9 @@ abbrev μ-loop : tie.MeasureT-loop
 μ-loop clock minutes₀ free₀ holds count₀ e₀ i₀ minutes free count e i = 64 - i
 
 tabulate-requires : tie.Need-tabulate-requires Inv-loop μ-loop
-tabulate-requires c κs = (holds-as Replannable Planned (c .before .before .before .args .d) (λ m r. r .planned) (c .before .before .before .pre), refl, refl, refl)
+tabulate-requires c κs =
+    let s = c .before .before .before in
+    (holds-as Replannable Planned (s .args .d) (λ m r. r .planned) (s .pre), refl, refl, refl)
 
 loop-holds : tie.Need-loop-holds Inv-loop μ-loop
 loop-holds c =
@@ -55,7 +57,8 @@ replan-requires c κs =
     let l = c .before .before .before .before .before .before .loop in
     let w = sym (c .before .before .before .is-waiting .ensures) ∙ c .before .before .if1 .taken in
     let q = held-before (s .args .d) (s .pre) in
-    (replans q (l .inv .passing) (omega arith) w, hold-is q (l .inv .passing) (omega arith) (c .before .before .before .before .before .before .before .tabulate .ensures .1) w)
+    let t = c .before .before .before .before .before .before .before .tabulate .ensures in
+    (replans q (l .inv .passing) (omega arith) w, hold-is q (l .inv .passing) (omega arith) (t .1) w)
 
 mul-k : tie.Need-mul-k Inv-loop μ-loop
 mul-k c = search needs
