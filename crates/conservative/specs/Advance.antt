@@ -2,6 +2,7 @@
 -- Assumes nothing.
 use mathlib.Core.Path.{_≡_, refl, ap}
 use mathlib.Core.Bool.{Bool, true, false, _&&_}
+use mathlib.Core.Option.{none}
 use mathlib.Core.List.{List, [], _∷_, _++_, append-nil}
 use Prim.Native.Nat.{ℕ, zero, suc, _+_, _-_, _<_}
 use native.Mathlib.Numerals.{add-one}
@@ -10,17 +11,21 @@ use lib.ListN.{length, getD, take, replicate}
 use Rattle.lists.specs.Tests.{case}
 use Rattle.lists.specs.Lists.{keep}
 use Rattle.lists.specs.Pads.{pad}
+use Rattle.scheduler.specs.declared.State.{State}
+use Rattle.scheduler.specs.declared.State.the-variants.{Unused, Waiting, Running}
 use Rattle.scheduler.specs.declared.Job.{Job}
 use Rattle.scheduler.specs.declared.Outcome.{Outcome}
+use Rattle.scheduler.specs.declared.Refusal.{Refusal}
 use Rattle.scheduler.specs.declared.Refusal.the-variants as refusal
 use Rattle.scheduler.specs.declared.Scheduler.{Scheduler}
 use Rattle.scheduler.specs.declared.Select.{Select}
-use Rattle.scheduler.specs.declared.Tickets.{Tickets}
 use Rattle.scheduler.specs.Limits.{slots}
-use Rattle.scheduler.specs.Jobs.{unused, isWaiting, isRunning, picks}
+use Rattle.scheduler.specs.Jobs.{unused, waiting?, running?, isWaiting, isRunning, picks}
 use Rattle.scheduler.specs.Table.{oneIf, ticketsOf, tickets, staying}
 use Rattle.scheduler.specs.Model.{Model, store, without, withModelJobs}
-use Rattle.scheduler.specs.Answers.{outcome}
+use Rattle.scheduler.specs.Answers.{outcome, refuse}
+use Rattle.job_table.specs.declared.Part.{Part}
+use Rattle.job_table.specs.Parts.{leaving, part}
 use Rattle.conservative_rules.specs.Conservative.{begun, advanced}
 
 -- it waits before and runs after
@@ -66,14 +71,39 @@ begun-stored : (m : Model) (ks : List Job) → length (m .jobs) ≡ length ks �
 unfolding store
 begun-stored m ks e = begun-pad (m .jobs) ks e
 
-unfoldable pub advancedBy : Tickets → Scheduler → Scheduler → Outcome
-advancedBy ended before after = record {
-  answer = record { refusal = refusal.None; ticket = 0; promise = 0; ended = ended; started = tickets (begun (before .jobs) (after .jobs)); head = 0; forecast = 0 };
+-- what a call answers that has done its part on the table
+unfoldable pub advancedBy : Part → Scheduler → Outcome
+advancedBy p after = record {
+  answer = record {
+    refusal = p .refusal;
+    ticket = 0;
+    promise = 0;
+    ended = p .ended;
+    started = tickets (begun (p .scheduler .jobs) (after .jobs));
+    head = 0;
+    forecast = 0;
+  };
   scheduler = after;
 }
 
+-- nobody waits and runs
+begun-self : (js : List Job) → begun js js ≡ []
+begun-self [] = refl
+begun-self (j ∷ js) = rw (never (j .state)) (begun-self js)
+  where
+    never : (s : State) → (waiting? s && running? s) ≡ false
+    never Unused = refl
+    never Waiting = refl
+    never Running = refl
+
+-- a refused call that leaves the table as it was
+pub refused-stored : (m : Model) (r : Refusal) → advancedBy (part (record { refusal = r; ticket = 0; ended = []; model = m })) (store m) ≡ outcome (refuse m r)
+unfolding advancedBy
+refused-stored m r =
+    ap (λ (ts : List ℕ). outcome (record { reply = record { refusal = r; ticket = 0; promise = 0; ended = []; started = ts; head = none }; model = m })) (begun-self (store m .jobs))
+
 pub advanced-stored : (m : Model) (clock : ℕ) (s : Select) (ks : List Job) → length (staying s (m .jobs)) ≡ length ks
-    → advancedBy (tickets (ticketsOf (keep (picks s) (m .jobs)))) (store (without m clock s)) (store (withModelJobs (without m clock s) ks)) ≡ outcome (advanced m clock s ks)
+    → advancedBy (part (leaving m clock s)) (store (withModelJobs (without m clock s) ks)) ≡ outcome (advanced m clock s ks)
 unfolding advancedBy advanced
 advanced-stored m clock s ks e = λ i. record {
   answer = record {

@@ -1,74 +1,48 @@
 -- What the code of an early completion computes on a stored model is the definition's.
 -- Assumes nothing.
 use mathlib.Core.Path.{_≡_, refl, sym, ap, _∙_}
-use mathlib.Core.Bool.{Bool, true, false, not}
-use mathlib.Core.List.{List, [], _∷_}
+use mathlib.Core.Bool.{true, false, not}
+use mathlib.Core.List.{[]}
 use Prim.Native.Nat.{ℕ}
 use native.Mathlib.Omega.{arith}
-use lib.ListN.{length, length-map}
-use Rattle.lists.specs.Tests.{case}
-use Rattle.lists.specs.Lists.{keep, any, keep-in}
+use Rattle.lists.specs.Lists.{keep-in}
 use Rattle.scheduler.specs.declared.Job.{Job}
 use Rattle.scheduler.specs.declared.Outcome.{Outcome}
-use Rattle.scheduler.specs.declared.Refusal.the-variants as refusal
-use Rattle.scheduler.specs.declared.Removed.{Removed}
-use Rattle.scheduler.specs.declared.Scheduler.{Scheduler}
 use Rattle.scheduler.specs.declared.Select.the-variants as select
 use Rattle.scheduler.specs.Jobs.{picks}
-use Rattle.scheduler.specs.Table.{withJobs, ticketOf, ticketsOf, tickets, removed}
-use Rattle.scheduler.specs.TableLaws.{removed-stored}
-use Rattle.scheduler.specs.Model.{Model, store, view, view-store, without, withModelJobs}
-use Rattle.scheduler.specs.Answers.{outcome, verdict, refusedOutcome}
+use Rattle.scheduler.specs.Table.{withJobs}
+use Rattle.scheduler.specs.Model.{Model, store, view, without, withModelJobs}
+use Rattle.scheduler.specs.Answers.{outcome, accepts}
 use Rattle.scheduler.specs.Refusals.{completeRefusal}
 use Rattle.jobs.specs.Sound.{Sound, sound-leave, early, all-live}
-use Rattle.jobs.specs.Premise.{Holds, store-holds, refused-held}
+use Rattle.jobs.specs.Premise.{Holds, store-holds}
+use Rattle.job_table.specs.declared.Part.{Part}
+use Rattle.job_table.specs.Parts.{Own, completing, leaving, part, own-taken, own-refused}
 use Rattle.history.specs.Calls.{complete}
 use Rattle.conservative_rules.specs.Conservative.{pass, call, completed}
 use Rattle.conservative_rules.specs.Valid.{Valid, used-staying}
-use Rattle.conservative.specs.Advance.{advancedBy, advanced-stored}
+use Rattle.conservative.specs.Advance.{advancedBy, refused-stored, advanced-stored}
 use Rattle.planning.specs.Pass.{Replannable, pass-stored, pass-length}
 
--- a test that picks somebody
-any-some : (p : Job → Bool) (js : List Job) → (length (keep p js) ≡ 0 → ⊥) → any p js ≡ true
-any-some p [] f = absurd (f refl)
-any-some p (j ∷ js) f = case (p j) (λ e. rw e) (λ e. rw e (any-some p js (λ q. f (rw e q))))
+-- what the code computes of the table after its part: the jobs that stay have their turns
+abbrev pub completesBy : Part → Outcome
+completesBy p = advancedBy p (withJobs (p .scheduler) (pass (view (p .scheduler) .settings) (p .scheduler .clock) [] (p .scheduler .jobs)))
 
-any-none : (p : Job → Bool) (js : List Job) → length (keep p js) ≡ 0 → any p js ≡ false
-any-none p [] e = refl
-any-none p (j ∷ js) e = case (p j) (λ q. absurd (let z = rw q at e in omega arith)) (λ q. rw q (any-none p js (rw q at e)))
-
--- what the code computes: the jobs that the test picks have left, and the others have their turns
-abbrev completesBy : Removed → Outcome
-completesBy r =
-    advancedBy (r .tickets) (r .scheduler) (withJobs (r .scheduler) (pass (view (r .scheduler) .settings) (r .scheduler .clock) [] (r .scheduler .jobs)))
-
-abbrev pub completes : Scheduler → ℕ → Outcome
-completes d t = completesBy (removed d (select.RunningTicket t))
-
-module _ (d : Scheduler) (t : ℕ) (h : Holds Valid d) where
-  abbrev m : Model
-  m = view d
-
+module _ (m : Model) (t : ℕ) (v : Valid m) where
   abbrev rest : Model
   rest = without m (m .clock) (select.RunningTicket t)
 
-  pub left-is : removed d (select.RunningTicket t) ≡ record { tickets = tickets (ticketsOf (keep (picks (select.RunningTicket t)) (m .jobs))); scheduler = store rest }
-  left-is = ap (λ (x : Scheduler). removed x (select.RunningTicket t)) (h .stored) ∙ removed-stored m (select.RunningTicket t) (h .holds .sound .few)
-
   sound-rest : Sound rest
-  sound-rest = sound-leave m (m .clock) (select.RunningTicket t) (h .holds .sound) (early t)
+  sound-rest = sound-leave m (m .clock) (select.RunningTicket t) (v .sound) (early t)
 
   replannable : Replannable rest
   replannable = record {
-    planned = record { sound = sound-rest; room = λ r l. omega (arith, used-staying (m .settings) r (select.RunningTicket t) (m .jobs), h .holds .room r l) };
-    ahead = λ j i w. h .holds .ahead j (keep-in (λ (k : Job). not (picks (select.RunningTicket t) k)) (m .jobs) i .0) w;
+    planned = record { sound = sound-rest; room = λ r l. omega (arith, used-staying (m .settings) r (select.RunningTicket t) (m .jobs), v .room r l) };
+    ahead = λ j i w. v .ahead j (keep-in (λ (k : Job). not (picks (select.RunningTicket t) k)) (m .jobs) i .0) w;
   }
 
-  pub rest-held : Holds Replannable (store rest)
+  rest-held : Holds Replannable (store rest)
   rest-held = store-holds Replannable rest (all-live rest sound-rest) replannable
-
-  rest-view : view (store rest) ≡ rest
-  rest-view = view-store rest (all-live rest sound-rest)
 
   abbrev after-pass : Model
   after-pass = withModelJobs rest (pass (rest .settings) (rest .clock) [] (rest .jobs))
@@ -77,17 +51,27 @@ module _ (d : Scheduler) (t : ℕ) (h : Holds Valid d) where
   unfolding view store
   pass-is = pass-stored rest replannable
 
-  abbrev gone : List Job
-  gone = keep (picks (select.RunningTicket t)) (m .jobs)
-
-  pub taken-held : (length (ticketsOf gone) ≡ 0 → ⊥) → completes d t ≡ outcome (call m (complete t))
-  unfolding call completeRefusal verdict completed
-  taken-held n =
-      ap completesBy left-is
-      ∙ ap (advancedBy (tickets (ticketsOf gone)) (store rest)) pass-is
+  taken-is : completesBy (part (leaving m (m .clock) (select.RunningTicket t))) ≡ outcome (completed m t)
+  unfolding completed
+  taken-is =
+      ap (advancedBy (part (leaving m (m .clock) (select.RunningTicket t)))) pass-is
       ∙ advanced-stored m (m .clock) (select.RunningTicket t) (after-pass .jobs) (sym (pass-length (rest .settings) (rest .clock) [] (rest .jobs)))
-      ∙ rw (any-some (picks (select.RunningTicket t)) (m .jobs) (λ e. n (length-map gone ticketOf ∙ e)))
 
-  pub refused-call : length (ticketsOf gone) ≡ 0 → refusedOutcome d refusal.NotRunning ≡ outcome (call m (complete t))
-  unfolding call completeRefusal verdict
-  refused-call e = refused-held Valid d refusal.NotRunning h ∙ rw (any-none (picks (select.RunningTicket t)) (m .jobs) (sym (length-map gone ticketOf) ∙ e))
+  abbrev own : Own
+  own = completing m t
+
+  module _ (a : accepts (own .refusal) ≡ true) where
+    pub replannable-held : Holds Replannable (store (own .model))
+    replannable-held = rw (own-taken m (completeRefusal m t) (leaving m (m .clock) (select.RunningTicket t)) a .1) rest-held
+
+    pub taken-held : completesBy (part own) ≡ outcome (call m (complete t))
+    unfolding call
+    taken-held =
+        let o = own-taken m (completeRefusal m t) (leaving m (m .clock) (select.RunningTicket t)) a in
+        ap (λ (x : Own). completesBy (part x)) (o .1) ∙ taken-is ∙ rw (o .0)
+
+  pub refused-held : accepts (own .refusal) ≡ false → advancedBy (part own) (store (own .model)) ≡ outcome (call m (complete t))
+  unfolding call
+  refused-held a =
+      let o = own-refused m (completeRefusal m t) (leaving m (m .clock) (select.RunningTicket t)) refl a in
+      ap (λ (x : Own). advancedBy (part x) (store (x .model))) (o .1) ∙ refused-stored m (completeRefusal m t) ∙ rw (o .0)

@@ -1,29 +1,36 @@
 -- What the code of a tick computes on a stored model is the definition's tick.
 -- Assumes nothing.
 use mathlib.Core.Path.{_≡_, refl, sym, ap, _∙_}
-use mathlib.Core.List.{List, _∷_, map, map-append}
+use mathlib.Core.Bool.{true, false}
+use mathlib.Core.List.{List, [], _∷_, _++_, map, map-append, append-nil}
 use Prim.Native.Nat.{ℕ, zero, suc, _+_, _-_, _≤_, _<_}
-use native.Mathlib.Numerals.{add-one}
 use native.Mathlib.Omega.{arith}
-use lib.ListN.{length, replicate, length-map}
-use borrow.Author.Tests.{le-ltb, lt-ltb}
-use Rattle.lists.specs.Pads.{pad}
+use lib.ListN.{length, getD, set, take, drop, replicate, length-map, length-append, drop-of-length-le}
+use lib.Seq.{take-all, length-take-le, getD-append-add, getD-drop}
+use borrow.Author.Tests.{ne-eqb}
+use Rattle.lists.specs.Tests.{case}
+use Rattle.lists.specs.Lists.{keep, In, map-same}
+use Rattle.lists.specs.Loops.{keep-take-yes, keep-take-no, mapped-set, mapped-skip}
+use Rattle.lists.specs.Pads.{pad, pad-push}
 use Rattle.scheduler.specs.declared.Job.{Job}
-use Rattle.scheduler.specs.declared.Refusal.the-variants as refusal
+use Rattle.scheduler.specs.declared.Refusal.{Refusal}
 use Rattle.scheduler.specs.declared.Scheduler.{Scheduler}
 use Rattle.scheduler.specs.declared.Select.the-variants as select
 use Rattle.scheduler.specs.declared.Outcome.{Outcome}
 use Rattle.scheduler.specs.Limits as limit
-use Rattle.scheduler.specs.Jobs.{unused}
-use Rattle.scheduler.specs.Settings.{horizon, slots}
-use Rattle.scheduler.specs.Table.{withJobs, removed}
-use Rattle.scheduler.specs.TableLaws.{removed-stored}
+use Rattle.scheduler.specs.Jobs.{unused, isWaiting}
+use Rattle.scheduler.specs.Table.{withJobs, ticketsOf, tickets}
 use Rattle.scheduler.specs.Model.{Model, store, without, withModelJobs}
-use Rattle.scheduler.specs.Answers.{outcome, refuse, verdict}
+use Rattle.scheduler.specs.Answers.{outcome, refuse, accepts}
 use Rattle.scheduler.specs.Refusals.{tickRefusal}
+use Rattle.job_table.specs.declared.Part.{Part}
+use Rattle.job_table.specs.Parts.{leaving, ticking, part}
 use Rattle.history.specs.Calls.{tick}
-use Rattle.conservative_rules.specs.Conservative.{call, ticked, turned}
-use Rattle.conservative.specs.Advance.{advancedBy, advanced-stored}
+use Rattle.conservative_rules.specs.Conservative.{call, begun, ticked, placed, turned}
+use Rattle.conservative_rules.specs.Faithful.{startsAt, begun-turned}
+use Rattle.conservative_rules.specs.Turn.{turned-due, turned-other}
+use Rattle.conservative_rules.specs.Valid.{Valid}
+use Rattle.conservative.specs.Advance.{advancedBy, refused-stored, advanced-stored}
 
 -- ## The starts, on the slots of the table and on the model
 
@@ -45,34 +52,106 @@ turned-stored now m = ap (withJobs (store m)) (turned-pad now (m .jobs))
 
 -- ## The tick
 
-abbrev later : Scheduler → Scheduler
-later d = record { kind = d .kind; nodes = d .nodes; clock = d .clock + 1; next = d .next; jobs = d .jobs }
+-- what the code computes of the table after its part: those planned for now start
+abbrev pub startedBy : Part → Outcome
+startedBy p = advancedBy p (withJobs (p .scheduler) (map (turned (p .scheduler .clock)) (p .scheduler .jobs)))
 
--- at the minute n those whose end is n leave, and those planned for it start
-abbrev ticksAt : Scheduler → ℕ → Outcome
-ticksAt d n =
-    let r = removed d (select.EndingAt n) in
-    advancedBy (r .tickets) (r .scheduler) (withJobs (r .scheduler) (map (turned n) (r .scheduler .jobs)))
+-- what it leaves in slots, by the definition of a tick
+module _ (m : Model) where
+  abbrev n : ℕ
+  n = suc (m .clock)
 
-abbrev pub ticks : Scheduler → Outcome
-ticks d = ticksAt (later d) (d .clock + 1)
+  abbrev rest : Model
+  rest = without m n (select.EndingAt n)
 
-abbrev next-minute : Model → Model
-next-minute m = record { settings = m .settings; clock = suc (m .clock); next = m .next; jobs = m .jobs }
+  turned-rest : withJobs (store rest) (map (turned (store rest .clock)) (store rest .jobs)) ≡ store (withModelJobs rest (map (turned n) (rest .jobs)))
+  unfolding store
+  turned-rest = turned-stored n rest
 
-ticks-begin : (m : Model) → ticks (store m) ≡ ticksAt (store (next-minute m)) (suc (m .clock))
-unfolding store
-ticks-begin m = rw (add-one (m .clock))
+  taken-is : startedBy (part (leaving m n (select.EndingAt n))) ≡ outcome (ticked m)
+  unfolding ticked
+  taken-is =
+      ap (advancedBy (part (leaving m n (select.EndingAt n)))) turned-rest
+      ∙ advanced-stored m n (select.EndingAt n) (map (turned n) (rest .jobs)) (sym (length-map (rest .jobs) (turned n)))
 
-pub ticks-stored : (m : Model) → length (m .jobs) ≤ slots (m .settings) → m .clock < horizon (m .settings) → ticks (store m) ≡ outcome (call m tick)
-unfolding call ticked tickRefusal verdict
-ticks-stored m few low =
-    let n = suc (m .clock) in
-    let rest = without m n (select.EndingAt n) in
-    ticks-begin m
-    ∙ rw (removed-stored (next-minute m) (select.EndingAt n) few, turned-stored n rest, le-ltb (horizon (m .settings)) n (omega arith))
-    (advanced-stored m n (select.EndingAt n) (map (turned n) (rest .jobs)) (sym (length-map (rest .jobs) (turned n))))
+  module _ (v : Valid m) where
+    -- nobody is planned for the minute that is now
+    not-due : (j : Job) → In j (m .jobs) → startsAt (m .clock) j ≡ false
+    not-due j i = case (isWaiting j) (λ w. rw w (ne-eqb (j .start) (m .clock) (λ e. omega (arith, v .ahead j i w)))) (λ w. rw w)
 
-pub tick-refused : (m : Model) → horizon (m .settings) ≤ m .clock → call m tick ≡ refuse m refusal.PastHorizon
-unfolding call tickRefusal verdict
-tick-refused m h = rw (lt-ltb (horizon (m .settings)) (suc (m .clock)) (omega arith))
+    still : map (turned (m .clock)) (m .jobs) ≡ m .jobs
+    still = map-same (turned (m .clock)) (m .jobs) (λ j i. turned-other (m .clock) j (not-due j i))
+
+    turned-still : withJobs (store m) (map (turned (store m .clock)) (store m .jobs)) ≡ store m
+    unfolding store
+    turned-still = turned-stored (m .clock) m ∙ ap (λ (js : List Job). store (withModelJobs m js)) still
+
+    refused-is : (r : Refusal) → startedBy (part (record { refusal = r; ticket = 0; ended = []; model = m })) ≡ outcome (refuse m r)
+    refused-is r = ap (advancedBy (part (record { refusal = r; ticket = 0; ended = []; model = m }))) turned-still ∙ refused-stored m r
+
+    pub ticks-held : startedBy (part (ticking m)) ≡ outcome (call m tick)
+    unfolding call
+    ticks-held = case (accepts (tickRefusal m)) (λ a. rw a taken-is) (λ a. rw a (refused-is (tickRefusal m)))
+
+-- ## One slot more
+
+pub record Starts (now : ℕ) (d e : Scheduler) (list : List ℕ) (n i : ℕ) : Type 0 where
+  pub low : i ≤ 64
+  pub few : n ≤ i
+  pub scheduler-is : e ≡ withJobs d (map (turned now) (take i (d .jobs)) ++ drop i (d .jobs))
+  pub count-is : n ≡ length (ticketsOf (keep (startsAt now) (take i (d .jobs))))
+  pub list-is : list ≡ pad 64 0 (ticketsOf (keep (startsAt now) (take i (d .jobs))))
+
+module _ {now : ℕ} {d e : Scheduler} {list : List ℕ} {n i : ℕ} (v : Starts now d e list n i) (len : length (d .jobs) ≡ 64) where
+  abbrev xs : List Job
+  xs = d .jobs
+
+  abbrev x : Job
+  x = getD xs i unused
+
+  module _ (h : i < 64) where
+    -- the slot is as it was
+    pub slot-there : getD (e .jobs) i unused ≡ x
+    slot-there =
+        let ys = map (turned now) (take i xs) in
+        let k : i ≡ length ys + 0 = omega (arith, length-map (take i xs) (turned now), length-take-le i xs (omega arith)) in
+        let z : i + 0 ≡ i = omega arith in
+        ap (λ (y : Scheduler). getD (y .jobs) i unused) (v .scheduler-is)
+        ∙ ap (λ (p : ℕ). getD (ys ++ drop i xs) p unused) k
+        ∙ getD-append-add ys (drop i xs) 0 unused
+        ∙ getD-drop i xs 0 unused
+        ∙ ap (λ (p : ℕ). getD xs p unused) z
+
+    pub due-next : startsAt now x ≡ true → Starts now d (withJobs e (set (e .jobs) i (placed now now x))) (set list n (x .ticket)) (n + 1) (i + 1)
+    due-next t =
+        let k = keep-take-yes unused (startsAt now) xs i (omega arith) t in
+        record {
+          low = omega arith;
+          few = omega (arith, v .few);
+          scheduler-is =
+              ap (λ (y : Scheduler). withJobs y (set (y .jobs) i (placed now now x))) (v .scheduler-is)
+              ∙ ap (withJobs d) (mapped-set unused (turned now) xs i (placed now now x) (omega arith) (sym (turned-due now x t)));
+          count-is = rw (k, map-append, length-append) (ap (λ (m : ℕ). m + 1) (v .count-is));
+          list-is =
+              rw (k, map-append)
+              (ap (λ (l : List ℕ). set l n (x .ticket)) (v .list-is)
+              ∙ pad-push 64 0 (ticketsOf (keep (startsAt now) (take i xs))) (x .ticket) n (sym (v .count-is)) (omega (arith, v .few)));
+        }
+
+    pub stays-next : startsAt now x ≡ false → Starts now d e list n (i + 1)
+    stays-next t =
+        let k = keep-take-no unused (startsAt now) xs i (omega arith) t in
+        record {
+          low = omega arith;
+          few = omega (arith, v .few);
+          scheduler-is = v .scheduler-is ∙ ap (withJobs d) (mapped-skip unused (turned now) xs i (omega arith) (turned-other now x t));
+          count-is = rw k (v .count-is);
+          list-is = rw k (v .list-is);
+        }
+
+  pub starts-done : 64 ≤ i → (e ≡ withJobs d (map (turned now) xs)) × (record { count = n; list = list } ≡ tickets (begun xs (map (turned now) xs)))
+  unfolding tickets
+  starts-done h =
+      let le : length xs ≤ i = omega arith in
+      let all = take-all i xs le in
+      (v .scheduler-is ∙ ap (withJobs d) (rw (all, drop-of-length-le xs le) (append-nil (map (turned now) xs))), rw (begun-turned now xs) (λ j. record { count = (rw all at (v .count-is)) j; list = (rw all at (v .list-is)) j }))

@@ -1,26 +1,26 @@
 // Conservative backfilling (document 01: "Promise Desk"), by value: submission, early completion and tick. Where jobs are placed, and the
 // profile, are in `planning`.
 ghost use mathlib.Core.Path.{_≡_};
-ghost use mathlib.Core.List.{map};
 ghost use Prim.Native.Nat.{_≤_, _<_};
 ghost use Rattle.scheduler.specs.Limits.{slots, lastTicket};
-ghost use Rattle.scheduler.specs.Table.{counted, withJobs, tickets};
+ghost use Rattle.scheduler.specs.Table.{tickets};
 ghost use Rattle.scheduler.specs.Model.{view};
 ghost use Rattle.scheduler.specs.Answers.{outcome};
 ghost use Rattle.jobs.specs.Premise.{Holds};
 ghost use Rattle.history.specs.Calls as calls;
-ghost use Rattle.conservative_rules.specs.Conservative.{call, begun, turned};
+ghost use Rattle.conservative_rules.specs.Conservative.{call, begun};
 ghost use Rattle.conservative_rules.specs.Valid.{Valid};
 ghost use Rattle.conservative_rules.specs.Faithful.{startsAt};
 ghost use Rattle.conservative.specs.Advance.{began, advancedBy};
 ghost use Rattle.conservative.specs.Submit.{accepted};
+ghost use Rattle.conservative.specs.Tick.{startedBy};
+use job_table::Part;
 use scheduler::Answer;
 use scheduler::Job;
 use scheduler::Outcome;
 use scheduler::Refusal;
 use scheduler::Request;
 use scheduler::Scheduler;
-use scheduler::Select;
 use scheduler::State;
 use scheduler::Submission;
 use scheduler::Tickets;
@@ -59,13 +59,15 @@ fn began(before: Job, after: Job) -> bool
     }
 }
 
-// The outcome of a call after which some jobs have left and the others stand as in `after`.
-fn advance(ended: Tickets, before: Scheduler, after: Scheduler) -> Outcome
-    ensures { λ r. ⌜ r ≡ advancedBy ended before after ⌝ }
+// The answer of a call that has done its part on the table, after which the others stand as in `after`.
+fn advance(left: Part, after: Scheduler) -> Outcome
+    ensures { λ r. ⌜ r ≡ advancedBy left after ⌝ }
 {
-    let started = newly_running(before, after);
+    let started = newly_running(left.scheduler, after);
+    let refusal = left.refusal;
+    let ended = left.ended;
     let answer = Answer {
-        refusal: Refusal::None,
+        refusal: refusal,
         ticket: 0,
         promise: 0,
         ended: ended,
@@ -83,19 +85,19 @@ pub fn complete(d: Scheduler, ticket: u32) -> Outcome
     requires { ⌜ Holds Valid d ⌝ }
     ensures { λ r. ⌜ r ≡ outcome (call (view d) (calls.complete ticket)) ⌝ }
 {
-    let left = d.remove(Select::RunningTicket(ticket));
-    let ended = left.tickets;
-    if ended.count == 0 {
-        return d.refused(Refusal::NotRunning);
+    let left = job_table::leave(d, ticket);
+    let refusal = left.refusal;
+    let mut after = left.scheduler;
+    if refusal.is_none() {
+        after = planning::replan_all(after);
     }
-    let rest = left.scheduler;
-    advance(ended, rest, planning::replan_all(rest))
+    advance(left, after)
 }
 
-// The outcome of a submission that is taken in with the planned start: that start is its promise.
-fn accept(d: Scheduler, s: Submission, start: u32) -> Outcome
-    requires { ⌜ (counted Select.Live (d .jobs) < slots) × (d .next ≤ lastTicket) ⌝ }
-    ensures { λ r. ⌜ r ≡ accepted d (s .nodes) (s .estimate) start ⌝ }
+// The outcome of a submission that is taken into the slot with the planned start: that start is its promise.
+fn accept(d: Scheduler, s: Submission, slot: usize, start: u32) -> Outcome
+    requires { ⌜ (slot < slots) × (d .next ≤ lastTicket) ⌝ }
+    ensures { λ r. ⌜ r ≡ accepted d (s .nodes) (s .estimate) slot start ⌝ }
 {
     let now = d.clock;
     let ticket = d.next;
@@ -108,9 +110,9 @@ fn accept(d: Scheduler, s: Submission, start: u32) -> Outcome
         promise: start,
     };
     let job = planning::place(order, now, start);
-    let mut later = d;
-    later.next = ticket + 1;
-    let scheduler = later.append(job);
+    let mut e = d;
+    e.jobs[slot] = job;
+    e.next = ticket + 1;
     let none = Tickets::none();
     let started = Tickets::one_if(start == now, ticket);
     let answer = Answer {
@@ -124,7 +126,7 @@ fn accept(d: Scheduler, s: Submission, start: u32) -> Outcome
     };
     Outcome {
         answer: answer,
-        scheduler: scheduler,
+        scheduler: e,
     }
 }
 
@@ -132,14 +134,15 @@ pub fn submit(d: Scheduler, s: Submission) -> Outcome
     requires { ⌜ Holds Valid d ⌝ }
     ensures { λ r. ⌜ r ≡ outcome (call (view d) (calls.submit (s .nodes) (s .estimate))) ⌝ }
 {
-    let refusal = d.check(s);
+    let slot = job_table::first_unused(d);
+    let refusal = job_table::submit_refusal(s, d.nodes, slot, d.next);
     if refusal.is_none() {
         let hold = walltime::wall_time(s.estimate);
         let start = planning::earliest(d, s.nodes, hold);
         if Scheduler::HORIZON < start + hold {
             return d.refused(Refusal::PastHorizon);
         }
-        return accept(d, s, start);
+        return accept(d, s, slot, start);
     }
     d.refused(refusal)
 }
@@ -156,36 +159,50 @@ fn starts_at(job: Job, now: u32) -> bool
     }
 }
 
-// The waiting jobs whose planned start is now start.
-fn start_due(d: Scheduler, now: u32) -> Scheduler
-    ensures { λ r. ⌜ r ≡ withJobs d (map (turned now) (d .jobs)) ⌝ }
+// The waiting jobs whose planned start is now start, and the call answers. None is planned for now where it is refused.
+fn start_due(p: Part) -> Outcome
+    ensures { λ r. ⌜ r ≡ startedBy p ⌝ }
 {
-    let mut e = d;
+    let mut e = p.scheduler;
+    let now = e.clock;
+    let mut list = [0u32; 64];
+    let mut n: usize = 0;
     let mut i: usize = 0;
     while i < Scheduler::LIVE {
-        let j = d.jobs[i];
+        let j = e.jobs[i];
         if starts_at(j, now) {
+            list[n] = j.ticket;
+            n += 1;
             e.jobs[i] = planning::place(j, now, now);
         }
         i += 1;
     }
-    e
+    let refusal = p.refusal;
+    let ended = p.ended;
+    let started = Tickets {
+        count: n,
+        list: list,
+    };
+    let answer = Answer {
+        refusal: refusal,
+        ticket: 0,
+        promise: 0,
+        ended: ended,
+        started: started,
+        head: 0,
+        forecast: 0,
+    };
+    Outcome {
+        answer: answer,
+        scheduler: e,
+    }
 }
 
 pub fn tick(d: Scheduler) -> Outcome
     requires { ⌜ Holds Valid d ⌝ }
     ensures { λ r. ⌜ r ≡ outcome (call (view d) calls.tick) ⌝ }
 {
-    let clock = d.clock;
-    if Scheduler::HORIZON <= clock {
-        return d.refused(Refusal::PastHorizon);
-    }
-    let now = clock + 1;
-    let mut later = d;
-    later.clock = now;
-    let left = later.remove(Select::EndingAt(now));
-    let rest = left.scheduler;
-    advance(left.tickets, rest, start_due(rest, now))
+    start_due(job_table::expire(d))
 }
 
 // What is asked, each by its function.

@@ -1,50 +1,48 @@
--- A submission: the tests by numbers, and the job put into the first unused slot.
+-- A submission: its tests, and the job put into the first unused slot.
 -- Assumes nothing.
 use Prim.Native.Nat.{ℕ, _+_, _≤_}
 use native.Mathlib.Omega.{arith}
-use native.Mathlib.Numerals.{add-one}
-use mathlib.Core.Path.{_≡_, refl, sym, ap, _∙_}
-use mathlib.Core.Bool.{true, false}
-use mathlib.Core.List.{[], _∷_}
-use lib.Dec.{leb, ltb}
+use mathlib.Core.Path.{_≡_, sym, ap, _∙_}
+use mathlib.Core.Bool.{Bool, true, false}
+use mathlib.Core.List.{List, [], _∷_}
+use lib.Dec.{ltb}
 use lib.ListN.{length, set}
 use borrow.Author.Tests.{le-ltb}
 use Rattle.lists.specs.Lists.{length-keep-le}
-use Rattle.lists.specs.Pads.{pad-push}
 use Rattle.scheduler.specs.declared.Job.{Job}
 use Rattle.scheduler.specs.declared.Refusal.{Refusal}
 use Rattle.scheduler.specs.declared.Refusal.the-variants as refusal
 use Rattle.scheduler.specs.declared.Scheduler.{Scheduler}
 use Rattle.scheduler.specs.declared.Submission.{Submission}
 use Rattle.walltime.specs.Laws.{wallTime-le}
-use Rattle.scheduler.specs.Limits.{slots, horizon, longest, lastTicket, outside}
-use Rattle.scheduler.specs.Jobs.{unused, isWaiting}
+use Rattle.scheduler.specs.Limits.{horizon}
+use Rattle.scheduler.specs.Jobs.{isWaiting}
 use Rattle.scheduler.specs.Table.{withJobs}
-use Rattle.scheduler.specs.Model.{Model, store, view, joined}
+use Rattle.scheduler.specs.Model.{Model, view}
 use Rattle.scheduler.specs.Answers.{verdict, accepts, noTickets}
 use Rattle.jobs.specs.Judged.{accepts-none}
 use Rattle.jobs.specs.Sound.{Fit, submit-fit}
 use Rattle.jobs.specs.Premise.{Holds}
 use Rattle.easy_rules.specs.Easy.{newJob, submitRefusal}
 use Rattle.easy_rules.specs.Valid.{Valid, latestEnd}
-use Rattle.easy.specs.declared.Part.{Part}
+use Rattle.job_table.specs.declared.Part.{Part}
+use Rattle.job_table.specs.Parts.{sharedRefusal, pastHorizon, part}
+use Rattle.job_table.specs.Submitting.{tests-more, withNext, known, enters}
 use Rattle.scheduler.specs.declared.Request.the-variants as request
-use Rattle.easy.specs.Parts.{Known, own, part}
+use Rattle.easy.specs.Parts.{Known, own}
 
-pub tests-by : (m : Model) (n e nodes live next latest : ℕ) → Known m e nodes live next latest
-    → verdict
-    ((outside 1 nodes n, refusal.NodesOutOfRange)
-    ∷ (outside 1 longest e, refusal.MinutesOutOfRange)
-    ∷ (leb slots live, refusal.Full)
-    ∷ (ltb lastTicket next, refusal.NoTicketLeft)
-    ∷ (ltb horizon latest, refusal.PastHorizon)
-    ∷ [])
-    ≡ submitRefusal m n e
-unfolding submitRefusal
-tests-by m n e nodes live next latest k = rw (k .nodes-is, k .live-is, k .next-is, k .latest-is)
+-- the four tests that both kinds share, and then the last minute
+module _ (m : Model) (n e : ℕ) where
+  abbrev late : List (Bool × Refusal)
+  late = (ltb horizon (latestEnd m e), refusal.PastHorizon) ∷ []
 
-abbrev pub withNext : Scheduler → ℕ → Scheduler
-withNext d t = record { kind = d .kind; nodes = d .nodes; clock = d .clock; next = t; jobs = d .jobs }
+  pub judged-late : accepts (sharedRefusal m n e) ≡ true → submitRefusal m n e ≡ pastHorizon (latestEnd m e)
+  unfolding submitRefusal verdict
+  judged-late a = tests-more m n e late ∙ rw a
+
+  pub judged-before : accepts (sharedRefusal m n e) ≡ false → submitRefusal m n e ≡ sharedRefusal m n e
+  unfolding submitRefusal
+  judged-before a = tests-more m n e late ∙ rw a
 
 module _ (d : Scheduler) (s : Submission) (h : Holds Valid d) where
   abbrev m : Model
@@ -60,11 +58,11 @@ module _ (d : Scheduler) (s : Submission) (h : Holds Valid d) where
 
   pub known-early : (low : ℕ) → low ≡ length (m .jobs) → d .clock ≤ 334720 → Known m (s .estimate) (d .nodes) low (d .next) 0
   unfolding view
-  known-early low e l = record { nodes-is = refl; live-is = e; next-is = refl; latest-is = sym (le-ltb horizon (latestEnd m (s .estimate)) (early-latest l)) }
+  known-early low e l = record { table = known d low e; latest-is = sym (le-ltb horizon (latestEnd m (s .estimate)) (early-latest l)) }
 
   pub known-late : (low latest : ℕ) → low ≡ length (m .jobs) → latest ≡ latestEnd m (s .estimate) → Known m (s .estimate) (d .nodes) low (d .next) latest
   unfolding view
-  known-late low latest e l = record { nodes-is = refl; live-is = e; next-is = refl; latest-is = ap (ltb horizon) l }
+  known-late low latest e l = record { table = known d low e; latest-is = ap (ltb horizon) l }
 
   module _ (why : Refusal) (w : why ≡ submitRefusal m (s .nodes) (s .estimate)) where
     pub turned-away : accepts why ≡ false → record { refusal = why; ticket = 0; ended = noTickets; scheduler = d } ≡ part (own m (request.Submit s))
@@ -78,14 +76,7 @@ module _ (d : Scheduler) (s : Submission) (h : Holds Valid d) where
       unfolding submitRefusal
       fits = submit-fit m (s .nodes) (s .estimate) ((ltb horizon (latestEnd m (s .estimate)), refusal.PastHorizon) ∷ []) (rw w at k) .0
 
-      joins : (low : ℕ) → low ≡ length (m .jobs) → withNext (withJobs d (set (d .jobs) low job)) (d .next + 1) ≡ store (joined m job)
-      unfolding store view
-      joins low e =
-          ap (λ (n : ℕ). withNext (withJobs d (set (d .jobs) n job)) (d .next + 1)) e
-          ∙ ap (λ (x : Scheduler). withNext (withJobs x (set (x .jobs) (length (m .jobs)) job)) (d .next + 1)) (h .stored)
-          ∙ rw (pad-push slots unused (m .jobs) job (length (m .jobs)) refl (fits .room), add-one (d .next))
-
       pub admitted : (low : ℕ) → low ≡ length (m .jobs)
           → record { refusal = why; ticket = d .next; ended = noTickets; scheduler = withNext (withJobs d (set (d .jobs) low job)) (d .next + 1) } ≡ part (own m (request.Submit s))
       unfolding view
-      admitted low e = rw (← w, k, joins low e, accepts-none why k)
+      admitted low e = rw (← w, k, enters d low e (h .stored) (fits .room) job, accepts-none why k)

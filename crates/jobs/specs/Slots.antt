@@ -1,18 +1,31 @@
 -- The slots of a scheduler that holds a sound model.
 -- Assumes nothing.
-use Prim.Native.Nat.{ℕ, _≤_, _<_}
+use Prim.Native.Nat.{ℕ, zero, suc, _-_, _≤_, _<_}
 use native.Mathlib.Omega.{arith}
-use mathlib.Core.Path.{_≡_, sym, ap, subst}
-use lib.ListN.{length, getD}
-use Rattle.lists.specs.Lists.{All, all-of, all-at}
-use Rattle.lists.specs.Pads.{all-pad}
+use mathlib.Core.Path.{_≡_, refl, sym, ap, subst, _∙_}
+use mathlib.Core.Bool.{true, false}
+use mathlib.Core.List.{List, [], _∷_, _++_}
+use lib.Dec.{leb}
+use lib.ListN.{length, getD, take, replicate, List·getD-append}
+use lib.Seq.{take-append-seam}
+use borrow.Author.Tests.{leb-true, leb-false}
+use Rattle.lists.specs.Tests.{case, true-false}
+use Rattle.lists.specs.Lists.{All, all-of, all-at, in-getD}
+use Rattle.lists.specs.Pads.{pad, all-pad}
 use Rattle.scheduler.specs.declared.Job.{Job}
 use Rattle.scheduler.specs.declared.Scheduler.{Scheduler}
 use Rattle.scheduler.specs.Limits.{horizon, slots}
-use Rattle.scheduler.specs.Jobs.{unused}
+use Rattle.scheduler.specs.Jobs.{unused, isLive}
 use Rattle.scheduler.specs.Model.{Model, store, view}
 use Rattle.jobs.specs.Sound.{Sound}
 use Rattle.jobs.specs.Premise.{Holds}
+
+past : (xs : List Job) (k i : ℕ) → length xs ≤ i → getD (xs ++ replicate k unused) i unused ≡ unused
+past [] zero i l = refl
+past [] (suc k) zero l = refl
+past [] (suc k) (suc i) l = past [] k i (omega arith)
+past (x ∷ xs) k zero l = absurd (omega arith)
+past (x ∷ xs) k (suc i) l = past xs k i (omega arith)
 
 module _ (d : Scheduler) (h : Holds Sound d) where
   pub slots-are : d .jobs ≡ store (view d) .jobs
@@ -25,3 +38,29 @@ module _ (d : Scheduler) (h : Holds Sound d) where
   -- no start passes the last minute
   pub slots-low : (i : ℕ) → i < length (d .jobs) → getD (d .jobs) i unused .start ≤ horizon
   slots-low i l = all-at (λ (j : Job). j .start ≤ horizon) (d .jobs) i unused (subst (All (λ (j : Job). j .start ≤ horizon)) (sym slots-are) (all-low (view d) (h .holds))) l
+
+  abbrev L : List Job
+  L = view d .jobs
+
+  -- a live slot stands among the live jobs
+  pub live-low : (i : ℕ) → isLive (getD (d .jobs) i unused) ≡ true → i < length L
+  unfolding store pad
+  live-low i w =
+      case (leb (length L) i)
+      (λ e. true-false (isLive (getD (d .jobs) i unused)) w (ap isLive (ap (λ (xs : List Job). getD xs i unused) slots-are ∙ past L (slots - length L) i (leb-true (length L) i e))))
+      (λ e. leb-false (length L) i e)
+
+  -- a slot that is not live stands past them
+  pub past-live : (i : ℕ) → isLive (getD (d .jobs) i unused) ≡ false → length L ≤ i
+  unfolding store pad
+  past-live i e =
+      case (leb (length L) i) (λ q. leb-true (length L) i q) (λ q.
+      let l : i < length L = leb-false (length L) i q in
+      true-false (isLive (getD (d .jobs) i unused))
+      (ap isLive (ap (λ (js : List Job). getD js i unused) slots-are ∙ List·getD-append L (replicate (slots - length L) unused) unused i l) ∙ h .holds .each (getD L i unused) (in-getD L i unused l) .is-live)
+      e)
+
+  -- the live jobs stand first
+  pub first-live : take (length L) (d .jobs) ≡ L
+  unfolding store pad
+  first-live = ap (take (length L)) slots-are ∙ take-append-seam L (replicate (slots - length L) unused)

@@ -1,4 +1,6 @@
 // Calls over what is lent, on both kinds of scheduler: what each answers, refusals too, and what stands in a list lent for the profile.
+ghost use Rattle.jobs.specs.Sound.{Sound};
+ghost use Rattle.jobs.specs.Premise.{Holds};
 ghost use Rattle.history.specs.Calls as calls;
 ghost use Rattle.guarantees.specs.Premise.{Premise};
 ghost use Rattle.lent_calls.specs.Left.{Leaves};
@@ -12,7 +14,6 @@ use scheduler::Opened;
 use scheduler::Opening;
 use scheduler::Outcome;
 use scheduler::Scheduler;
-use scheduler::Select;
 use scheduler::Submission;
 use scheduler::Tickets;
 
@@ -192,7 +193,9 @@ fn print_kind(kind: Kind) {
 }
 
 // The refusal, and the scheduler handed back: its kind, nodes, clock, next ticket and number of live jobs.
-fn print_opened(opened: Opened) {
+fn print_opened(opened: Opened)
+    requires { ⌜ Holds Sound (opened .scheduler) ⌝ }
+{
     let why = opened.refusal;
     print(why.code());
     let d = opened.scheduler;
@@ -201,7 +204,7 @@ fn print_opened(opened: Opened) {
     print(d.nodes);
     print(d.clock);
     print(d.next);
-    print_count(d.count(Select::Live));
+    print_count(job_table::first_unused(d));
     io::write_all(STDOUT_FILENO, b"\n");
 }
 

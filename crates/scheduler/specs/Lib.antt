@@ -7,4 +7,3 @@ pub mod Answers
 pub mod Refusals
 pub mod Opening
 pub mod TableLaws
-pub mod Compacting

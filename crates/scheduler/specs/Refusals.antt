@@ -9,12 +9,9 @@ use Rattle.lists.specs.Lists.{any}
 use Rattle.scheduler.specs.declared.Refusal.{Refusal}
 use Rattle.scheduler.specs.declared.Refusal.the-variants as refusal
 use Rattle.scheduler.specs.declared.Select.the-variants as select
-use Rattle.scheduler.specs.declared.Scheduler.{Scheduler}
 use Rattle.scheduler.specs.Limits.{lastTicket, outside}
-use Rattle.scheduler.specs.Limits as limit
 use Rattle.scheduler.specs.Jobs.{picks}
 use Rattle.scheduler.specs.Settings.{horizon, slots, longest}
-use Rattle.scheduler.specs.Table.{counted}
 use Rattle.scheduler.specs.Model.{Model}
 use Rattle.scheduler.specs.Answers.{Result, verdict, accepts, refuse}
 
@@ -31,16 +28,6 @@ submitTests m n e more =
     ∷ (leb (slots (m .settings)) (length (m .jobs)), refusal.Full)
     ∷ (ltb lastTicket (m .next), refusal.NoTicketLeft)
     ∷ more
-
--- the four tests on the slots of the table
-unfoldable pub checked : Scheduler → ℕ → ℕ → Refusal
-checked d n e =
-    verdict
-    ((outside 1 (d .nodes) n, refusal.NodesOutOfRange)
-    ∷ (outside 1 limit.longest e, refusal.MinutesOutOfRange)
-    ∷ (leb limit.slots (counted select.Live (d .jobs)), refusal.Full)
-    ∷ (ltb lastTicket (d .next), refusal.NoTicketLeft)
-    ∷ [])
 
 -- 7: "the ended ticket is not running: waiting, over or never given"
 unfoldable pub completeRefusal : Model → ℕ → Refusal

@@ -1,15 +1,10 @@
-// The scheduler of one machine (document 01: "desk", "rack"): its limits, its job table by value, opening, and what calls answer.
+// The scheduler of one machine (document 01: "desk", "rack"): its limits, its jobs by value, opening, and what calls answer.
 ghost use mathlib.Core.Path.{_≡_};
-ghost use Prim.Native.Nat.{_+_, _<_, _≤_};
-ghost use lib.Dec.{leb};
-ghost use lib.ListN.{set, take, drop};
-ghost use Rattle.lists.specs.Pads.{pad};
 ghost use Rattle.scheduler.specs.Limits.{limits, outside};
 ghost use Rattle.scheduler.specs.Jobs.{unused, picks};
-ghost use Rattle.scheduler.specs.Table.{withJobs, counted, removed, appended, tickets, oneIf};
+ghost use Rattle.scheduler.specs.Table.{tickets, oneIf};
 ghost use Rattle.scheduler.specs.Model.{store, empty};
 ghost use Rattle.scheduler.specs.Answers.{code, accepts, refusedAnswer, refusedOutcome, noTickets};
-ghost use Rattle.scheduler.specs.Refusals.{checked};
 ghost use Rattle.scheduler.specs.Opening.{opened};
 
 // Which rules the scheduler follows: conservative backfilling ("Promise Desk") or EASY backfilling ("Loose Desk").
@@ -113,17 +108,12 @@ pub enum Request {
     Tick,
 }
 
-// A test of a job, as a value.
+// A test of a job, as a value: definitions pick jobs by it.
 pub enum Select {
     Live,
     Waiting,
     RunningTicket(u32),
     EndingAt(u32),
-}
-
-pub struct Removed {
-    pub tickets: Tickets,
-    pub scheduler: Scheduler,
 }
 
 pub fn outside_range(x: u32, low: u32, high: u32) -> bool
@@ -274,19 +264,6 @@ impl Job {
     }
 }
 
-impl Select {
-    pub fn picks(self, job: Job) -> bool
-        ensures { λ r. ⌜ r ≡ picks self job ⌝ }
-    {
-        match self {
-            Select::Live => job.is_live(),
-            Select::Waiting => job.is_waiting(),
-            Select::RunningTicket(ticket) => job.runs_as(ticket),
-            Select::EndingAt(minute) => job.ends_at(minute),
-        }
-    }
-}
-
 impl Scheduler {
     pub const NODES: u32 = 1024;
 
@@ -359,131 +336,6 @@ impl Scheduler {
         Outcome {
             answer: Answer::refused(refusal),
             scheduler: self,
-        }
-    }
-
-    // So many slots that all live jobs stand in them: up to the last.
-    fn used(self) -> usize
-        ensures { λ r. ⌜ (r ≤ 64) × (counted Select.Live (drop r (self .jobs)) ≡ 0) ⌝ }
-    {
-        let mut i = Scheduler::LIVE;
-        while 0 < i {
-            let last = i - 1;
-            let j = self.jobs[last];
-            if j.is_live() {
-                return i;
-            }
-            i = last;
-        }
-        i
-    }
-
-    pub fn count(self, which: Select) -> usize
-        ensures { λ r. ⌜ r ≡ counted which (self .jobs) ⌝ }
-    {
-        let end = self.used();
-        let mut n: usize = 0;
-        let mut i: usize = 0;
-        while i < end {
-            let j = self.jobs[i];
-            if which.picks(j) {
-                n += 1;
-            }
-            i += 1;
-        }
-        n
-    }
-
-    // Whether every slot is used. Where the last is not, nothing is counted.
-    fn is_full(self) -> bool
-        ensures { λ r. ⌜ r ≡ leb 64 (counted Select.Live (self .jobs)) ⌝ }
-    {
-        let last = self.jobs[63];
-        if last.is_live() {
-            return Scheduler::LIVE <= self.count(Select::Live);
-        }
-        false
-    }
-
-    // What a submission is refused for, whatever the kind: its nodes, its estimate, no slot or no ticket left.
-    pub fn check(self, s: Submission) -> Refusal
-        ensures { λ r. ⌜ r ≡ checked self (s .nodes) (s .estimate) ⌝ }
-    {
-        if outside_range(s.nodes, 1, self.nodes) {
-            return Refusal::NodesOutOfRange;
-        }
-        if outside_range(s.estimate, 1, Scheduler::LONGEST) {
-            return Refusal::MinutesOutOfRange;
-        }
-        if self.is_full() {
-            return Refusal::Full;
-        }
-        if Scheduler::LAST_TICKET < self.next {
-            return Refusal::NoTicketLeft;
-        }
-        Refusal::None
-    }
-
-    pub fn put(self, i: usize, job: Job) -> Scheduler
-        requires { ⌜ i < 64 ⌝ }
-        ensures { λ d. ⌜ d ≡ withJobs self (set (self .jobs) i job) ⌝ }
-    {
-        let mut d = self;
-        d.jobs[i] = job;
-        d
-    }
-
-    // The job goes into the first unused slot.
-    pub fn append(self, job: Job) -> Scheduler
-        requires { ⌜ counted Select.Live (self .jobs) < 64 ⌝ }
-        ensures { λ d. ⌜ d ≡ appended self job ⌝ }
-    {
-        let live = self.count(Select::Live);
-        self.put(live, job)
-    }
-
-    // The slots from this one on become unused.
-    fn cleared(self, from: usize) -> Scheduler
-        requires { ⌜ from ≤ 64 ⌝ }
-        ensures { λ d. ⌜ d ≡ withJobs self (pad 64 unused (take from (self .jobs))) ⌝ }
-    {
-        let none = Job::unused();
-        let mut d = self;
-        let mut i = from;
-        while i < Scheduler::LIVE {
-            d.jobs[i] = none;
-            i += 1;
-        }
-        d
-    }
-
-    // The jobs that the test picks leave, and their tickets are given in order; the others move up.
-    pub fn remove(self, which: Select) -> Removed
-        ensures { λ r. ⌜ r ≡ removed self which ⌝ }
-    {
-        let mut d = self;
-        let mut list = [0u32; 64];
-        let mut kept: usize = 0;
-        let mut gone: usize = 0;
-        let mut i: usize = 0;
-        while i < Scheduler::LIVE {
-            let j = self.jobs[i];
-            if which.picks(j) {
-                list[gone] = j.ticket;
-                gone += 1;
-            } else {
-                d.jobs[kept] = j;
-                kept += 1;
-            }
-            i += 1;
-        }
-        let tickets = Tickets {
-            count: gone,
-            list: list,
-        };
-        Removed {
-            tickets: tickets,
-            scheduler: d.cleared(kept),
         }
     }
 }

@@ -1,3 +1,5 @@
+-- `conservative::accept` meets its contract.
+-- Assumes nothing.
 use Rattle.conservative.specs.Submit.{accepted}
 use borrow.Author.Needs.{needs}
 use Rattle.conservative.proofs.accept.Statement.{statement}
@@ -6,11 +8,14 @@ use Rattle.conservative.proofs.accept.Tie as tie
 place-requires : tie.Need-place-requires
 place-requires c κs = search needs
 
-add-later : tie.Need-add-later
-add-later c = search needs
+mul-job : tie.Need-mul-job
+mul-job c = search needs
 
-append-requires : tie.Need-append-requires
-append-requires c κs = search needs
+element-set-from-job : tie.Need-element-set-from-job
+element-set-from-job c = search needs
+
+add-e : tie.Need-add-e
+add-e c = search needs
 
 none-requires : tie.Need-none-requires
 none-requires c κs = search needs
@@ -20,9 +25,7 @@ one-if-requires c κs = search needs
 
 returns : tie.Need-returns
 unfolding accepted
-returns c = rw (c .one-if .ensures, c .before .none .ensures, c .before .before .append .ensures, c .before .before .before .place .ensures)
+returns c = rw (c .one-if .ensures, c .before .none .ensures, c .before .before .place .ensures)
 
 pub accept-spec : {M : Type 1} → statement M
-accept-spec =
-    tie.close
-    (tie.spec place-requires add-later append-requires none-requires one-if-requires returns)
+accept-spec = tie.close (tie.spec place-requires mul-job element-set-from-job add-e none-requires one-if-requires returns)

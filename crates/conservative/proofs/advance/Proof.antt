@@ -8,7 +8,7 @@ newly-running-requires c κs = search needs
 
 returns : tie.Need-returns
 unfolding advancedBy
-returns c = rw (c .newly-running .ensures)
+returns c = rw (c .before .newly-running .ensures)
 
 pub advance-spec : {M : Type 1} → statement M
 advance-spec = tie.close (tie.spec newly-running-requires returns)

@@ -1,53 +1,50 @@
 -- `conservative::complete` meets its contract.
 -- Assumes nothing.
 use mathlib.Core.Path.{_≡_, sym, ap, _∙_}
-use Rattle.scheduler.specs.declared.Removed.{Removed}
-use Rattle.scheduler.specs.declared.Select.the-variants as select
-use Rattle.scheduler.specs.Table.{tickets, removed}
-use Rattle.conservative.specs.Complete.{left-is, rest-held, taken-held, refused-call}
+use mathlib.Core.Logic.{⊎-elim}
+use mathlib.Core.Bool.{true}
+use Rattle.scheduler.specs.Model.{view}
+use Rattle.scheduler.specs.Answers.{accepts}
+use Rattle.job_table.specs.declared.Part.{Part}
+use Rattle.job_table.specs.Parts.{completing, part}
+use Rattle.conservative.specs.Advance.{advancedBy}
+use Rattle.conservative.specs.Complete.{completesBy, replannable-held, taken-held, refused-held}
 use borrow.Author.Needs.{needs}
 use Rattle.conservative.proofs.complete.Statement.{statement}
 use Rattle.conservative.proofs.complete.Tie as tie
 
-remove-requires : tie.Need-remove-requires
-remove-requires c κs = search needs
+left-is : (c : tie.After-leave) → c .leave .result ≡ part (completing (view (c .before .args .d)) (c .before .args .ticket))
+left-is c = c .leave .ensures
 
-refused-requires : tie.Need-refused-requires
-refused-requires c κs = search needs
+leave-requires : tie.Need-leave-requires
+leave-requires c κs = search needs
 
-returns : tie.Need-returns
-unfolding tickets
-returns c =
-    let s = c .before .before .before .before .before in
-    let k : c .before .before .before .before .remove .result ≡ removed (s .args .d) (select.RunningTicket (s .args .ticket)) = c .before .before .before .before .remove .ensures in
-    let e = k ∙ left-is (s .args .d) (s .args .ticket) (s .pre) in
-    c .refused .ensures ∙ refused-call (s .args .d) (s .args .ticket) (s .pre) (sym (ap (λ (r : Removed). r .tickets .count) e) ∙ c .before .if1 .taken)
+is-none-requires : tie.Need-is-none-requires
+is-none-requires c κs = search needs
 
 replan-all-requires : tie.Need-replan-all-requires
 replan-all-requires c κs =
-    let s = c .before .before .before .before .before in
-    let k : c .before .before .before .before .remove .result ≡ removed (s .args .d) (select.RunningTicket (s .args .ticket)) = c .before .before .before .before .remove .ensures in
-    rw (k ∙ left-is (s .args .d) (s .args .ticket) (s .pre)) (rest-held (s .args .d) (s .args .ticket) (s .pre))
+    let l = c .before .before .before in
+    let s = l .before in
+    let a : accepts (completing (view (s .args .d)) (s .args .ticket) .refusal) ≡ true = ap (λ (p : Part). accepts (p .refusal)) (sym (left-is l)) ∙ sym (c .before .is-none .ensures) ∙ c .if1 .taken in
+    rw (left-is l) (replannable-held (view (s .args .d)) (s .args .ticket) (s .pre .holds) a)
 
 advance-requires : tie.Need-advance-requires
 advance-requires c κs = search needs
 
-returns-2 : tie.Need-returns-2
-unfolding tickets
-returns-2 c =
-    let s = c .before .before .before .before .before .before .before in
-    let k : c .before .before .before .before .before .before .remove .result ≡ removed (s .args .d) (select.RunningTicket (s .args .ticket)) = c .before .before .before .before .before .before .remove .ensures in
-    let e = k ∙ left-is (s .args .d) (s .args .ticket) (s .pre) in
-    rw (c .advance .ensures, c .before .replan-all .ensures, k)
-    (taken-held (s .args .d) (s .args .ticket) (s .pre) (λ z. c .before .before .before .if1 .left (ap (λ (r : Removed). r .tickets .count) e ∙ z)))
+returns : tie.Need-returns
+returns c =
+    let i = c .before .before in
+    let l = i .before .before in
+    let s = l .before in
+    let m = view (s .args .d) in
+    let t = s .args .ticket in
+    let e = ap (λ (p : Part). accepts (p .refusal)) (sym (left-is l)) ∙ sym (i .is-none .ensures) in
+    c .advance .ensures
+    ∙ ⊎-elim
+    (λ w. rw (w .2) (ap (advancedBy (l .leave .result)) (w .1 .ensures) ∙ ap completesBy (left-is l) ∙ taken-held m t (s .pre .holds) (e ∙ w .0 .taken)))
+    (λ w. rw (w .1) (ap (λ (p : Part). advancedBy p (p .scheduler)) (left-is l) ∙ refused-held m t (s .pre .holds) (e ∙ w .0 .left)))
+    (c .before .if1 .came)
 
 pub complete-spec : {M : Type 1} → statement M
-complete-spec =
-    tie.close
-    (tie.spec
-    remove-requires
-    refused-requires
-    returns
-    replan-all-requires
-    advance-requires
-    returns-2)
+complete-spec = tie.close (tie.spec leave-requires is-none-requires replan-all-requires advance-requires returns)

@@ -1,31 +1,26 @@
--- `conservative::start_due` meets its contract: the slots passed are turned.
+-- `conservative::start_due` meets its contract: the slots passed are turned, and the tickets of those that start are listed.
 -- Assumes nothing.
-use mathlib.Core.Path.{_≡_, refl, ap, sym, _∙_}
-use mathlib.Core.List.{_++_, map, append-nil}
+use mathlib.Core.Path.{refl, sym, _∙_}
 use mathlib.Core.Logic.{⊎-elim}
-use Prim.Native.Nat.{_-_, _≤_, _<_}
+use Prim.Native.Nat.{_-_, _<_}
 use native.Mathlib.Omega.{arith}
-use lib.ListN.{length, getD, take, drop, set, drop-of-length-le}
-use lib.Seq.{take-all}
-use Rattle.lists.specs.Loops.{mapped-set, mapped-skip}
-use Rattle.scheduler.specs.declared.Scheduler.{Scheduler}
-use Rattle.scheduler.specs.Jobs.{unused}
-use Rattle.scheduler.specs.Table.{withJobs}
-use Rattle.scheduler.proofs.Whole.{whole}
-use Rattle.conservative_rules.specs.Conservative.{turned}
-use Rattle.conservative_rules.specs.Turn.{turned-due, turned-other}
+use Rattle.lists.specs.Pads.{pad}
+use Rattle.job_table.proofs.Whole.{part-whole}
+use Rattle.conservative.specs.Advance.{advancedBy}
+use Rattle.conservative.specs.Tick.{Starts, slot-there, due-next, stays-next, starts-done}
 use borrow.Author.Needs.{needs}
 use Rattle.conservative.proofs.start_due.Statement.{statement}
 use Rattle.conservative.proofs.start_due.Tie as tie
 
 abbrev Inv-loop : tie.InvT-loop
-Inv-loop now d e₀ i₀ e i = (i ≤ 64) × (e ≡ withJobs d (map (turned now) (take i (d .jobs)) ++ drop i (d .jobs)))
+Inv-loop p e₀ now list₀ n₀ i₀ e list n i = Starts now e₀ e list n i
 
 abbrev μ-loop : tie.MeasureT-loop
-μ-loop now d e₀ i₀ e i = 64 - i
+μ-loop p e₀ now list₀ n₀ i₀ e list n i = 64 - i
 
 loop-holds : tie.Need-loop-holds Inv-loop μ-loop
-loop-holds c = (search needs, refl)
+unfolding pad
+loop-holds c = record { low = search needs; few = search needs; scheduler-is = refl; count-is = refl; list-is = refl }
 
 mul-j : tie.Need-mul-j Inv-loop μ-loop
 mul-j c = search needs
@@ -36,11 +31,20 @@ element-copy-out-j c = search needs
 starts-at-requires : tie.Need-starts-at-requires Inv-loop μ-loop
 starts-at-requires c κs = search needs
 
+mul-list : tie.Need-mul-list Inv-loop μ-loop
+mul-list c = search needs
+
+array-write-list : tie.Need-array-write-list Inv-loop μ-loop
+array-write-list c = search needs
+
+add-n : tie.Need-add-n Inv-loop μ-loop
+add-n c = search needs
+
 place-requires : tie.Need-place-requires Inv-loop μ-loop
 place-requires c κs = search needs
 
-mul-t15 : tie.Need-mul-t15 Inv-loop μ-loop
-mul-t15 c = search needs
+mul-t18 : tie.Need-mul-t18 Inv-loop μ-loop
+mul-t18 c = search needs
 
 element-set-from-e : tie.Need-element-set-from-e Inv-loop μ-loop
 element-set-from-e c = search needs
@@ -54,25 +58,27 @@ loop-less c = search needs
 loop-again : tie.Need-loop-again Inv-loop μ-loop
 loop-again c =
     let l = c .before .before .before .before .loop in
-    let s = c .before .before .before .before .before in
-    let xs = s .args .t1 .jobs in
-    let len = whole (s .args .t1) (s .good .0) in
-    let h : l .i < length xs = omega arith in
-    let x = getD xs (l .i) unused in
+    let s = c .before .before .before .before .before .before in
+    let len = part-whole (s .args .p) (s .good .0) in
+    let h : l .i < 64 = omega arith in
+    let there = slot-there (l .inv) len h in
     let e = c .before .starts-at .ensures in
     ⊎-elim
-    (λ w. rw (w .2) (omega arith, ap (λ (f : Scheduler). withJobs f (set (f .jobs) (l .i) (w .1 .result))) (l .inv .1) ∙ ap (withJobs (s .args .t1)) (mapped-set unused (turned (s .args .now)) xs (l .i) (w .1 .result) h (w .1 .ensures ∙ sym (turned-due (s .args .now) x (sym e ∙ w .0 .taken))))))
-    (λ w. rw (w .1) (omega arith, l .inv .1 ∙ ap (withJobs (s .args .t1)) (mapped-skip unused (turned (s .args .now)) xs (l .i) h (turned-other (s .args .now) x (sym e ∙ w .0 .left)))))
+    (λ w. rw (w .2, w .3, w .4, w .1 .ensures, there) (due-next (l .inv) len h (rw there at (sym e ∙ w .0 .taken))))
+    (λ w. rw (w .1, w .2, w .3) (stays-next (l .inv) len h (rw there at (sym e ∙ w .0 .left))))
     (c .if1 .came)
 
 returns : tie.Need-returns Inv-loop μ-loop
+unfolding advancedBy
 returns c =
-    let s = c .before .before in
-    let l = c .before .loop in
-    let xs = s .args .t1 .jobs in
-    let len = whole (s .args .t1) (s .good .0) in
-    let le : length xs ≤ l .i = omega arith in
-    l .inv .1 ∙ ap (withJobs (s .args .t1)) (rw (take-all (l .i) xs le, drop-of-length-le xs le) (append-nil (map (turned (s .args .now)) xs)))
+    let l = c .before .before .loop in
+    let s = c .before .before .before .before in
+    let len = part-whole (s .args .p) (s .good .0) in
+    let done = starts-done (l .inv) len (omega arith) in
+    λ j. record {
+      answer = record { refusal = s .args .p .refusal; ticket = 0; promise = 0; ended = s .args .p .ended; started = done .1 j; head = 0; forecast = 0 };
+      scheduler = done .0 j;
+    }
 
 pub start-due-spec : {M : Type 1} → statement M
 start-due-spec =
@@ -84,8 +90,11 @@ start-due-spec =
     mul-j
     element-copy-out-j
     starts-at-requires
+    mul-list
+    array-write-list
+    add-n
     place-requires
-    mul-t15
+    mul-t18
     element-set-from-e
     add-i
     loop-less

@@ -6,8 +6,9 @@ use Rattle.scheduler.specs.Model.{Model, view}
 use Rattle.scheduler.specs.Answers.{outcome}
 use Rattle.easy_rules.specs.Easy.{head}
 use Rattle.easy_engine.specs.Survey.{headBefore}
-use Rattle.easy.specs.declared.Part.{Part}
-use Rattle.easy.specs.Parts.{Own, own, part, handed, answering}
+use Rattle.job_table.specs.declared.Part.{Part}
+use Rattle.job_table.specs.Parts.{Own, part, handed}
+use Rattle.easy.specs.Parts.{own, answering}
 use Rattle.easy.specs.Held.{stored-ready, stored-view}
 use Rattle.easy.specs.Calling.{own-ready, own-before, call-own, handed-part}
 use Rattle.easy.proofs.call.Statement.{statement}

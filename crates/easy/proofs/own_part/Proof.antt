@@ -4,7 +4,9 @@ use mathlib.Core.Path.{sym, ap, _∙_}
 use borrow.Author.Needs.{needs}
 use Rattle.scheduler.specs.Model.{view}
 use Rattle.scheduler.specs.declared.Request.{Request}
-use Rattle.easy.specs.Parts.{own, part}
+use Rattle.job_table.specs.Parts.{part}
+use Rattle.easy.specs.Parts.{own}
+use Rattle.easy.specs.Held.{valid-sound}
 use Rattle.easy.proofs.own_part.Statement.{statement}
 use Rattle.easy.proofs.own_part.Tie as tie
 
@@ -18,13 +20,13 @@ enum-known-request-2 : tie.Need-enum-known-request-2
 enum-known-request-2 c = search needs
 
 leave-requires : tie.Need-leave-requires
-leave-requires c κs = search needs
+leave-requires c κs = valid-sound _ (c .before .before .before .pre)
 
 enum-told : tie.Need-enum-told
 enum-told c = search needs
 
 expire-requires : tie.Need-expire-requires
-expire-requires c κs = search needs
+expire-requires c κs = valid-sound _ (c .before .before .pre)
 
 returns : tie.Need-returns
 returns c =

@@ -1,0 +1,69 @@
+-- `job_table::submit_refusal` meets its contract. Each test by its number.
+-- Assumes nothing.
+use mathlib.Core.Path.{_≡_, sym, _∙_}
+use mathlib.Core.Bool.{true, false}
+use mathlib.Core.List.{[], _∷_}
+use lib.Dec.{leb, ltb}
+use borrow.Author.Needs.{needs}
+use borrow.Author.Tests.{le-leb, lt-leb, lt-ltb, le-ltb}
+use Rattle.scheduler.specs.declared.Refusal.the-variants as refusal
+use Rattle.scheduler.specs.Limits.{slots, longest, lastTicket, outside}
+use Rattle.scheduler.specs.Model.{Model}
+use Rattle.scheduler.specs.Answers.{verdict}
+use Rattle.job_table.specs.Parts.{Known, sharedRefusal}
+use Rattle.job_table.specs.Submitting.{tests-by}
+use Rattle.job_table.proofs.submit_refusal.Statement.{statement}
+use Rattle.job_table.proofs.submit_refusal.Tie as tie
+
+outside-range-requires : tie.Need-outside-range-requires
+outside-range-requires c κs = search needs
+
+returns : tie.Need-returns
+unfolding verdict
+returns c =
+    let w = c .before in
+    let x = w .before .args in
+    let a : outside 1 (x .nodes) (x .s .nodes) ≡ true = sym (w .outside-range .ensures) ∙ c .if1 .taken in
+    λ m k. rw a at (tests-by m (x .s .nodes) (x .s .estimate) (x .nodes) (x .live) (x .next) k)
+
+outside-range-requires-2 : tie.Need-outside-range-requires-2
+outside-range-requires-2 c κs = search needs
+
+returns-2 : tie.Need-returns-2
+unfolding verdict
+returns-2 c =
+    let v = c .before in
+    let e = v .before in
+    let w = e .before in
+    let x = w .before .args in
+    let a : outside 1 (x .nodes) (x .s .nodes) ≡ false = sym (w .outside-range .ensures) ∙ e .if1 .left in
+    let b : outside 1 longest (x .s .estimate) ≡ true = sym (v .outside-range2 .ensures) ∙ c .if2 .taken in
+    λ m k. rw (a, b) at (tests-by m (x .s .nodes) (x .s .estimate) (x .nodes) (x .live) (x .next) k)
+
+-- nodes and estimate are in range: the tests that are left
+rest : (c : tie.Else2) (m : Model) → Known m (c .before .before .before .before .args .nodes) (c .before .before .before .before .args .live) (c .before .before .before .before .args .next)
+    → verdict ((leb slots (c .before .before .before .before .args .live), refusal.Full) ∷ (ltb lastTicket (c .before .before .before .before .args .next), refusal.NoTicketLeft) ∷ [])
+    ≡ sharedRefusal m (c .before .before .before .before .args .s .nodes) (c .before .before .before .before .args .s .estimate)
+unfolding verdict
+rest c m k =
+    let v = c .before in
+    let w = v .before .before in
+    let x = w .before .args in
+    let a : outside 1 (x .nodes) (x .s .nodes) ≡ false = sym (w .outside-range .ensures) ∙ v .before .if1 .left in
+    let b : outside 1 longest (x .s .estimate) ≡ false = sym (v .outside-range2 .ensures) ∙ c .if2 .left in
+    rw (a, b) at (tests-by m (x .s .nodes) (x .s .estimate) (x .nodes) (x .live) (x .next) k)
+
+returns-3 : tie.Need-returns-3
+unfolding verdict
+returns-3 c = λ m k. rw (le-leb slots _ (c .if3 .taken)) at (rest (c .before) m k)
+
+returns-4 : tie.Need-returns-4
+unfolding verdict
+returns-4 c = λ m k. rw (lt-leb slots _ (c .before .if3 .left), lt-ltb lastTicket _ (c .if4 .taken)) at (rest (c .before .before) m k)
+
+returns-5 : tie.Need-returns-5
+unfolding verdict
+returns-5 c = λ m k. rw (lt-leb slots _ (c .before .if3 .left), le-ltb lastTicket _ (c .if4 .left)) at (rest (c .before .before) m k)
+
+pub submit-refusal-spec : {M : Type 1} → statement M
+submit-refusal-spec = tie.close (tie.spec outside-range-requires returns outside-range-requires-2 returns-2 returns-3 returns-4 returns-5)

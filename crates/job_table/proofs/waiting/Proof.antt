@@ -1,0 +1,87 @@
+-- `job_table::waiting` meets its contract: those counted are the waiting ones of the slots passed.
+-- Assumes nothing.
+use mathlib.Core.Path.{_≡_, refl, sym, ap, _∙_}
+use mathlib.Core.Logic.{⊎-elim}
+use mathlib.Core.List.{List}
+use Prim.Native.Nat.{ℕ, _+_, _-_, _≤_, _<_}
+use native.Mathlib.Omega.{arith}
+use lib.ListN.{length, take, length-append}
+use borrow.Author.Needs.{needs}
+use Rattle.lists.specs.Lists.{keep}
+use Rattle.lists.specs.Loops.{keep-take-yes, keep-take-no}
+use Rattle.scheduler.specs.declared.Job.{Job}
+use Rattle.scheduler.specs.Jobs.{unused, isWaiting}
+use Rattle.scheduler.specs.Model.{view}
+use Rattle.scheduler.proofs.Whole.{whole}
+use Rattle.jobs.specs.Slots.{first-live}
+use Rattle.job_table.proofs.waiting.Statement.{statement}
+use Rattle.job_table.proofs.waiting.Tie as tie
+
+abbrev Inv-loop : tie.InvT-loop
+Inv-loop d end n₀ i₀ n i = (i ≤ end) × (end ≤ 64) × (n ≤ i) × (n ≡ length (keep isWaiting (take i (d .jobs))))
+
+abbrev μ-loop : tie.MeasureT-loop
+μ-loop d end n₀ i₀ n i = end - i
+
+first-unused-requires : tie.Need-first-unused-requires Inv-loop μ-loop
+first-unused-requires c κs = search needs
+
+loop-holds : tie.Need-loop-holds Inv-loop μ-loop
+loop-holds c = (omega arith, omega (arith, c .first-unused .ensures, c .before .pre .holds .few), omega arith, refl)
+
+mul-j : tie.Need-mul-j Inv-loop μ-loop
+mul-j c = search needs
+
+element-copy-out-j : tie.Need-element-copy-out-j Inv-loop μ-loop
+element-copy-out-j c = search needs
+
+is-waiting-requires : tie.Need-is-waiting-requires Inv-loop μ-loop
+is-waiting-requires c κs = search needs
+
+add-n : tie.Need-add-n Inv-loop μ-loop
+add-n c = search needs
+
+add-i : tie.Need-add-i Inv-loop μ-loop
+add-i c = search needs
+
+loop-less : tie.Need-loop-less Inv-loop μ-loop
+loop-less c = search needs
+
+loop-again : tie.Need-loop-again Inv-loop μ-loop
+loop-again c =
+    let l = c .before .before .before .before .loop in
+    let s = c .before .before .before .before .before .before in
+    let js = s .args .t1 .jobs in
+    let len = whole (s .args .t1) (s .good .0) in
+    let v = l .inv in
+    let h : l .i < length js = omega (arith, v .1) in
+    let e = c .before .is-waiting .ensures in
+    ⊎-elim
+    (λ w. rw (w .1) (omega arith, omega (arith, v .1), omega (arith, v .2), rw (keep-take-yes unused isWaiting js (l .i) h (sym e ∙ w .0 .taken), length-append) (ap (λ (n : ℕ). n + 1) (v .3))))
+    (λ w. rw (w .1) (omega arith, omega (arith, v .1), omega (arith, v .2), rw (keep-take-no unused isWaiting js (l .i) h (sym e ∙ w .0 .left)) (v .3)))
+    (c .if1 .came)
+
+returns : tie.Need-returns Inv-loop μ-loop
+returns c =
+    let l = c .before .loop in
+    let f = c .before .before in
+    let s = f .before in
+    let end : l .i ≡ length (view (s .args .t1) .jobs) = omega (arith, l .inv .0, f .first-unused .ensures) in
+    l .inv .3 ∙ ap (λ (n : ℕ). length (keep isWaiting (take n (s .args .t1 .jobs)))) end ∙ ap (λ (js : List Job). length (keep isWaiting js)) (first-live (s .args .t1) (s .pre))
+
+pub waiting-spec : {M : Type 1} → statement M
+waiting-spec =
+    tie.close
+    (tie.spec
+    Inv-loop
+    μ-loop
+    first-unused-requires
+    loop-holds
+    mul-j
+    element-copy-out-j
+    is-waiting-requires
+    add-n
+    add-i
+    loop-less
+    loop-again
+    returns)

@@ -1,0 +1,4 @@
+pub mod Parts
+pub mod Submitting
+pub mod Compacting
+pub mod Leaving

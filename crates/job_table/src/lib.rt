@@ -1,0 +1,186 @@
+// The job table: the parts of calls that both kinds share, each done in place. A job leaves early, those that end leave, the first unused
+// slot is found for a job that comes in, those that wait are counted; and what these calls are refused for, by numbers.
+use scheduler::Job;
+use scheduler::Refusal;
+use scheduler::Scheduler;
+use scheduler::Submission;
+use scheduler::Tickets;
+ghost use mathlib.Core.Path.{_≡_};
+ghost use lib.ListN.{length};
+ghost use Rattle.lists.specs.Lists.{keep};
+ghost use Rattle.scheduler.specs.Jobs.{isWaiting};
+ghost use Rattle.scheduler.specs.Model.{Model, view};
+ghost use Rattle.jobs.specs.Sound.{Sound};
+ghost use Rattle.jobs.specs.Premise.{Holds};
+ghost use Rattle.job_table.specs.Parts.{Known, sharedRefusal, notRunning, pastHorizon, cappedClock, part, completing, ticking};
+
+// The last slot.
+const LAST: usize = Scheduler::LIVE - 1;
+
+// What a call has done on the table: why it is refused, the ticket that it gives, those that it ends, and the scheduler.
+pub struct Part {
+    pub refusal: Refusal,
+    pub ticket: u32,
+    pub ended: Tickets,
+    pub scheduler: Scheduler,
+}
+
+// The first unused slot, found by halves: as many jobs are live.
+pub fn first_unused(d: Scheduler) -> usize
+    requires { ⌜ Holds Sound d ⌝ }
+    ensures { λ r. ⌜ r ≡ length (view d .jobs) ⌝ }
+{
+    let mut low: usize = 0;
+    let mut high = Scheduler::LIVE;
+    while low < high {
+        let middle = (low + high) / 2;
+        let j = d.jobs[middle];
+        if j.is_live() {
+            low = middle + 1;
+        } else {
+            high = middle;
+        }
+    }
+    low
+}
+
+// How many jobs wait. (A loop over all 64 slots has a fixed length: the compiler unrolls it, and then moves schedulers field by field.)
+pub fn waiting(d: Scheduler) -> usize
+    requires { ⌜ Holds Sound d ⌝ }
+    ensures { λ r. ⌜ r ≡ length (keep isWaiting (view d .jobs)) ⌝ }
+{
+    let end = first_unused(d);
+    let mut n: usize = 0;
+    let mut i: usize = 0;
+    while i < end {
+        let j = d.jobs[i];
+        if j.is_waiting() {
+            n += 1;
+        }
+        i += 1;
+    }
+    n
+}
+
+// What a submission is refused for, whatever the kind, in document 01's order: 1, 2, 4, 5.
+pub fn submit_refusal(s: Submission, nodes: u32, live: usize, next: u32) -> Refusal
+    ensures { λ r. ⌜ ((m : Model) → Known m nodes live next → r ≡ sharedRefusal m (s .nodes) (s .estimate)) ⌝ }
+{
+    if scheduler::outside_range(s.nodes, 1, nodes) {
+        return Refusal::NodesOutOfRange;
+    }
+    if scheduler::outside_range(s.estimate, 1, Scheduler::LONGEST) {
+        return Refusal::MinutesOutOfRange;
+    }
+    if Scheduler::LIVE <= live {
+        return Refusal::Full;
+    }
+    if Scheduler::LAST_TICKET < next {
+        return Refusal::NoTicketLeft;
+    }
+    Refusal::None
+}
+
+pub fn past_horizon(minute: u32) -> Refusal
+    ensures { λ r. ⌜ r ≡ pastHorizon minute ⌝ }
+{
+    if Scheduler::HORIZON < minute {
+        return Refusal::PastHorizon;
+    }
+    Refusal::None
+}
+
+fn not_running(found: bool) -> Refusal
+    ensures { λ r. ⌜ r ≡ notRunning found ⌝ }
+{
+    if found {
+        return Refusal::None;
+    }
+    Refusal::NotRunning
+}
+
+// An early completion: the job leaves its slot, and those after it move up.
+pub fn leave(d: Scheduler, ticket: u32) -> Part
+    requires { ⌜ Holds Sound d ⌝ }
+    ensures { λ r. ⌜ r ≡ part (completing (view d) ticket) ⌝ }
+{
+    let none = Job::unused();
+    let mut e = d;
+    let mut i: usize = 0;
+    while i < Scheduler::LIVE {
+        let j = e.jobs[i];
+        if j.runs_as(ticket) {
+            break;
+        }
+        i += 1;
+    }
+    let found = i < Scheduler::LIVE;
+    while i < LAST {
+        let next = i + 1;
+        let j = e.jobs[next];
+        e.jobs[i] = j;
+        i = next;
+    }
+    if found {
+        e.jobs[LAST] = none;
+    }
+    let ended = Tickets::one_if(found, ticket);
+    Part {
+        refusal: not_running(found),
+        ticket: 0,
+        ended: ended,
+        scheduler: e,
+    }
+}
+
+// This minute, or the last.
+fn capped(clock: u32) -> u32
+    ensures { λ r. ⌜ r ≡ cappedClock clock ⌝ }
+{
+    if Scheduler::HORIZON < clock {
+        return Scheduler::HORIZON;
+    }
+    clock
+}
+
+// A tick: those that end leave. Past the last minute nobody ends, so that a refused tick changes nothing.
+pub fn expire(d: Scheduler) -> Part
+    requires { ⌜ Holds Sound d ⌝ }
+    ensures { λ r. ⌜ r ≡ part (ticking (view d)) ⌝ }
+{
+    let none = Job::unused();
+    let mut e = d;
+    let clock = e.clock + 1;
+    e.clock = capped(clock);
+    let mut list = [0u32; 64];
+    let mut kept: usize = 0;
+    let mut gone: usize = 0;
+    let mut i: usize = 0;
+    while i < Scheduler::LIVE {
+        let j = e.jobs[i];
+        if j.ends_at(clock) {
+            list[gone] = j.ticket;
+            gone += 1;
+        } else {
+            // Read once more: compiled code then moves it whole.
+            let stays = e.jobs[i];
+            e.jobs[kept] = stays;
+            kept += 1;
+        }
+        i += 1;
+    }
+    while kept < Scheduler::LIVE {
+        e.jobs[kept] = none;
+        kept += 1;
+    }
+    let ended = Tickets {
+        count: gone,
+        list: list,
+    };
+    Part {
+        refusal: past_horizon(clock),
+        ticket: 0,
+        ended: ended,
+        scheduler: e,
+    }
+}
