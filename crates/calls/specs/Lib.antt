@@ -1,1 +1,1 @@
-pub mod Show
+pub mod ProfileCall

@@ -5,19 +5,19 @@ ghost use Prim.Native.Nat.{_<_};
 ghost use Rattle.scheduler.specs.Model.{view};
 ghost use Rattle.scheduler.specs.Answers.{outcome};
 ghost use Rattle.scheduler.specs.Refusals.{waitRefusal};
-ghost use Rattle.profile.specs.Stored.{places};
+ghost use Rattle.conservative_profile.specs.StoredProfile.{places};
 ghost use Rattle.history.specs.Calls as calls;
 ghost use Rattle.guarantees.specs.Rules.{call};
 ghost use Rattle.guarantees.specs.Premise.{Premise};
-ghost use Rattle.calls.specs.Show.{showing, showIn, profileOutcome, pointAt};
-use plan::Point;
-use profile::Profile;
+ghost use Rattle.calls.specs.ProfileCall.{showing, showIn, profileOutcome, pointAt};
+use conservative_profile::Profile;
 use scheduler::Kind;
 use scheduler::Outcome;
 use scheduler::Refusal;
 use scheduler::Request;
 use scheduler::Scheduler;
 use scheduler::Submission;
+use spans::Point;
 
 // What is asked, by the kind's rules.
 pub fn call(d: Scheduler, request: Request) -> Outcome
@@ -113,7 +113,7 @@ pub fn profile(d: Scheduler, room: usize) -> ProfileOutcome
 {
     let kind = d.kind;
     match kind {
-        Kind::Conservative => show(planning::profile_of(d), room),
+        Kind::Conservative => show(conservative_plan::profile_of(d), room),
         Kind::Easy => no_points(Refusal::None),
     }
 }

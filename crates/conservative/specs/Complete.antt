@@ -14,15 +14,15 @@ use Rattle.scheduler.specs.Table.{withJobs}
 use Rattle.scheduler.specs.Model.{Model, store, view, without, withModelJobs}
 use Rattle.scheduler.specs.Answers.{outcome, accepts}
 use Rattle.scheduler.specs.Refusals.{completeRefusal}
-use Rattle.jobs.specs.Sound.{Sound, sound-leave, early, all-live}
+use Rattle.jobs.specs.Soundness.{Sound, sound-leave, early, all-live}
 use Rattle.jobs.specs.Premise.{Holds, store-holds}
 use Rattle.job_table.specs.declared.Part.{Part}
 use Rattle.job_table.specs.Parts.{Own, completing, leaving, part, own-taken, own-refused}
 use Rattle.history.specs.Calls.{complete}
 use Rattle.conservative_rules.specs.Conservative.{pass, call, completed}
-use Rattle.conservative_rules.specs.Valid.{Valid, used-staying}
+use Rattle.conservative_laws.specs.Validity.{Valid, used-staying}
 use Rattle.conservative.specs.Advance.{advancedBy, refused-stored, advanced-stored}
-use Rattle.planning.specs.Pass.{Replannable, pass-stored, pass-length}
+use Rattle.conservative_plan.specs.Pass.{Replannable, pass-stored, pass-length}
 
 -- what the code computes of the table after its part: the jobs that stay have their turns
 abbrev pub completesBy : Part → Outcome

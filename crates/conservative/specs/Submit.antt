@@ -24,17 +24,17 @@ use Rattle.conservative_rules.specs.Conservative.{spans, call, newJob, placed, 
 use Rattle.lists.specs.Least.{least-to}
 use Rattle.walltime.specs.WallTime.{wallTime}
 use Rattle.walltime.specs.Laws.{wallTime-pos, wallTime-le}
-use Rattle.plan.specs.Spans.{free, lastEnd, fits, earliest}
-use Rattle.plan.specs.Used.{last-le}
-use Rattle.plan.specs.declared.Span.{Span}
-use Rattle.jobs.specs.Sound.{Fit, submit-fit}
+use Rattle.spans.specs.Spans.{free, lastEnd, fits, earliest}
+use Rattle.spans.specs.UsedNodes.{last-le}
+use Rattle.spans.specs.declared.Span.{Span}
+use Rattle.jobs.specs.Soundness.{Fit, submit-fit}
 use Rattle.jobs.specs.Premise.{Holds, holds-as, refused-held}
 use Rattle.job_table.specs.Parts.{sharedRefusal}
 use Rattle.job_table.specs.Submitting.{tests-more, withNext, enters}
-use Rattle.conservative_rules.specs.Valid.{Valid}
-use Rattle.conservative_rules.specs.Faithful.{eight-never}
-use Rattle.planning.specs.Slots.{Planned, valid-planned}
-use Rattle.planning.specs.Earliest.{startFor, Askable}
+use Rattle.conservative_laws.specs.Validity.{Valid}
+use Rattle.conservative_laws.specs.Sentences.{eight-never}
+use Rattle.conservative_plan.specs.PlannedSlots.{Planned, valid-planned}
+use Rattle.conservative_plan.specs.EarliestStart.{startFor, Askable}
 
 abbrev order : Scheduler → ℕ → ℕ → ℕ → Job
 order d n e s = record { ticket = d .next; nodes = n; estimate = e; state = Waiting; start = s; promise = s }

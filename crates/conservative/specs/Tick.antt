@@ -27,9 +27,9 @@ use Rattle.job_table.specs.declared.Part.{Part}
 use Rattle.job_table.specs.Parts.{leaving, ticking, part}
 use Rattle.history.specs.Calls.{tick}
 use Rattle.conservative_rules.specs.Conservative.{call, begun, ticked, placed, turned}
-use Rattle.conservative_rules.specs.Faithful.{startsAt, begun-turned}
-use Rattle.conservative_rules.specs.Turn.{turned-due, turned-other}
-use Rattle.conservative_rules.specs.Valid.{Valid}
+use Rattle.conservative_laws.specs.Sentences.{startsAt, begun-turned}
+use Rattle.conservative_laws.specs.TickedJob.{turned-due, turned-other}
+use Rattle.conservative_laws.specs.Validity.{Valid}
 use Rattle.conservative.specs.Advance.{advancedBy, refused-stored, advanced-stored}
 
 -- ## The starts, on the slots of the table and on the model

@@ -1,5 +1,5 @@
 // Conservative backfilling (document 01: "Promise Desk"), by value: submission, early completion and tick. Where jobs are placed, and the
-// profile, are in `planning`.
+// profile, are in `conservative_plan`.
 ghost use mathlib.Core.Path.{_≡_};
 ghost use Prim.Native.Nat.{_≤_, _<_};
 ghost use Rattle.scheduler.specs.Limits.{slots, lastTicket};
@@ -9,8 +9,8 @@ ghost use Rattle.scheduler.specs.Answers.{outcome};
 ghost use Rattle.jobs.specs.Premise.{Holds};
 ghost use Rattle.history.specs.Calls as calls;
 ghost use Rattle.conservative_rules.specs.Conservative.{call, begun};
-ghost use Rattle.conservative_rules.specs.Valid.{Valid};
-ghost use Rattle.conservative_rules.specs.Faithful.{startsAt};
+ghost use Rattle.conservative_laws.specs.Validity.{Valid};
+ghost use Rattle.conservative_laws.specs.Sentences.{startsAt};
 ghost use Rattle.conservative.specs.Advance.{began, advancedBy};
 ghost use Rattle.conservative.specs.Submit.{accepted};
 ghost use Rattle.conservative.specs.Tick.{startedBy};
@@ -89,7 +89,7 @@ pub fn complete(d: Scheduler, ticket: u32) -> Outcome
     let refusal = left.refusal;
     let mut after = left.scheduler;
     if refusal.is_none() {
-        after = planning::replan_all(after);
+        after = conservative_plan::replan_all(after);
     }
     advance(left, after)
 }
@@ -109,7 +109,7 @@ fn accept(d: Scheduler, s: Submission, slot: usize, start: u32) -> Outcome
         start: start,
         promise: start,
     };
-    let job = planning::place(order, now, start);
+    let job = conservative_plan::place(order, now, start);
     let mut e = d;
     e.jobs[slot] = job;
     e.next = ticket + 1;
@@ -138,7 +138,7 @@ pub fn submit(d: Scheduler, s: Submission) -> Outcome
     let refusal = job_table::submit_refusal(s, d.nodes, slot, d.next);
     if refusal.is_none() {
         let hold = walltime::wall_time(s.estimate);
-        let start = planning::earliest(d, s.nodes, hold);
+        let start = conservative_plan::earliest(d, s.nodes, hold);
         if Scheduler::HORIZON < start + hold {
             return d.refused(Refusal::PastHorizon);
         }
@@ -173,7 +173,7 @@ fn start_due(p: Part) -> Outcome
         if starts_at(j, now) {
             list[n] = j.ticket;
             n += 1;
-            e.jobs[i] = planning::place(j, now, now);
+            e.jobs[i] = conservative_plan::place(j, now, now);
         }
         i += 1;
     }

@@ -1,12 +1,11 @@
--- Document 01's slips of the Promise Desk and document 001's figure 2, computed from the definitions. This file's name puts it before the
--- laws, so that a wrong definition is first refused by a wrong number.
+-- Document 01's slips of the Promise Desk and document 001's figure 2, computed from the definitions.
 -- Assumes nothing.
 use Prim.Native.Nat.{ℕ}
 use mathlib.Core.Path.{_≡_, refl}
 use mathlib.Core.List.{List, [], _∷_, _++_, map}
 use lib.ListN.{replicate}
 use Rattle.lists.specs.Lists.{keep}
-use Rattle.plan.specs.Spans as plan
+use Rattle.spans.specs.Spans as spans
 use Rattle.scheduler.specs.declared.Kind.the-variants.{Conservative}
 use Rattle.scheduler.specs.declared.Job.{Job}
 use Rattle.scheduler.specs.declared.Refusal.{Refusal}
@@ -78,13 +77,13 @@ unfolding
     verdict
     refusals.completeRefusal
     refusals.tickRefusal
-    plan.takes
-    plan.lastEnd
-    plan.fits
-    plan.earliest
-    plan.changes
-    plan.points
-    plan.profile
+    spans.takes
+    spans.lastEnd
+    spans.fits
+    spans.earliest
+    spans.changes
+    spans.points
+    spans.profile
     planned
     submitRefusal
     submitted

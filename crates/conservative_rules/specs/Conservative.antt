@@ -7,9 +7,9 @@ use Prim.Native.Nat.{ℕ, suc, _+_}
 use lib.Dec.{ltb, eqb}
 use lib.ListN.{length}
 use Rattle.lists.specs.Lists.{keep}
-use Rattle.plan.specs.declared.Span.{Span}
-use Rattle.plan.specs.declared.Point.{Point}
-use Rattle.plan.specs.Spans.{earliest, profile}
+use Rattle.spans.specs.declared.Span.{Span}
+use Rattle.spans.specs.declared.Point.{Point}
+use Rattle.spans.specs.Spans.{earliest, profile}
 use Rattle.scheduler.specs.declared.State.{State}
 use Rattle.scheduler.specs.declared.State.the-variants.{Waiting, Running}
 use Rattle.scheduler.specs.declared.Job.{Job}

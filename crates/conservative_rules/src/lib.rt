@@ -1,1 +1,1 @@
-// Conservative backfilling: what each call gives, and what holds after it, all in specs/: there is no code here.
+// Conservative backfilling: what each call gives, all in specs/: there is no code here.

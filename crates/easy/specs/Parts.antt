@@ -10,7 +10,7 @@ use Rattle.scheduler.specs.Limits.{horizon}
 use Rattle.scheduler.specs.Model.{Model, joined}
 use Rattle.scheduler.specs.Answers.{Result}
 use Rattle.easy_rules.specs.Easy.{newJob, submitRefusal, finished}
-use Rattle.easy_rules.specs.Valid.{latestEnd}
+use Rattle.easy_laws.specs.Validity.{latestEnd}
 use Rattle.job_table.specs.Parts.{Own, taken, judgedOwn, completing, ticking}
 use Rattle.job_table.specs.Parts as parts
 

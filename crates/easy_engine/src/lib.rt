@@ -15,7 +15,7 @@ ghost use Rattle.scheduler.specs.Limits.{horizon, slots};
 ghost use Rattle.scheduler.specs.Table.{ticketOf};
 ghost use Rattle.scheduler.specs.Model.{Model};
 ghost use Rattle.easy_rules.specs.Easy.{head, avail, shadow, choice, forecast};
-ghost use Rattle.easy_engine.specs.Survey.{Column, estimateOf, asks, endOf, Held, Lacks, Surveyed, placeOf, jobIn, asksTo, mayPass, Begun, Settlement, Starts, Rests, ticketIn, announced, Announces, Unsettled, Answers};
+ghost use Rattle.easy_engine.specs.Survey.{Column, estimateOf, asks, endOf, Held, Lacks, Surveyed, placeOf, jobIn, asksTo, mayPass, Begun, Settlement, StartsInTime, SurveyRests, ticketIn, announced, Announces, Unsettled, Answers};
 
 // More nodes than any machine has: what a job asks for once it has started.
 const NOBODY: u32 = Scheduler::NODES + 1;
@@ -250,8 +250,8 @@ fn settle(
 
 // Each start becomes the end.
 fn fill_ends(ends: &mut [u32; 64], terms: &[u32; 64], running: usize)
-    requires { ⌜ Starts (now ends) (now terms) running ⌝ }
-    ensures { λ _. ⌜ ((s : Starts (now (ends .entry)) (now (terms .entry)) running) → Column endOf (s .jobs) (now (ends .exit))) ⌝ }
+    requires { ⌜ StartsInTime (now ends) (now terms) running ⌝ }
+    ensures { λ _. ⌜ ((s : StartsInTime (now (ends .entry)) (now (terms .entry)) running) → Column endOf (s .jobs) (now (ends .exit))) ⌝ }
 {
     let mut i: usize = 0;
     while i < running {
@@ -263,7 +263,7 @@ fn fill_ends(ends: &mut [u32; 64], terms: &[u32; 64], running: usize)
 // Whether nobody fits, and the first that waits is the head of before: then nobody starts and nobody is announced.
 fn rests(before: u32, asked: &[u32; 64], tickets: &[u32; 64], waiting: usize, spare: u32) -> bool
     requires { ⌜ waiting ≤ slots ⌝ }
-    ensures { λ r. ⌜ ((ws : List Job) → Column asks ws (now (asked .entry)) → Column ticketOf ws (now (tickets .entry)) → length ws ≡ waiting → r ≡ true → Rests ws spare before) ⌝ }
+    ensures { λ r. ⌜ ((ws : List Job) → Column asks ws (now (asked .entry)) → Column ticketOf ws (now (tickets .entry)) → length ws ≡ waiting → r ≡ true → SurveyRests ws spare before) ⌝ }
 {
     if first_within(asked, waiting, spare) < waiting {
         return false;

@@ -1,1 +1,1 @@
-// EASY backfilling: what each call gives, and what holds after it, all in specs/: there is no code here.
+// EASY backfilling: what each call gives, all in specs/: there is no code here.

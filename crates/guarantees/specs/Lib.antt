@@ -2,7 +2,7 @@ pub mod Rules
 pub mod Statement
 pub mod Proof
 pub mod Premise
-pub mod Named
+pub mod TicketCounts
 pub mod Replies
 pub mod Chain
 pub mod Tickets

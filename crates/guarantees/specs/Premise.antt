@@ -12,13 +12,13 @@ use Rattle.scheduler.specs.declared.Scheduler.{Scheduler}
 use Rattle.scheduler.specs.Model.{Model, Live, store, view, view-store}
 use Rattle.scheduler.specs.Answers.{outcome}
 use Rattle.scheduler.specs.Opening.{opening, opened}
-use Rattle.jobs.specs.Sound.{Sound}
+use Rattle.jobs.specs.Soundness.{Sound}
 use Rattle.jobs.specs.Premise.{Holds, store-holds}
 use Rattle.history.specs.Calls.{Call}
-use Rattle.conservative_rules.specs.Valid as conservative
-use Rattle.conservative_rules.specs.Lawful.{conservative-lawful}
-use Rattle.easy_rules.specs.Valid as easy
-use Rattle.easy_rules.specs.Lawful.{easy-lawful}
+use Rattle.conservative_laws.specs.Validity as conservative
+use Rattle.conservative_laws.specs.Obligations.{conservative-lawful}
+use Rattle.easy_laws.specs.Validity as easy
+use Rattle.easy_laws.specs.Obligations.{easy-lawful}
 use Rattle.guarantees.specs.Rules.{rulesOf, call}
 
 abbrev pub ValidBy : Kind → Model → Type 0

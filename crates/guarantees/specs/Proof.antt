@@ -12,10 +12,10 @@ use Rattle.scheduler.specs.Answers.{accepts}
 use Rattle.scheduler.specs.Opening.{openingRefusal, opening}
 use Rattle.history.specs.Calls.{events, allCalls}
 use Rattle.history.specs.Guarantee.{Guarantee}
-use Rattle.conservative_rules.specs.Valid as conservative
-use Rattle.conservative_rules.specs.Lawful.{conservative-lawful}
-use Rattle.easy_rules.specs.Valid as easy
-use Rattle.easy_rules.specs.Lawful.{easy-lawful}
+use Rattle.conservative_laws.specs.Validity as conservative
+use Rattle.conservative_laws.specs.Obligations.{conservative-lawful}
+use Rattle.easy_laws.specs.Validity as easy
+use Rattle.easy_laws.specs.Obligations.{easy-lawful}
 use Rattle.guarantees.specs.Rules.{call}
 use Rattle.guarantees.specs.Statement.{bookOf, Demand3, Demand3WithWaits, from-blank}
 

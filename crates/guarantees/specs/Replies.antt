@@ -1,5 +1,5 @@
 -- An answer of the code loses nothing: of every call on a valid model, what it says is the call's reply. Places past a count say nothing,
--- and a head of 0 is none, as no ticket is 0. (That the lists have room for all tickets is `call-fits` in Named.antt.)
+-- and a head of 0 is none, as no ticket is 0. (That the lists have room for all tickets is `call-fits` in TicketCounts.antt.)
 -- Assumes nothing.
 use mathlib.Core.Path.{_≡_, refl}
 use mathlib.Core.List.{List}
@@ -16,8 +16,8 @@ use Rattle.scheduler.specs.Model.{Model}
 use Rattle.scheduler.specs.Answers.{Forecast, headTicket, headMinute, answer, ticketsIn, forecastIn, replyOf}
 use Rattle.jobs.specs.Order.{asc-in}
 use Rattle.history.specs.Calls.{Call}
-use Rattle.conservative_rules.specs.Lawful.{conservative-lawful}
-use Rattle.easy_rules.specs.Lawful.{easy-lawful}
+use Rattle.conservative_laws.specs.Obligations.{conservative-lawful}
+use Rattle.easy_laws.specs.Obligations.{easy-lawful}
 use Rattle.guarantees.specs.Rules.{rulesOf, call}
 use Rattle.guarantees.specs.Premise.{ValidBy, Valid}
 

@@ -14,8 +14,8 @@ use Rattle.scheduler.specs.Opening.{opening}
 use Rattle.history.specs.Calls.{Call, Command, Event, events, allCalls}
 use Rattle.history.specs.Book.{Book, enterAll}
 use Rattle.history.specs.Guarantee.{Guarantee}
-use Rattle.history.specs.Lawful.{Lawful}
-use Rattle.history.specs.Proof.{Agrees, guaranteed, settings-after}
+use Rattle.history_proof.specs.Obligations.{Lawful}
+use Rattle.history_proof.specs.Proof.{Agrees, guaranteed, settings-after}
 use Rattle.guarantees.specs.Rules.{rulesOf, call}
 
 -- "It starts from the desk that an opening hands back": nothing has been taken in

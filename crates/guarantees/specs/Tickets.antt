@@ -17,15 +17,15 @@ use Rattle.scheduler.specs.Model.{Model}
 use Rattle.scheduler.specs.Answers.{Result, accepts}
 use Rattle.scheduler.specs.Refusals.{completeRefusal, tickRefusal}
 use Rattle.jobs.specs.Order.{asc-keep}
-use Rattle.jobs.specs.Sound.{Sound}
-use Rattle.jobs.specs.Judged.{judged-by}
+use Rattle.jobs.specs.Soundness.{Sound}
+use Rattle.jobs.specs.Judgement.{judged-by}
 use Rattle.history.specs.Calls.{Call, submit, complete, tick, unchanged, events}
 use Rattle.history.specs.News.{Newcomer, newsOf}
 use Rattle.history.specs.Tickets.{givenTicket, nextAfter, ticketsGiven, Upward}
-use Rattle.conservative_rules.specs.Faithful as conservative
-use Rattle.conservative_rules.specs.Faithful.{Rising, tickets-rise}
+use Rattle.conservative_laws.specs.Sentences as conservative
+use Rattle.conservative_laws.specs.Sentences.{Rising, tickets-rise}
 use Rattle.easy_rules.specs.Easy as rules
-use Rattle.easy_rules.specs.Faithful as easy
+use Rattle.easy_laws.specs.Sentences as easy
 use Rattle.guarantees.specs.Rules.{rulesOf, call}
 use Rattle.guarantees.specs.Premise.{ValidBy, Valid, call-valid}
 

@@ -1,2 +1,2 @@
-pub mod Whole
-pub mod Lent
+pub mod Lengths
+pub mod FlatTypes

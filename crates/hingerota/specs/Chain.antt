@@ -17,15 +17,15 @@ use Rattle.guarantees.specs.Premise.{Valid, valid-view}
 use Rattle.guarantees.specs.Replies.{reply-back}
 use Rattle.guarantees.specs.Chain.{answerOf, MadeAll, unchanged-refuses, made-keeps}
 use Rattle.guarantees.specs.Statement.{bookOf}
-use Rattle.calls.specs.Show.{profileRefusal}
+use Rattle.calls.specs.ProfileCall.{profileRefusal}
 use Rattle.hingerota.specs.declared.Desk.{Desk}
 use Rattle.hingerota.specs.declared.Answer.{Answer}
 use Rattle.hingerota.specs.declared.Point.{Point}
 use Rattle.hingerota.specs.declared.Shown.{Shown}
 use Rattle.hingerota.specs.Mirror.{mirror, mirrorTickets, mirrorAnswer, read, read-mirror, readAnswer, read-answer}
-use Rattle.hingerota.specs.Handed.{opens}
-use Rattle.hingerota.specs.Left.{Leaves}
-use Rattle.hingerota.specs.Points.{Shows}
+use Rattle.hingerota.specs.DeskPremise.{opens}
+use Rattle.hingerota.specs.CallContract.{HostLeaves}
+use Rattle.hingerota.specs.ProfileContract.{HostShows}
 
 -- the reply that an answer in numbers says
 abbrev pub hostReply : Answer → Reply
@@ -36,27 +36,27 @@ abbrev pub refusedBy : ℕ → Answer
 refusedBy n = record { refusal = n; ticket = 0; promise = 0; head = 0; forecast = 0; ended = mirrorTickets noTickets; started = mirrorTickets noTickets }
 
 -- a call on the desk d, lent, as its contract says that it was made: what it answers, and the desk after it
-pub data Made (d : Desk) : Call → Answer → Desk → Type 0 where
-  onLent : {c : Call} {a : Answer} {e : Desk} → Leaves d c a e → Made d c a e
+pub data HostMade (d : Desk) : Call → Answer → Desk → Type 0 where
+  onLent : {c : Call} {a : Answer} {e : Desk} → HostLeaves d c a e → HostMade d c a e
   -- a profile counts as a call that leaves the desk as it is, by the refusal that it answers
-  profileOnLent : {lent after : List Point} {s : Shown} → Shows d lent s after
-      → Made d (unchanged (profileRefusal (view (read d)) (length lent))) (refusedBy (s .refusal)) d
+  profileOnLent : {lent after : List Point} {s : Shown} → HostShows d lent s after
+      → HostMade d (unchanged (profileRefusal (view (read d)) (length lent))) (refusedBy (s .refusal)) d
 
 -- where d mirrors a valid model, stored: what each leaves and answers is that of its definition
 module _ (m : Model) (v : Valid m) where
   desk-view : view (read (mirror (store m))) ≡ m
   desk-view = ap view (read-mirror (store m)) ∙ valid-view m v
 
-  made-is : {c : Call} {a : Answer} {e : Desk} → Made (mirror (store m)) c a e → (e ≡ mirror (store (call m c .model))) × (a ≡ mirrorAnswer (answer (call m c .reply)))
+  made-is : {c : Call} {a : Answer} {e : Desk} → HostMade (mirror (store m)) c a e → (e ≡ mirror (store (call m c .model))) × (a ≡ mirrorAnswer (answer (call m c .reply)))
   made-is (onLent {c} l) = (l .leaves ∙ ap (λ (x : Model). mirror (store (call x c .model))) desk-view, l .answers ∙ ap (λ (x : Model). mirrorAnswer (answer (call x c .reply))) desk-view)
   made-is (profileOnLent {lent} {after} {s} w) =
       rw (unchanged-refuses m (profileRefusal (view (read (mirror (store m)))) (length lent))) (refl, ap (λ (x : Shown). refusedBy (x .refusal)) (w .answers))
 
 -- From the desk that an opening hands back, a refused one too: desk and answers are those of the list of calls, and the book of the calls
 -- made and the answers received has the guarantees (document 01: "demand 3").
-pub host-keeps : (o : Opening) (cs : List Call) (xs : List Answer) (e : Desk) → MadeAll Made (opens o .desk) cs xs e
+pub host-keeps : (o : Opening) (cs : List Call) (xs : List Answer) (e : Desk) → MadeAll HostMade (opens o .desk) cs xs e
     → (e ≡ mirror (store (after call (opening o) cs))) × (xs ≡ map (λ (x : Event). mirrorAnswer (answerOf x)) (events call (opening o) cs)) × Guarantee (o .kind) (opening o .settings .nodes) (bookOf (opening o) (eventsOf cs (map hostReply xs)))
 unfolding opened
 host-keeps o cs xs e l =
-    made-keeps Made (λ m. mirror (store m)) (λ r. mirrorAnswer (answer r)) hostReply (λ m c a d v. made-is m v)
+    made-keeps HostMade (λ m. mirror (store m)) (λ r. mirrorAnswer (answer r)) hostReply (λ m c a d v. made-is m v)
     (λ m c v. ap replyOf (read-answer (answer (call m c .reply))) ∙ reply-back m c v) o l

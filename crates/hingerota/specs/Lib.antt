@@ -1,6 +1,5 @@
 pub mod Mirror
-pub mod Handed
-pub mod Left
-pub mod Points
+pub mod DeskPremise
+pub mod CallContract
+pub mod ProfileContract
 pub mod Chain
-pub mod Copied

@@ -5,10 +5,10 @@ ghost use Rattle.scheduler.specs.Answers.{code};
 ghost use Rattle.history.specs.Calls as calls;
 ghost use Rattle.hingerota.specs.Mirror.{kindOf, kindNumber, stateOf, stateNumber, mirrorJob, mirror, readRecord, read, mirrorTickets, mirrorAnswer, mirrorOutcome};
 ghost use Prim.Native.Nat.{_<_};
-ghost use Rattle.profile.specs.Stored.{places};
-ghost use Rattle.hingerota.specs.Handed.{Handed, gives, opens, promiseOpening, looseOpening};
-ghost use Rattle.hingerota.specs.Left.{Leaves};
-ghost use Rattle.hingerota.specs.Points.{mirrorShown, mirrorPoint, shownIn, pointAt, Shows};
+ghost use Rattle.conservative_profile.specs.StoredProfile.{places};
+ghost use Rattle.hingerota.specs.DeskPremise.{Handed, gives, opens, promiseOpening, looseOpening};
+ghost use Rattle.hingerota.specs.CallContract.{HostLeaves};
+ghost use Rattle.hingerota.specs.ProfileContract.{mirrorShown, mirrorPoint, shownIn, pointAt, HostShows};
 use scheduler::Job;
 use scheduler::Kind;
 use scheduler::Opening;
@@ -83,7 +83,7 @@ pub struct Shown {
 pub struct ProfileOutcome {
     pub count: usize,
     pub answer: Shown,
-    pub points: [plan::Point; 129],
+    pub points: [spans::Point; 129],
 }
 
 fn kind_of(n: u32) -> Kind
@@ -241,7 +241,7 @@ fn mirror_shown(a: calls::Shown) -> Shown
     }
 }
 
-fn mirror_point(p: plan::Point) -> Point
+fn mirror_point(p: spans::Point) -> Point
     ensures { λ r. ⌜ r ≡ mirrorPoint p ⌝ }
 {
     Point {
@@ -344,7 +344,7 @@ pub extern "C" fn hingerota_open_loose(nodes: u32, minute: u32, ticket: u32) -> 
 #[no_mangle]
 pub extern "C" fn hingerota_submit(d: &mut Desk, nodes: u32, estimate: u32) -> Answer
     requires { ⌜ Handed (now d) ⌝ }
-    ensures { λ r. ⌜ Leaves (now (d .entry)) (calls.submit nodes estimate) r (now (d .exit)) ⌝ }
+    ensures { λ r. ⌜ HostLeaves (now (d .entry)) (calls.submit nodes estimate) r (now (d .exit)) ⌝ }
 {
     let s = submit(*d, nodes, estimate);
     *d = s.desk;
@@ -355,7 +355,7 @@ pub extern "C" fn hingerota_submit(d: &mut Desk, nodes: u32, estimate: u32) -> A
 #[no_mangle]
 pub extern "C" fn hingerota_complete(d: &mut Desk, ticket: u32) -> Answer
     requires { ⌜ Handed (now d) ⌝ }
-    ensures { λ r. ⌜ Leaves (now (d .entry)) (calls.complete ticket) r (now (d .exit)) ⌝ }
+    ensures { λ r. ⌜ HostLeaves (now (d .entry)) (calls.complete ticket) r (now (d .exit)) ⌝ }
 {
     let s = complete(*d, ticket);
     *d = s.desk;
@@ -366,7 +366,7 @@ pub extern "C" fn hingerota_complete(d: &mut Desk, ticket: u32) -> Answer
 #[no_mangle]
 pub extern "C" fn hingerota_tick(d: &mut Desk) -> Answer
     requires { ⌜ Handed (now d) ⌝ }
-    ensures { λ r. ⌜ Leaves (now (d .entry)) calls.tick r (now (d .exit)) ⌝ }
+    ensures { λ r. ⌜ HostLeaves (now (d .entry)) calls.tick r (now (d .exit)) ⌝ }
 {
     let s = tick(*d);
     *d = s.desk;
@@ -377,7 +377,7 @@ pub extern "C" fn hingerota_tick(d: &mut Desk) -> Answer
 #[no_mangle]
 pub extern "C" fn hingerota_profile(d: &Desk, points: &mut [Point]) -> Shown
     requires { ⌜ Handed (now d) ⌝ }
-    ensures { λ r. ⌜ Shows (now (d .entry)) (now (points .entry)) r (now (points .exit)) ⌝ }
+    ensures { λ r. ⌜ HostShows (now (d .entry)) (now (points .entry)) r (now (points .exit)) ⌝ }
 {
     let p = profile(*d, points.len());
     let mut i = 0;

@@ -3,8 +3,4 @@ pub mod News
 pub mod Tickets
 pub mod Book
 pub mod Guarantee
-pub mod Lawful
-pub mod Leaving
-pub mod Seen
-pub mod Proof
-pub mod Breaks
+pub mod Breaches

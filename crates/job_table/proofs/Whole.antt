@@ -6,7 +6,7 @@ use denote.Laws.{Is}
 use denote.Struct.Declared.{row}
 use denote.Struct.Laws as S
 use borrow.Author.Needs.{needs}
-use Rattle.scheduler.proofs.Whole.{length-mapped}
+use Rattle.scheduler.proofs.Lengths.{length-mapped}
 use Rattle.job_table.specs.declared.Part.{Part}
 use Rattle.job_table.proofs.Part as K
 use Rattle.job_table.proofs.Part.Laws as K′

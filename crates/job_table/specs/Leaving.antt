@@ -28,7 +28,7 @@ use Rattle.scheduler.specs.Model.{view, store, without, withModelJobs}
 use Rattle.scheduler.specs.Answers.{verdict}
 use Rattle.scheduler.specs.Refusals.{completeRefusal, tickRefusal}
 use Rattle.jobs.specs.Order.{Asc, asc-in}
-use Rattle.jobs.specs.Sound.{Sound}
+use Rattle.jobs.specs.Soundness.{Sound}
 use Rattle.jobs.specs.Premise.{Holds}
 use Rattle.jobs.specs.Slots.{slots-are}
 use Rattle.job_table.specs.declared.Part.{Part}

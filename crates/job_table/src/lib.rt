@@ -10,7 +10,7 @@ ghost use lib.ListN.{length};
 ghost use Rattle.lists.specs.Lists.{keep};
 ghost use Rattle.scheduler.specs.Jobs.{isWaiting};
 ghost use Rattle.scheduler.specs.Model.{Model, view};
-ghost use Rattle.jobs.specs.Sound.{Sound};
+ghost use Rattle.jobs.specs.Soundness.{Sound};
 ghost use Rattle.jobs.specs.Premise.{Holds};
 ghost use Rattle.job_table.specs.Parts.{Known, sharedRefusal, notRunning, pastHorizon, cappedClock, part, completing, ticking};
 

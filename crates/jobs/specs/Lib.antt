@@ -1,5 +1,5 @@
 pub mod Order
-pub mod Sound
+pub mod Soundness
 pub mod Premise
-pub mod Judged
+pub mod Judgement
 pub mod Slots

@@ -17,7 +17,7 @@ use Rattle.scheduler.specs.declared.Scheduler.{Scheduler}
 use Rattle.scheduler.specs.Limits.{horizon, slots}
 use Rattle.scheduler.specs.Jobs.{unused, isLive}
 use Rattle.scheduler.specs.Model.{Model, store, view}
-use Rattle.jobs.specs.Sound.{Sound}
+use Rattle.jobs.specs.Soundness.{Sound}
 use Rattle.jobs.specs.Premise.{Holds}
 
 past : (xs : List Job) (k i : ℕ) → length xs ≤ i → getD (xs ++ replicate k unused) i unused ≡ unused

@@ -1,3 +1,3 @@
-pub mod Left
-pub mod Shows
-pub mod Mixed
+pub mod CallContract
+pub mod ProfileContract
+pub mod MixedCalls

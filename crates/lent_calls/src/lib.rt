@@ -2,13 +2,13 @@
 // is its call by value, and what that hands back is left where the scheduler was lent.
 ghost use Rattle.history.specs.Calls as calls;
 ghost use Rattle.guarantees.specs.Premise.{Premise};
-ghost use Rattle.lent_calls.specs.Left.{Leaves};
-ghost use Rattle.lent_calls.specs.Shows.{Shows};
+ghost use Rattle.lent_calls.specs.CallContract.{Leaves};
+ghost use Rattle.lent_calls.specs.ProfileContract.{Shows};
 use calls::Shown;
-use plan::Point;
 use scheduler::Answer;
 use scheduler::Scheduler;
 use scheduler::Submission;
+use spans::Point;
 
 pub fn submit(d: &mut Scheduler, s: Submission) -> Answer
     requires { ⌜ Premise (now d) ⌝ }

@@ -1,1 +1,1 @@
-mod Owned
+mod Results

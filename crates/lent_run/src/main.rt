@@ -1,13 +1,12 @@
 // Calls over what is lent, on both kinds of scheduler: what each answers, refusals too, and what stands in a list lent for the profile.
-ghost use Rattle.jobs.specs.Sound.{Sound};
+ghost use Rattle.jobs.specs.Soundness.{Sound};
 ghost use Rattle.jobs.specs.Premise.{Holds};
 ghost use Rattle.history.specs.Calls as calls;
 ghost use Rattle.guarantees.specs.Premise.{Premise};
-ghost use Rattle.lent_calls.specs.Left.{Leaves};
-ghost use Rattle.lent_calls.specs.Shows.{Shows};
+ghost use Rattle.lent_calls.specs.CallContract.{Leaves};
+ghost use Rattle.lent_calls.specs.ProfileContract.{Shows};
 use calls::Shown;
 use libc::STDOUT_FILENO;
-use plan::Point;
 use scheduler::Answer;
 use scheduler::Kind;
 use scheduler::Opened;
@@ -16,6 +15,7 @@ use scheduler::Outcome;
 use scheduler::Scheduler;
 use scheduler::Submission;
 use scheduler::Tickets;
+use spans::Point;
 
 // A program makes no reference to a struct by itself: these lend a scheduler, or a list, of their own.
 fn lent_submit(d: Scheduler, s: Submission) -> Outcome

@@ -3,3 +3,5 @@ pub mod Lists
 pub mod Least
 pub mod Loops
 pub mod Pads
+pub mod FirstLaws
+pub mod CopyLoop

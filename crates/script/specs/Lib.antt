@@ -1,3 +1,3 @@
-pub mod Turns
-pub mod PassOver
-pub mod Filled
+pub mod PageTurns
+pub mod QuietWait
+pub mod PageFilling

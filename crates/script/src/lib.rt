@@ -5,22 +5,22 @@ ghost use Prim.Native.Nat.{_≤_, _<_};
 ghost use lib.ListN.{length};
 ghost use Rattle.scheduler.specs.Answers.{code};
 ghost use Rattle.script_rules.specs.Writing.{noRow};
-ghost use Rattle.reading.specs.Meaning.{opens};
-ghost use Rattle.writing.specs.Answered.{pageBytes};
-ghost use Rattle.pieces.specs.declared.Stage.the-variants.{Playing};
-ghost use Rattle.pieces.specs.Pieces.{piece, over, openingPiece, firstPiece, beginning};
-ghost use Rattle.pieces.specs.Ends.{Ready};
-ghost use Rattle.script.specs.Turns.{Turned, Comes};
-ghost use Rattle.script.specs.Filled.{Filled};
-use pieces::Play;
-use pieces::Stage;
-use reading::Asked;
-use reading::FirstLine;
+ghost use Rattle.script_reading.specs.Meaning.{opens};
+ghost use Rattle.script_writing.specs.AnswerText.{pageBytes};
+ghost use Rattle.script_play.specs.declared.Stage.the-variants.{Playing};
+ghost use Rattle.script_play.specs.Pieces.{piece, over, openingPiece, firstPiece, beginning};
+ghost use Rattle.script_play.specs.Progress.{InPlay};
+ghost use Rattle.script.specs.PageTurns.{Turned, Comes};
+ghost use Rattle.script.specs.PageFilling.{Filled};
 use scheduler::Kind;
 use scheduler::Opening;
 use scheduler::Refusal;
 use scheduler::Request;
 use scheduler::Scheduler;
+use script_play::Play;
+use script_play::Stage;
+use script_reading::Asked;
+use script_reading::FirstLine;
 
 // A longer script is not read.
 const LONGEST: usize = 65536;
@@ -37,7 +37,7 @@ fn refuse(p: Play, reason: Refusal, page: &mut [u8]) -> Played
     ensures { λ r. ⌜ Turned (piece (noRow (code reason)) (over p)) (now (page .entry)) 0 (now (page .exit)) r ⌝ }
 {
     let d = p.scheduler;
-    let end = writing::put_refusal(page, 0, reason);
+    let end = script_writing::put_refusal(page, 0, reason);
     Played {
         end: end,
         play: Play {
@@ -100,7 +100,7 @@ fn first(p: Play, script: &[u8], page: &mut [u8]) -> Played
     let line = text::next_line(script, at);
     let end = line.end;
     if line.closed {
-        let asked = reading::read_first(&script[at..end]);
+        let asked = script_reading::read_first(&script[at..end]);
         return open(p, end + 1, asked, page);
     }
     refuse(p, Refusal::Malformed, page)
@@ -127,7 +127,7 @@ fn next_line(script: &[u8], at: usize) -> Next
     let line = text::next_line(script, at);
     let end = line.end;
     if line.closed {
-        let asked = reading::read_later(&script[at..end]);
+        let asked = script_reading::read_later(&script[at..end]);
         return Next {
             turn: Turn::Asks(asked),
             at: end + 1,
@@ -165,10 +165,10 @@ fn next_turn(script: &[u8], at: usize, steps: u32) -> Next
 // Turn after turn, while the page has room for the longest answer. Whatever changes is a local of this one loop, which calls in one place: a
 // call by value copies the scheduler, and a turn that makes no call does not.
 fn later(p: Play, script: &[u8], page: &mut [u8]) -> Played
-    requires { ⌜ Ready (now script) p × (p .stage ≡ Playing) × (pageBytes ≤ length (now page)) ⌝ }
+    requires { ⌜ InPlay (now script) p × (p .stage ≡ Playing) × (pageBytes ≤ length (now page)) ⌝ }
     ensures { λ r. ⌜ Filled (now (script .entry)) p (now (page .exit)) r ⌝ }
 {
-    let last = page.len() - writing::page_len();
+    let last = page.len() - script_writing::page_len();
     let mut d = p.scheduler;
     let mut at = p.at;
     let mut steps = p.steps;
@@ -177,7 +177,7 @@ fn later(p: Play, script: &[u8], page: &mut [u8]) -> Played
         // quiet minutes are passed over at once: their ticks print nothing
         let mut minutes: u32 = 0;
         if 0 < steps {
-            minutes = quiet::quiet_minutes(d, steps);
+            minutes = quiet_minutes::quiet_minutes(d, steps);
         }
         d.clock += minutes;
         let next = next_turn(script, at, steps - minutes);
@@ -191,7 +191,7 @@ fn later(p: Play, script: &[u8], page: &mut [u8]) -> Played
                     let done = calls::call(d, request);
                     d = done.scheduler;
                     let answer = done.answer;
-                    end = writing::put_answer(page, end, kind, d.clock, answer);
+                    end = script_writing::put_answer(page, end, kind, d.clock, answer);
                     continue;
                 }
                 Asked::Wait(n) => {
@@ -200,11 +200,11 @@ fn later(p: Play, script: &[u8], page: &mut [u8]) -> Played
                         steps = n;
                         continue;
                     }
-                    end = writing::put_refusal(page, end, reason);
+                    end = script_writing::put_refusal(page, end, reason);
                     continue;
                 }
                 Asked::Malformed => {
-                    end = writing::put_refusal(page, end, Refusal::Malformed);
+                    end = script_writing::put_refusal(page, end, Refusal::Malformed);
                     continue;
                 }
             },
@@ -234,7 +234,7 @@ fn later(p: Play, script: &[u8], page: &mut [u8]) -> Played
 
 // The page filled from its start: until the script is over, its first line is played, or the page has no room for the longest answer any more.
 pub fn fill(p: Play, script: &[u8], page: &mut [u8]) -> Played
-    requires { ⌜ Ready (now script) p × (pageBytes ≤ length (now page)) ⌝ }
+    requires { ⌜ InPlay (now script) p × (pageBytes ≤ length (now page)) ⌝ }
     ensures { λ r. ⌜ Filled (now (script .entry)) p (now (page .exit)) r ⌝ }
 {
     let stage = p.stage;

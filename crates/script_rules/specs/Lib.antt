@@ -3,5 +3,5 @@ pub mod LineLaws
 pub mod Reading
 pub mod Writing
 pub mod Printout
-pub mod Plays
-pub mod Marked
+pub mod PlayedCalls
+pub mod MarkedExamples

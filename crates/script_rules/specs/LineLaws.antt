@@ -8,7 +8,7 @@ use native.Mathlib.Omega.{arith}
 use lib.Dec.{eqb}
 use lib.ListN.{length, drop}
 use Rattle.lists.specs.Tests.{case}
-use Rattle.text.specs.Upto.{upto}
+use Rattle.text.specs.Prefixes.{upto}
 use Rattle.script_rules.specs.Lines.{linesOf}
 
 -- the first line, closed

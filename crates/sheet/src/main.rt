@@ -3,5 +3,5 @@ use libc::STDIN_FILENO;
 use libc::STDOUT_FILENO;
 
 fn main() {
-    runner::run(STDIN_FILENO, STDOUT_FILENO);
+    script_runner::run(STDIN_FILENO, STDOUT_FILENO);
 }

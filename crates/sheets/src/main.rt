@@ -1,4 +1,4 @@
 // Plays the day sheets that the arguments name, each after its name.
 fn main() {
-    runner::run_files();
+    script_runner::run_files();
 }

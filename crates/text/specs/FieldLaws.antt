@@ -10,7 +10,7 @@ use lib.ListN.{length, getD, drop, drop-of-length-le, length-drop}
 use lib.Seq.{drop-cons, drop-drop}
 use borrow.Author.Tests.{eq-eqb, ne-eqb}
 use Rattle.lists.specs.Tests.{case}
-use Rattle.text.specs.Upto.{upto, upto-le}
+use Rattle.text.specs.Prefixes.{upto, upto-le}
 use Rattle.text.specs.Fields.{inFirst, fieldsOf}
 
 length-inFirst : (b : ℕ) (fs : List (List ℕ)) → 1 ≤ length fs → length (inFirst b fs) ≡ length fs

@@ -1,4 +1,4 @@
-pub mod Upto
+pub mod Prefixes
 pub mod Fields
 pub mod FieldLaws
 pub mod Numbers

@@ -9,7 +9,7 @@ use lib.ListN.{length, getD, take, drop, length-drop}
 use lib.Seq.{getD-drop}
 use borrow.Author.Tests.{ltb-true, ltb-false}
 use Rattle.text.specs.declared.Line.{Line}
-use Rattle.text.specs.Upto.{upto, upto-take, upto-at, upto-none, upto-inside}
+use Rattle.text.specs.Prefixes.{upto, upto-take, upto-at, upto-none, upto-inside}
 use Rattle.text.specs.Lines.{lineEnd, lineAt}
 
 pub record Ends (text : List ℕ) (from : ℕ) (l : Line) : Type 0 where

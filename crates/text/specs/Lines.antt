@@ -5,7 +5,7 @@ use mathlib.Core.List.{List}
 use lib.Dec.{ltb}
 use lib.ListN.{length, drop}
 use Rattle.text.specs.declared.Line.{Line}
-use Rattle.text.specs.Upto.{upto}
+use Rattle.text.specs.Prefixes.{upto}
 
 -- where the line that begins at a place ends: at the next byte 10, or at the text's end; past that, at the place itself
 abbrev pub lineEnd : List ℕ → ℕ → ℕ

@@ -5,7 +5,7 @@ ghost use Prim.Native.Nat.{_+_, _≤_};
 ghost use lib.ListN.{length, drop};
 ghost use lib.Seq.{sets};
 ghost use Rattle.text.specs.Fields.{fieldsOf, fieldOf};
-ghost use Rattle.text.specs.Upto.{upto};
+ghost use Rattle.text.specs.Prefixes.{upto};
 ghost use Rattle.text.specs.Lines.{lineAt};
 ghost use Rattle.text.specs.Numbers.{digitsFrom, numberOf, decimalOf};
 ghost use Rattle.text.specs.Words.{isWord};

@@ -2,8 +2,8 @@
 -- Assumes nothing.
 use mathlib.Core.Path.{refl}
 use Rattle.lists.specs.Pads.{pad}
-use Rattle.profile.specs.Stored.{stored}
-use Rattle.calls.specs.Show.{showing}
+use Rattle.conservative_profile.specs.StoredProfile.{stored}
+use Rattle.calls.specs.ProfileCall.{showing}
 use Rattle.calls.proofs.no_points.Statement.{statement}
 use Rattle.calls.proofs.no_points.Tie as tie
 

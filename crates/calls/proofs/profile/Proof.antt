@@ -3,10 +3,10 @@
 use mathlib.Core.Path.{ap, _∙_}
 use Rattle.scheduler.specs.declared.Kind.the-variants.{Conservative}
 use Rattle.jobs.specs.Premise.{holds-as}
-use Rattle.profile.specs.declared.Profile.{Profile}
-use Rattle.planning.specs.Slots.{valid-planned}
+use Rattle.conservative_profile.specs.declared.Profile.{Profile}
+use Rattle.conservative_plan.specs.PlannedSlots.{valid-planned}
 use Rattle.guarantees.specs.Premise.{premise-of}
-use Rattle.calls.specs.Show.{showIn, show-conservative, show-easy}
+use Rattle.calls.specs.ProfileCall.{showIn, show-conservative, show-easy}
 use borrow.Author.Needs.{needs}
 use Rattle.calls.proofs.profile.Statement.{statement}
 use Rattle.calls.proofs.profile.Tie as tie

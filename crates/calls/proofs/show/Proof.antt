@@ -2,7 +2,7 @@
 -- Assumes nothing.
 use mathlib.Core.Path.{_∙_}
 use native.Mathlib.Omega.{arith}
-use Rattle.calls.specs.Show.{no-room, all-shown}
+use Rattle.calls.specs.ProfileCall.{no-room, all-shown}
 use borrow.Author.Needs.{needs}
 use Rattle.calls.proofs.show.Statement.{statement}
 use Rattle.calls.proofs.show.Tie as tie

@@ -11,7 +11,7 @@ use Rattle.scheduler.specs.declared.Job.{Job}
 use Rattle.scheduler.specs.declared.Scheduler.{Scheduler}
 use Rattle.scheduler.specs.Jobs.{unused}
 use Rattle.scheduler.specs.Table.{tickets}
-use Rattle.scheduler.proofs.Whole.{whole}
+use Rattle.scheduler.proofs.Lengths.{whole}
 use Rattle.conservative_rules.specs.Conservative.{begun}
 use Rattle.conservative.specs.Advance.{began, begun-yes, begun-no}
 use borrow.Author.Needs.{needs}

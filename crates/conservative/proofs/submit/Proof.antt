@@ -9,7 +9,7 @@ use Rattle.scheduler.specs.Answers.{accepts, refusedOutcome}
 use Rattle.job_table.specs.Parts.{sharedRefusal}
 use Rattle.job_table.specs.Submitting.{known}
 use Rattle.conservative_rules.specs.Conservative.{planned}
-use Rattle.planning.specs.Earliest.{startFor}
+use Rattle.conservative_plan.specs.EarliestStart.{startFor}
 use Rattle.conservative.specs.Submit.{accepted, planned-low, askable, start-held, room-held, taken-held, past-held, tests-held}
 use borrow.Author.Needs.{needs}
 use Rattle.conservative.proofs.submit.Statement.{statement}

@@ -9,7 +9,7 @@ use Rattle.easy_engine.specs.Survey.{headBefore}
 use Rattle.job_table.specs.declared.Part.{Part}
 use Rattle.job_table.specs.Parts.{Own, part, handed}
 use Rattle.easy.specs.Parts.{own, answering}
-use Rattle.easy.specs.Held.{stored-ready, stored-view}
+use Rattle.easy.specs.HeldModel.{stored-ready, stored-view}
 use Rattle.easy.specs.Calling.{own-ready, own-before, call-own, handed-part}
 use Rattle.easy.proofs.call.Statement.{statement}
 use Rattle.easy.proofs.call.Tie as tie

@@ -6,7 +6,7 @@ use Rattle.scheduler.specs.Model.{view}
 use Rattle.scheduler.specs.declared.Request.{Request}
 use Rattle.job_table.specs.Parts.{part}
 use Rattle.easy.specs.Parts.{own}
-use Rattle.easy.specs.Held.{valid-sound}
+use Rattle.easy.specs.HeldModel.{valid-sound}
 use Rattle.easy.proofs.own_part.Statement.{statement}
 use Rattle.easy.proofs.own_part.Tie as tie
 

@@ -9,7 +9,7 @@ use Rattle.easy_engine.specs.Columns.{column-at}
 use Rattle.easy_engine.specs.Choices.{nobody-waits, low, need-is, the-head, head-ticket, head-rests, head-lacks}
 use Rattle.easy_rules.specs.Easy.{shadow}
 use Rattle.easy_engine.specs.Survey.{announced}
-use Rattle.easy_engine.specs.Announcing.{forecast-none, forecast-same, forecast-new}
+use Rattle.easy_engine.specs.Announcement.{forecast-none, forecast-same, forecast-new}
 use Rattle.easy_engine.proofs.announce.Statement.{statement}
 use Rattle.easy_engine.proofs.announce.Tie as tie
 

@@ -9,16 +9,16 @@ use Rattle.lists.specs.Pads.{pad}
 use Rattle.walltime.specs.Laws.{wallTime-le}
 use Rattle.scheduler.specs.Limits.{slots}
 use Rattle.scheduler.specs.Jobs.{unused}
-use Rattle.easy_engine.specs.Survey.{estimateOf, Starts}
+use Rattle.easy_engine.specs.Survey.{estimateOf, StartsInTime}
 use Rattle.easy_engine.specs.Columns.{column-at}
-use Rattle.easy_engine.specs.Surveys.{filled, start-there, fill-next, fill-done}
+use Rattle.easy_engine.specs.SurveyLoop.{filled, start-there, fill-next, fill-done}
 use borrow.Author.Needs.{needs}
 use Rattle.easy_engine.proofs.fill_ends.Statement.{statement}
 use Rattle.easy_engine.proofs.fill_ends.Tie as tie
 
 abbrev Inv-loop : tie.InvT-loop
 Inv-loop ends₀ terms running i₀ ends i =
-    (i ≤ running) × ((s : Starts ends₀ terms running) → ends ≡ pad slots 0 (filled (s .jobs) i))
+    (i ≤ running) × ((s : StartsInTime ends₀ terms running) → ends ≡ pad slots 0 (filled (s .jobs) i))
 
 abbrev μ-loop : tie.MeasureT-loop
 μ-loop ends₀ terms running i₀ ends i = running - i

@@ -6,9 +6,9 @@ use borrow.Author.Needs.{needs}
 use Rattle.scheduler.specs.Model.{Model}
 use Rattle.easy_rules.specs.Easy.{forecast}
 use Rattle.easy_engine.specs.Survey.{announced}
-use Rattle.easy_engine.specs.Surveys.{starts-of, spare-free, waits-of, surveyed}
-use Rattle.easy_engine.specs.Applying.{applies, tickets-still, rests-after}
-use Rattle.easy_engine.specs.Announcing.{before-is, quiet-answers}
+use Rattle.easy_engine.specs.SurveyLoop.{starts-of, spare-free, waits-of, surveyed}
+use Rattle.easy_engine.specs.WrittenStarts.{applies, tickets-still, rests-after}
+use Rattle.easy_engine.specs.Announcement.{before-is, quiet-answers}
 use Rattle.easy_engine.proofs.settle_all.Statement.{statement}
 use Rattle.easy_engine.proofs.settle_all.Tie as tie
 

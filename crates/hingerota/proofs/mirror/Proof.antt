@@ -6,9 +6,9 @@ use lib.ListN.{set}
 use Rattle.lists.specs.Pads.{pad}
 use borrow.Author.Needs.{needs}
 use Rattle.scheduler.specs.Jobs.{unused}
-use Rattle.scheduler.proofs.Whole.{whole}
+use Rattle.scheduler.proofs.Lengths.{whole}
 use Rattle.hingerota.specs.Mirror.{noRecord, mirrorJob, mirror}
-use Rattle.hingerota.specs.Copied.{copied, copied-more, copied-all}
+use Rattle.lists.specs.CopyLoop.{copied, copied-more, copied-all}
 use Rattle.hingerota.proofs.mirror.Statement.{statement}
 use Rattle.hingerota.proofs.mirror.Tie as tie
 

@@ -1,5 +1,5 @@
-use Rattle.hingerota.specs.Handed.{read-premise}
-use Rattle.hingerota.specs.Points.{profile-given}
+use Rattle.hingerota.specs.DeskPremise.{read-premise}
+use Rattle.hingerota.specs.ProfileContract.{profile-given}
 use borrow.Author.Needs.{needs}
 use Rattle.hingerota.proofs.profile.Statement.{statement}
 use Rattle.hingerota.proofs.profile.Tie as tie

@@ -6,9 +6,9 @@ use lib.ListN.{set}
 use Rattle.lists.specs.Pads.{pad}
 use borrow.Author.Needs.{needs}
 use Rattle.scheduler.specs.Jobs.{unused}
-use Rattle.hingerota.proofs.Whole.{whole}
+use Rattle.hingerota.proofs.Lengths.{whole}
 use Rattle.hingerota.specs.Mirror.{noRecord, readRecord, read}
-use Rattle.hingerota.specs.Copied.{copied, copied-more, copied-all}
+use Rattle.lists.specs.CopyLoop.{copied, copied-more, copied-all}
 use Rattle.hingerota.proofs.read.Statement.{statement}
 use Rattle.hingerota.proofs.read.Tie as tie
 

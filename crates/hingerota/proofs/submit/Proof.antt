@@ -1,5 +1,5 @@
 use Rattle.history.specs.Calls as calls
-use Rattle.hingerota.specs.Handed.{read-premise, call-given}
+use Rattle.hingerota.specs.DeskPremise.{read-premise, call-given}
 use borrow.Author.Needs.{needs}
 use Rattle.hingerota.proofs.submit.Statement.{statement}
 use Rattle.hingerota.proofs.submit.Tie as tie

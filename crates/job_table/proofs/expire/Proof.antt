@@ -9,7 +9,7 @@ use Rattle.lists.specs.Pads.{pad}
 use Rattle.scheduler.specs.declared.Select.the-variants as select
 use Rattle.scheduler.specs.Model.{view}
 use Rattle.job_table.specs.Compacting.{Compacts, still-there, gone-step, kept-step, Clears, clears-first, clears-next, compacts-length}
-use Rattle.scheduler.proofs.Whole.{whole}
+use Rattle.scheduler.proofs.Lengths.{whole}
 use Rattle.job_table.specs.Leaving.{expires}
 use Rattle.job_table.proofs.expire.Statement.{statement}
 use Rattle.job_table.proofs.expire.Tie as tie

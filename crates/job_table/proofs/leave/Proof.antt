@@ -12,7 +12,7 @@ use borrow.Author.Needs.{needs}
 use borrow.Author.Tests.{ltb-true, ltb-false}
 use Rattle.lists.specs.Loops.{positionFrom, position, position-hit, position-miss, position-end}
 use Rattle.scheduler.specs.Jobs.{unused, runsAs}
-use Rattle.scheduler.proofs.Whole.{whole}
+use Rattle.scheduler.proofs.Lengths.{whole}
 use Rattle.job_table.specs.Leaving.{Shifts, shifts-first, next-there, shifts-next, shifts-done, shifts-none, leaves-none, leaves-one}
 use Rattle.job_table.proofs.leave.Statement.{statement}
 use Rattle.job_table.proofs.leave.Tie as tie

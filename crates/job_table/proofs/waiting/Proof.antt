@@ -12,7 +12,7 @@ use Rattle.lists.specs.Loops.{keep-take-yes, keep-take-no}
 use Rattle.scheduler.specs.declared.Job.{Job}
 use Rattle.scheduler.specs.Jobs.{unused, isWaiting}
 use Rattle.scheduler.specs.Model.{view}
-use Rattle.scheduler.proofs.Whole.{whole}
+use Rattle.scheduler.proofs.Lengths.{whole}
 use Rattle.jobs.specs.Slots.{first-live}
 use Rattle.job_table.proofs.waiting.Statement.{statement}
 use Rattle.job_table.proofs.waiting.Tie as tie

@@ -9,10 +9,10 @@ use Rattle.guarantees.specs.Premise.{Premise}
 use Rattle.guarantees.specs.Chain.{gives}
 use Rattle.calls.proofs.complete.Symbol as callee
 use Rattle.calls.proofs.complete.Met as callee-thm
-use Rattle.lent.proofs.Thin.{u32-flat, u32-laws}
-use Rattle.lent.proofs.Thin1.{thin1}
-use Rattle.lent_calls.specs.Left.{Leaves, leaves-given}
-use Rattle.lent_calls.proofs.Flats.{answer, answer-laws, outcome-two}
+use Rattle.lent_lemmas.proofs.Thin.{u32-flat, u32-laws}
+use Rattle.lent_lemmas.proofs.Thin1.{thin1}
+use Rattle.lent_calls.specs.CallContract.{Leaves, leaves-given}
+use Rattle.lent_calls.proofs.FlatTypes.{answer, answer-laws, outcome-two}
 use Rattle.lent_calls.proofs.complete.Key as key
 use Rattle.lent_calls.proofs.complete.Statement as stated
 use Rattle.lent_calls.proofs.complete.Code as code

@@ -5,19 +5,19 @@ use mathlib.Core.Bool.{true}
 use Prim.Native.Nat.{_<_}
 use native.Mathlib.Nat.{lt-of-lt-of-le}
 use Rattle.scheduler.specs.Model.{view}
-use Rattle.plan.proofs.Point as R
-use Rattle.plan.proofs.Point.Laws as R′
+use Rattle.spans.proofs.Point as R
+use Rattle.spans.proofs.Point.Laws as R′
 use Rattle.scheduler.proofs.Scheduler as D
 use Rattle.scheduler.proofs.Scheduler.Laws as D′
 use Rattle.guarantees.specs.Premise.{Premise}
-use Rattle.calls.specs.Show.{profileOutcome, pointAt}
+use Rattle.calls.specs.ProfileCall.{profileOutcome, pointAt}
 use Rattle.calls.proofs.profile.Symbol as callee
 use Rattle.calls.proofs.profile.Met as callee-thm
 use Rattle.calls.proofs.point_at.Symbol as at
 use Rattle.calls.proofs.point_at.Met as at-thm
-use Rattle.lent.proofs.Fills_ds.{fills-ds}
-use Rattle.lent_calls.specs.Shows.{Shows, shows-given, given-fits, given-few}
-use Rattle.lent_calls.proofs.Flats.{shown, shown-laws, profile-sheet}
+use Rattle.lent_lemmas.proofs.Fills_ds.{fills-ds}
+use Rattle.lent_calls.specs.ProfileContract.{Shows, shows-given, given-fits, given-few}
+use Rattle.lent_calls.proofs.FlatTypes.{shown, shown-laws, profile-sheet}
 use Rattle.lent_calls.proofs.profile.Key as key
 use Rattle.lent_calls.proofs.profile.Statement as stated
 use Rattle.lent_calls.proofs.profile.Code as code

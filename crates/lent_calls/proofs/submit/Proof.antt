@@ -9,9 +9,9 @@ use Rattle.guarantees.specs.Premise.{Premise}
 use Rattle.guarantees.specs.Chain.{gives}
 use Rattle.calls.proofs.submit.Symbol as callee
 use Rattle.calls.proofs.submit.Met as callee-thm
-use Rattle.lent.proofs.Thin1.{thin1}
-use Rattle.lent_calls.specs.Left.{Leaves, leaves-given}
-use Rattle.lent_calls.proofs.Flats.{answer, answer-laws, outcome-two, submission, submission-laws}
+use Rattle.lent_lemmas.proofs.Thin1.{thin1}
+use Rattle.lent_calls.specs.CallContract.{Leaves, leaves-given}
+use Rattle.lent_calls.proofs.FlatTypes.{answer, answer-laws, outcome-two, submission, submission-laws}
 use Rattle.lent_calls.proofs.submit.Key as key
 use Rattle.lent_calls.proofs.submit.Statement as stated
 use Rattle.lent_calls.proofs.submit.Code as code

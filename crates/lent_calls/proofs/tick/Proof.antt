@@ -9,9 +9,9 @@ use Rattle.guarantees.specs.Premise.{Premise}
 use Rattle.guarantees.specs.Chain.{gives}
 use Rattle.calls.proofs.tick.Symbol as callee
 use Rattle.calls.proofs.tick.Met as callee-thm
-use Rattle.lent.proofs.Thin0.{thin0}
-use Rattle.lent_calls.specs.Left.{Leaves, leaves-given}
-use Rattle.lent_calls.proofs.Flats.{answer, answer-laws, outcome-two}
+use Rattle.lent_lemmas.proofs.Thin0.{thin0}
+use Rattle.lent_calls.specs.CallContract.{Leaves, leaves-given}
+use Rattle.lent_calls.proofs.FlatTypes.{answer, answer-laws, outcome-two}
 use Rattle.lent_calls.proofs.tick.Key as key
 use Rattle.lent_calls.proofs.tick.Statement as stated
 use Rattle.lent_calls.proofs.tick.Code as code

@@ -2,17 +2,17 @@
 -- Assumes nothing.
 use mathlib.Core.Bool.{true}
 use lib.Dec.{lit<}
-use Rattle.plan.proofs.Point as R
-use Rattle.plan.proofs.Point.Laws as R′
+use Rattle.spans.proofs.Point as R
+use Rattle.spans.proofs.Point.Laws as R′
 use Rattle.scheduler.proofs.Scheduler as D
 use Rattle.scheduler.proofs.Scheduler.Laws as D′
 use Rattle.guarantees.specs.Premise.{Premise}
-use Rattle.lent.proofs.OwnSlice_ds.{own-ds}
-use Rattle.lent_calls.specs.Shows.{Shows}
-use Rattle.lent_calls.proofs.Flats.{shown, shown-laws}
+use Rattle.lent_lemmas.proofs.OwnSlice_ds.{own-ds}
+use Rattle.lent_calls.specs.ProfileContract.{Shows}
+use Rattle.lent_calls.proofs.FlatTypes.{shown, shown-laws}
 use Rattle.lent_calls.proofs.profile.Symbol as callee
 use Rattle.lent_calls.proofs.profile.Met as callee-thm
-use Rattle.lent_run.proofs.Owned.{none-holds}
+use Rattle.lent_run.proofs.Results.{none-holds}
 use Rattle.lent_run.proofs.into_none.Key as key
 use Rattle.lent_run.proofs.into_none.Statement as stated
 use Rattle.lent_run.proofs.into_none.Code as code

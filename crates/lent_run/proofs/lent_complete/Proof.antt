@@ -5,13 +5,13 @@ use Rattle.scheduler.proofs.Scheduler as D
 use Rattle.scheduler.proofs.Scheduler.Laws as D′
 use Rattle.history.specs.Calls as calls
 use Rattle.guarantees.specs.Premise.{Premise}
-use Rattle.lent.proofs.Thin.{u32-flat, u32-laws}
-use Rattle.lent.proofs.Own1.{own1}
-use Rattle.lent_calls.specs.Left.{Leaves}
-use Rattle.lent_calls.proofs.Flats.{answer, answer-laws, outcome-two}
+use Rattle.lent_lemmas.proofs.Thin.{u32-flat, u32-laws}
+use Rattle.lent_lemmas.proofs.Own1.{own1}
+use Rattle.lent_calls.specs.CallContract.{Leaves}
+use Rattle.lent_calls.proofs.FlatTypes.{answer, answer-laws, outcome-two}
 use Rattle.lent_calls.proofs.complete.Symbol as callee
 use Rattle.lent_calls.proofs.complete.Met as callee-thm
-use Rattle.lent_run.proofs.Owned.{outcome-built}
+use Rattle.lent_run.proofs.Results.{outcome-built}
 use Rattle.lent_run.proofs.lent_complete.Key as key
 use Rattle.lent_run.proofs.lent_complete.Statement as stated
 use Rattle.lent_run.proofs.lent_complete.Code as code

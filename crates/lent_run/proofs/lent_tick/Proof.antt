@@ -5,12 +5,12 @@ use Rattle.scheduler.proofs.Scheduler as D
 use Rattle.scheduler.proofs.Scheduler.Laws as D′
 use Rattle.history.specs.Calls as calls
 use Rattle.guarantees.specs.Premise.{Premise}
-use Rattle.lent.proofs.Own0.{own0}
-use Rattle.lent_calls.specs.Left.{Leaves}
-use Rattle.lent_calls.proofs.Flats.{answer, answer-laws, outcome-two}
+use Rattle.lent_lemmas.proofs.Own0.{own0}
+use Rattle.lent_calls.specs.CallContract.{Leaves}
+use Rattle.lent_calls.proofs.FlatTypes.{answer, answer-laws, outcome-two}
 use Rattle.lent_calls.proofs.tick.Symbol as callee
 use Rattle.lent_calls.proofs.tick.Met as callee-thm
-use Rattle.lent_run.proofs.Owned.{outcome-built}
+use Rattle.lent_run.proofs.Results.{outcome-built}
 use Rattle.lent_run.proofs.lent_tick.Key as key
 use Rattle.lent_run.proofs.lent_tick.Statement as stated
 use Rattle.lent_run.proofs.lent_tick.Code as code

@@ -2,7 +2,7 @@
 -- Assumes nothing.
 use mathlib.Core.Path.{ap}
 use Rattle.scheduler.specs.declared.Opened.{Opened}
-use Rattle.pieces.specs.declared.Stage.the-variants.{First}
+use Rattle.script_play.specs.declared.Stage.the-variants.{First}
 use borrow.Author.Needs.{needs}
 use Rattle.script.proofs.begin.Statement.{statement}
 use Rattle.script.proofs.begin.Tie as tie

@@ -1,8 +1,8 @@
 -- `script::fill` meets its contract: the first line, the later ones, or nothing.
 -- Assumes nothing.
 use mathlib.Core.Path.{ap}
-use Rattle.script.specs.Turns.{turned-as, stage-as}
-use Rattle.script.specs.Filled.{goesOn, filling-none, filled-once, filled-over}
+use Rattle.script.specs.PageTurns.{turned-as, stage-as}
+use Rattle.script.specs.PageFilling.{goesOn, filling-none, filled-once, filled-over}
 use borrow.Author.Needs.{needs}
 use Rattle.script.proofs.fill.Statement.{statement}
 use Rattle.script.proofs.fill.Tie as tie

@@ -2,7 +2,7 @@
 -- Assumes nothing.
 use native.Mathlib.Omega.{arith}
 use Rattle.text.specs.LineLaws.{line-ends}
-use Rattle.script.specs.Turns.{turned-as, turned-none, first-long, first-none, first-closed, first-unclosed}
+use Rattle.script.specs.PageTurns.{turned-as, turned-none, first-long, first-none, first-closed, first-unclosed}
 use borrow.Author.Needs.{needs}
 use Rattle.script.proofs.first.Statement.{statement}
 use Rattle.script.proofs.first.Tie as tie

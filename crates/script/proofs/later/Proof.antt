@@ -8,14 +8,14 @@ use native.Mathlib.Omega.{arith}
 use lib.ListN.{length}
 use borrow.Author.Needs.{needs}
 use Rattle.scheduler.specs.declared.Scheduler.{Scheduler}
-use Rattle.quiet.specs.Ahead.{Ahead, ahead-none}
-use Rattle.quiet.specs.Ticks.{passedOver}
-use Rattle.writing.specs.Answered.{pageBytes}
-use Rattle.pieces.specs.Pieces.{going, pieceOf}
-use Rattle.pieces.specs.Ends.{Ready, weight}
-use Rattle.script.specs.PassOver.{PassesOver, in-time, passes-quiet, passes-no-more}
-use Rattle.script.specs.Turns.{Turned, call-few, over-turned, call-turned, lacks-turned, wait-turned, refused-turned}
-use Rattle.script.specs.Filled.{Filling, filling-none, filling-quiet, filling-less, filling-more, filled-full, filled-over, filled-as}
+use Rattle.quiet_minutes.specs.QuietCount.{Ahead, ahead-none}
+use Rattle.quiet_minutes.specs.QuietTicks.{passedOver}
+use Rattle.script_writing.specs.AnswerText.{pageBytes}
+use Rattle.script_play.specs.Pieces.{going, pieceOf}
+use Rattle.script_play.specs.Progress.{InPlay, weight}
+use Rattle.script.specs.QuietWait.{PassesOver, in-time, passes-quiet, passes-no-more}
+use Rattle.script.specs.PageTurns.{Turned, call-few, over-turned, call-turned, lacks-turned, wait-turned, refused-turned}
+use Rattle.script.specs.PageFilling.{Filling, filling-none, filling-quiet, filling-less, filling-more, filled-full, filled-over, filled-as}
 use Rattle.script.proofs.later.Statement.{statement}
 use Rattle.script.proofs.later.Tie as tie
 
@@ -26,7 +26,7 @@ abbrev μ-loop : tie.MeasureT-loop
 μ-loop script page₀ last d₀ at₀ steps₀ end₀ page d at steps end = weight script (going at steps d)
 
 -- a script that is being played is one from its place, steps and scheduler on
-begun : (c : tie.Start Inv-loop μ-loop) → let p = c .args .p in Ready (c .args .script .now) (going (p .at) (p .steps) (p .scheduler))
+begun : (c : tie.Start Inv-loop μ-loop) → let p = c .args .p in InPlay (c .args .script .now) (going (p .at) (p .steps) (p .scheduler))
 begun c = let r = c .pre .0 in record { premise = r .premise; inside = r .inside; few = r .few }
 
 room : (c : tie.In-loop Inv-loop μ-loop) → c .before .loop .end + pageBytes ≤ length (c .before .loop .page)

@@ -2,7 +2,7 @@
 -- Assumes nothing.
 use native.Mathlib.Omega.{arith}
 use Rattle.text.specs.LineLaws.{line-ends}
-use Rattle.script.specs.Turns.{comes-closed, comes-unclosed}
+use Rattle.script.specs.PageTurns.{comes-closed, comes-unclosed}
 use borrow.Author.Needs.{needs}
 use Rattle.script.proofs.next_line.Statement.{statement}
 use Rattle.script.proofs.next_line.Tie as tie

@@ -1,7 +1,7 @@
 -- `script::next_turn` meets its contract.
 -- Assumes nothing.
 use native.Mathlib.Omega.{arith}
-use Rattle.script.specs.Turns.{comes-step, comes-as, comes-over}
+use Rattle.script.specs.PageTurns.{comes-step, comes-as, comes-over}
 use borrow.Author.Needs.{needs}
 use Rattle.script.proofs.next_turn.Statement.{statement}
 use Rattle.script.proofs.next_turn.Tie as tie

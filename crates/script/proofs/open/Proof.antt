@@ -1,7 +1,7 @@
 -- `script::open` meets its contract.
 -- Assumes nothing.
 use mathlib.Core.Path.{sym, _∙_}
-use Rattle.script.specs.Turns.{turned-as, turned-none, opening-takes, opening-refuses, opening-lacks}
+use Rattle.script.specs.PageTurns.{turned-as, turned-none, opening-takes, opening-refuses, opening-lacks}
 use borrow.Author.Needs.{needs}
 use Rattle.script.proofs.open.Statement.{statement}
 use Rattle.script.proofs.open.Tie as tie

@@ -7,7 +7,7 @@ use native.Mathlib.Nat.{sub-zero}
 use native.Mathlib.Omega.{arith}
 use lib.ListN.{length, getD, drop}
 use borrow.Author.Needs.{needs}
-use Rattle.text.specs.Upto.{upto, upto-take, upto-inside}
+use Rattle.text.specs.Prefixes.{upto, upto-take, upto-inside}
 use Rattle.text.specs.Fields.{fieldsOf, fieldOf}
 use Rattle.text.specs.FieldLaws.{fields-first, past-tab, past-last}
 use Rattle.text.proofs.field.Statement.{statement}

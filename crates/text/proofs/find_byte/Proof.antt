@@ -5,7 +5,7 @@ use Prim.Native.Nat.{_+_, _-_}
 use native.Mathlib.Omega.{arith}
 use lib.ListN.{length, drop}
 use borrow.Author.Needs.{needs}
-use Rattle.text.specs.Upto.{upto, upto-hit, upto-miss, upto-end}
+use Rattle.text.specs.Prefixes.{upto, upto-hit, upto-miss, upto-end}
 use Rattle.text.proofs.find_byte.Statement.{statement}
 use Rattle.text.proofs.find_byte.Tie as tie
 

@@ -1,4 +1,0 @@
-pub mod Lists
-pub mod Table
-pub mod Laid
-pub mod Search

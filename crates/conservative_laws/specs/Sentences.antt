@@ -1,0 +1,425 @@
+-- For the reader: document 01's sentences about the Promise Desk, each as a theorem about what calls give, so that a definition cannot be
+-- bent along with the code.
+-- Assumes nothing.
+use mathlib.Core.Logic.{_⊎_, inl, inr}
+use Prim.Native.Nat.{ℕ, suc, _+_, _-_, _≤_, _<_}
+use native.Mathlib.Omega.{arith}
+use mathlib.Core.Path.{_≡_, refl, sym, ap, _∙_}
+use mathlib.Core.Bool.{Bool, true, false, not, _&&_, _||_, cond}
+use mathlib.Core.List.{List, [], _∷_, _++_, map}
+use lib.Dec.{leb, ltb, eqb}
+use lib.ListN.{length, length-append, length-map}
+use borrow.Author.Tests.{leb-false, le-leb, le-ltb, eqb-true, ne-eqb}
+use Rattle.lists.specs.Tests.{case, true-false, both, and-right-false, on}
+use Rattle.lists.specs.Lists.{keep, any, sum, elem, In, here, there, in-left, in-keep, keep-in, keep-keep, keep-cong}
+use Rattle.walltime.specs.WallTime.{wallTime}
+use Rattle.spans.specs.Spans.{takes, used, free, Earliest, Profile}
+use Rattle.spans.specs.EarliestStart.{earliest-is}
+use Rattle.spans.specs.ProfileLaws.{profile-is, profile-agrees, profile-length}
+use Rattle.scheduler.specs.declared.State.{State}
+use Rattle.scheduler.specs.declared.State.the-variants.{Unused, Waiting, Running}
+use Rattle.scheduler.specs.declared.Job.{Job}
+use Rattle.scheduler.specs.declared.Refusal.{Refusal}
+use Rattle.scheduler.specs.declared.Refusal.the-variants as refusal
+use Rattle.scheduler.specs.declared.Select.{Select}
+use Rattle.scheduler.specs.declared.Select.the-variants as select
+use Rattle.scheduler.specs.Limits as limit
+use Rattle.scheduler.specs.Jobs.{isWaiting, isRunning, waiting?, running?, live?, picks, runsAs}
+use Rattle.scheduler.specs.Settings.{Settings, horizon, holdTime, until}
+use Rattle.scheduler.specs.Table.{ticketsOf, staying}
+use Rattle.scheduler.specs.Model.{Model}
+use Rattle.scheduler.specs.Answers.{Result, verdict, accepts, refuse}
+use Rattle.scheduler.specs.Refusals.{judged, submitTests, completeRefusal, tickRefusal}
+use Rattle.jobs.specs.Order.{Asc, asc-keep, asc-one}
+use Rattle.jobs.specs.Soundness.{SoundJob}
+use Rattle.history.specs.Calls.{Call, submit, complete, tick, unchanged}
+use Rattle.history.specs.News.{newsOf}
+use Rattle.history.specs.Tickets.{nextAfter}
+use Rattle.conservative_rules.specs.Conservative.{span, spans, planned, newJob, withNew, points, maxPoints, submitRefusal, submitted, begun, advanced, moved, completed, turned, ticked, profileRefusal, call}
+use Rattle.conservative_rules.specs.Computed.{startOf, promiseOf}
+use Rattle.jobs.specs.Judgement.{judged-by, judged-refusal, judged-refused}
+use Rattle.conservative_laws.specs.Validity.{Valid, zip-left, Follows, follows-ticket, follows-start, follows-promise, CameOut, idle, joins, leaves, outcome, call-valid}
+use Rattle.conservative_laws.specs.Obligations.{runs-waits, waits-stays}
+use Rattle.conservative_laws.specs.PassLoop.{loop, pass-as-loop}
+
+-- ## Free nodes
+
+-- "those of running stacks whose end is after t"
+abbrev pub runningAfter : Settings → ℕ → Job → ℕ
+runningAfter S t j = on (isRunning j && ltb t (until S j)) (j .nodes)
+
+-- "those of waiting stacks with start ≤ t < start + held"
+abbrev pub waitingOver : Settings → ℕ → Job → ℕ
+waitingOver S t j = on (isWaiting j && (leb (j .start) t && ltb t (until S j))) (j .nodes)
+
+-- "Free nodes at minute t are the rack's, less those of running stacks whose end is after t, less those of waiting stacks with
+-- start ≤ t < start + held."
+abbrev pub freeNodes : Model → ℕ → ℕ
+freeNodes m t = m .settings .nodes - sum (runningAfter (m .settings) t) (m .jobs) - sum (waitingOver (m .settings) t) (m .jobs)
+
+used-as-written : (S : Settings) (now t : ℕ) (js : List Job) → now ≤ t → ((j : Job) → In j js → SoundJob S now j)
+    → used t (spans S js) ≡ sum (runningAfter S t) js + sum (waitingOver S t) js
+unfolding takes
+used-as-written S now t [] l f = refl
+used-as-written S now t (j ∷ js) l f = omega (arith, one (f j (here refl)), used-as-written S now t js l (λ x i. f x (there i)))
+  where
+    over : Bool
+    over = ltb t (until S j)
+
+    by : (x : State) → live? x ≡ true → (running? x ≡ true → leb (j .start) t ≡ true)
+        → on (leb (j .start) t && over) (j .nodes) ≡ on (running? x && over) (j .nodes) + on (waiting? x && (leb (j .start) t && over)) (j .nodes)
+    by Unused a r = true-false false a refl
+    by Waiting a r = omega arith
+    by Running a r = rw (r refl) (omega arith)
+
+    one : SoundJob S now j → takes t (span S j) ≡ runningAfter S t j + waitingOver S t j
+    one s = by (j .state) (s .is-live) (λ r. le-leb (j .start) t (omega (arith, s .runs r)))
+
+-- the free nodes that the plan goes by are these
+pub free-as-written : (m : Model) (t : ℕ) → Valid m → m .clock ≤ t → free (m .settings .nodes) (spans (m .settings) (m .jobs)) t ≡ freeNodes m t
+free-as-written m t v l = omega (arith, used-as-written (m .settings) (m .clock) t (m .jobs) l (v .sound .each))
+
+-- ## Submission
+
+-- "The planned start is the smallest minute, now or later, such that the stack's nodes are free in every minute of its held time."
+pub planned-is : (m : Model) (n e : ℕ) → n ≤ m .settings .nodes → Earliest (free (m .settings .nodes) (spans (m .settings) (m .jobs))) (m .clock) n (holdTime (m .settings) e) (planned m n e)
+unfolding planned
+planned-is m n e l = earliest-is (m .settings .nodes) (spans (m .settings) (m .jobs)) (m .clock) n (holdTime (m .settings) e) l
+
+-- the same of the free nodes as document 01 writes them
+pub planned-as-written : (m : Model) (n e : ℕ) → Valid m → n ≤ m .settings .nodes → Earliest (freeNodes m) (m .clock) n (holdTime (m .settings) e) (planned m n e)
+planned-as-written m n e v l =
+    let E = planned-is m n e l in
+    record {
+      later = E .later;
+      fit = λ t a b. omega (arith, E .fit t a b, free-as-written m t v (omega (arith, E .later)));
+      smallest = λ r a f. E .smallest r a (λ t b c. omega (arith, f t b c, free-as-written m t v (omega arith)));
+    }
+
+-- "This start is its promise. If it is now, the stack starts." "Tickets are numbered upward by one from the first."
+pub record Taken (m : Model) (n e s : ℕ) (r : Result) : Type 0 where
+  pub ticket-is : r .reply .ticket ≡ m .next
+  pub next-is : r .model .next ≡ suc (m .next)
+  pub promise-is : r .reply .promise ≡ s
+  pub started-is : r .reply .started ≡ cond (eqb s (m .clock)) (r .reply .ticket ∷ []) []
+  pub ended-is : r .reply .ended ≡ []
+  pub jobs-are : r .model .jobs ≡ m .jobs ++ (record {
+    ticket = r .reply .ticket;
+    nodes = n;
+    estimate = e;
+    state = cond (eqb s (m .clock)) Running Waiting;
+    start = s;
+    promise = s;
+  } ∷ [])
+
+-- what holds of an outcome holds of the call that is not refused
+judged-taken : (P : Result → Type 0) (m : Model) (r : Refusal) (o : Result) → P o → accepts (judged m r o .reply .refusal) ≡ true → P (judged m r o)
+judged-taken P m r o p = judged-by (λ (x : Result). accepts (x .reply .refusal) ≡ true → P x) m r o (λ e a. p) (λ e a. true-false (accepts r) a e)
+
+pub submit-taken : (m : Model) (n e : ℕ) → accepts (call m (submit n e) .reply .refusal) ≡ true → Taken m n e (planned m n e) (call m (submit n e))
+unfolding call submitted
+submit-taken m n e a =
+    let s = planned m n e in
+    judged-taken (Taken m n e s) m (submitRefusal m n e s) (submitted m n e s)
+    (record { ticket-is = refl; next-is = refl; promise-is = refl; started-is = refl; ended-is = refl; jobs-are = refl }) a
+
+-- ## Early end
+
+none-leaves : (t lo : ℕ) (js : List Job) → t < lo → Asc lo js → ticketsOf (keep (runsAs t) js) ≡ []
+none-leaves t lo [] l a = refl
+none-leaves t lo (j ∷ js) l a =
+    rw (ne-eqb (j .ticket) t (λ e. omega (arith, a .0)), and-right-false (isRunning j) refl)
+    (none-leaves t (suc (j .ticket)) js (omega (arith, a .0)) (a .1))
+
+one-leaves : (t lo : ℕ) (js : List Job) → Asc lo js → any (runsAs t) js ≡ true → ticketsOf (keep (runsAs t) js) ≡ t ∷ []
+one-leaves t lo [] a e = true-false false e refl
+one-leaves t lo (j ∷ js) a e = case (runsAs t j) (λ q. rw q (this q)) (λ q. rw q (one-leaves t (suc (j .ticket)) js (a .1) (rw q at e)))
+  where
+    this : runsAs t j ≡ true → j .ticket ∷ ticketsOf (keep (runsAs t) js) ≡ t ∷ []
+    this q =
+        let k : j .ticket ≡ t = eqb-true (j .ticket) t (both (isRunning j) (eqb (j .ticket) t) q .1) in
+        rw (none-leaves t (suc (j .ticket)) js (omega arith) (a .1), k)
+
+-- "The stack leaves": the ticket that is ended, and no other
+pub complete-ends : (m : Model) (t : ℕ) → Valid m → accepts (call m (complete t) .reply .refusal) ≡ true → call m (complete t) .reply .ended ≡ t ∷ []
+unfolding call completed advanced completeRefusal verdict
+complete-ends m t v =
+    case (any (runsAs t) (m .jobs))
+    (λ e. rw e (λ a. one-leaves t 1 (m .jobs) (v .sound .asc) e))
+    (λ e. rw e (λ a. true-false false a refl))
+
+-- "taken out of the plan and put in again at its smallest minute, the others staying at their places. One that comes to now starts."
+pub record Placed (S : Settings) (now : ℕ) (others : List Job) (j k : Job) : Type 0 where
+  pub smallest : Earliest (free (S .nodes) (spans S others)) now (j .nodes) (holdTime S (j .estimate)) (k .start)
+  pub job-is : k ≡ record {
+    ticket = j .ticket;
+    nodes = j .nodes;
+    estimate = j .estimate;
+    state = cond (eqb (k .start) now) Running Waiting;
+    start = k .start;
+    promise = j .promise;
+  }
+
+pub moved-waiting : (S : Settings) (now : ℕ) (others : List Job) (j : Job) → isWaiting j ≡ true → j .nodes ≤ S .nodes → Placed S now others j (moved S now others j)
+moved-waiting S now others j w l =
+    rw w (record { smallest = earliest-is (S .nodes) (spans S others) now (j .nodes) (holdTime S (j .estimate)) l; job-is = refl })
+
+pub moved-running : (S : Settings) (now : ℕ) (others : List Job) (j : Job) → isWaiting j ≡ false → moved S now others j ≡ j
+moved-running S now others j w = rw w
+
+-- "Then each waiting stack, once, in ticket order": the jobs that stay have their turns by their indices, each with all others as they are
+-- then (`turn` moves the job at an index; z stands for what is past the list)
+pub complete-moves : (m : Model) (t : ℕ) (z : Job) → Valid m → accepts (call m (complete t) .reply .refusal) ≡ true
+    → let js = keep (λ (j : Job). not (runsAs t j)) (m .jobs) in call m (complete t) .model .jobs ≡ loop (m .settings) (m .clock) z (length js) 0 js
+unfolding call completed advanced
+complete-moves m t z v =
+    judged-taken (λ (r : Result). r .model .jobs ≡ loop (m .settings) (m .clock) z (length js) 0 js) m (completeRefusal m t) (completed m t)
+    (sym (pass-as-loop (m .settings) (m .clock) z js (λ j i. v .sound .each j (keep-in (λ (j : Job). not (runsAs t j)) (m .jobs) i .0) .nodes-to)))
+  where
+    js : List Job
+    js = staying (select.RunningTicket t) (m .jobs)
+
+-- ## Minute step
+
+-- "stacks whose end is now"
+abbrev pub overAt : Settings → ℕ → Job → Bool
+overAt S now j = isRunning j && eqb (until S j) now
+
+-- "waiting stacks whose planned start is now"
+abbrev pub startsAt : ℕ → Job → Bool
+startsAt now j = isWaiting j && eqb (j .start) now
+
+turned-starts : (now : ℕ) (j : Job) → (isWaiting j && isRunning (turned now j)) ≡ startsAt now j
+turned-starts now j = case (isWaiting j) (λ w. rw w (case (eqb (j .start) now) (λ s. rw s) (λ s. rw s))) (λ w. rw w)
+
+-- those that start are those that wait before and run after
+pub begun-turned : (now : ℕ) (js : List Job) → begun js (map (turned now) js) ≡ ticketsOf (keep (startsAt now) js)
+begun-turned now [] = refl
+begun-turned now (j ∷ js) = rw (turned-starts now j) (case (startsAt now j) (λ e. rw (e, begun-turned now js)) (λ e. rw (e, begun-turned now js)))
+
+-- none of them leaves
+starts-stay : (now : ℕ) (S : Settings) (js : List Job) → keep (startsAt now) (keep (λ (j : Job). not (overAt S now j)) js) ≡ keep (startsAt now) js
+starts-stay now S js =
+    keep-keep (startsAt now) (λ (j : Job). not (overAt S now j)) js
+    ∙ keep-cong (λ (j : Job). not (overAt S now j) && startsAt now j) (startsAt now) js (λ j i. one j)
+  where
+    one : (j : Job) → (not (overAt S now j) && startsAt now j) ≡ startsAt now j
+    one j = case (overAt S now j) (λ e. rw (e, runs-waits (j .state) (both (isRunning j) (eqb (until S j) now) e .0))) (λ e. rw e)
+
+-- the job in another state
+abbrev pub withState : State → Job → Job
+withState s j = record { ticket = j .ticket; nodes = j .nodes; estimate = j .estimate; state = s; start = j .start; promise = j .promise }
+
+turned-is : (now : ℕ) (j : Job) → turned now j ≡ cond (startsAt now j) (withState Running j) j
+turned-is now j = go (j .state)
+  where
+    go : (s : State) → cond (waiting? s) (withState (cond (eqb (j .start) now) Running Waiting) j) (withState s j)
+        ≡ cond (waiting? s && eqb (j .start) now) (withState Running j) (withState s j)
+    go Unused = refl
+    go Waiting = case (eqb (j .start) now) (λ e. rw e) (λ e. rw e)
+    go Running = refl
+
+-- "The clock rises by one, stacks whose end is now leave, waiting stacks whose planned start is now start. Nothing else moves."
+pub record Ticked (m : Model) (r : Result) : Type 0 where
+  pub clock-is : r .model .clock ≡ suc (m .clock)
+  pub ended-is : r .reply .ended ≡ ticketsOf (keep (overAt (m .settings) (suc (m .clock))) (m .jobs))
+  pub started-is : r .reply .started ≡ ticketsOf (keep (startsAt (suc (m .clock))) (m .jobs))
+  pub jobs-are : r .model .jobs ≡ map (λ (j : Job). cond (startsAt (suc (m .clock)) j) (withState Running j) j) (keep (λ (j : Job). not (overAt (m .settings) (suc (m .clock)) j)) (m .jobs))
+
+pub tick-taken : (m : Model) → accepts (call m tick .reply .refusal) ≡ true → Ticked m (call m tick)
+unfolding call ticked advanced
+tick-taken m a = judged-taken (Ticked m) m (tickRefusal m) (ticked m) (record {
+  clock-is = refl;
+  ended-is = refl;
+  started-is = begun-turned now (staying u (m .jobs)) ∙ ap ticketsOf (starts-stay now (m .settings) (m .jobs));
+  jobs-are = all (staying u (m .jobs));
+}) a
+  where
+    now : ℕ
+    now = suc (m .clock)
+
+    u : Select
+    u = select.EndingAt now
+
+    all : (js : List Job) → map (turned now) js ≡ map (λ (j : Job). cond (startsAt now j) (withState Running j) j) js
+    all [] = refl
+    all (j ∷ js) = rw (turned-is now j, all js)
+
+-- ## Planned starts
+
+-- a job that waits is there after each call, its promise unchanged and its planned start no later
+pub record Still (j k : Job) : Type 0 where
+  pub ticket : k .ticket ≡ j .ticket
+  pub start : k .start ≤ j .start
+  pub promise : k .promise ≡ j .promise
+
+outcome-still : (m : Model) {c : Call} {r : Result} (j : Job) → CameOut m c r → In j (m .jobs) → isWaiting j ≡ true → (k : Job) × In k (r .model .jobs) × Still j k
+unfolding submitted advanced
+outcome-still m j (idle c r n) i w = (j, i, record { ticket = refl; start = omega arith; promise = refl })
+outcome-still m j (joins n e f l) i w = (j, in-left _ i, record { ticket = refl; start = omega arith; promise = refl })
+outcome-still m j (leaves c clock s after l g p q) i w =
+    let z = zip-left (Follows clock) (staying s (m .jobs)) after (g .follow) (in-keep (λ (j : Job). not (picks s j)) i (ap not (waits-stays m clock s l j w))) in
+    let k = z .0 in
+    (k, z .1, record { ticket = follows-ticket clock j k (z .2); start = follows-start clock j k (z .2); promise = follows-promise clock j k (z .2) })
+
+pub still-there : (m : Model) (c : Call) (j : Job) → Valid m → In j (m .jobs) → isWaiting j ≡ true → (k : Job) × In k (call m c .model .jobs) × Still j k
+still-there m c j v i w = outcome-still m j (outcome m c v) i w
+
+-- whichever job has its ticket after the call is this one: "each never later", and "This start is its promise and never changes"
+pub never-later : (m : Model) (c : Call) (j k : Job) → Valid m → In j (m .jobs) → isWaiting j ≡ true → In k (call m c .model .jobs) → k .ticket ≡ j .ticket
+    → (k .start ≤ j .start) × (k .promise ≡ j .promise)
+never-later m c j k v i w l e =
+    let r = still-there m c j v i w in
+    let q : r .0 ≡ k = asc-one 1 (call m c .model .jobs) (r .0) k (call-valid m c v .sound .asc) (r .1) l (r .2 .ticket ∙ sym e) in
+    (omega (arith, r .2 .start, ap startOf q), sym (ap promiseOf q) ∙ r .2 .promise)
+
+-- so after no call is a job planned for later than promised (what replanning the whole queue would do is computed in Computed.antt)
+pub single-moves-keep : (m : Model) (c : Call) (j : Job) → Valid m → In j (call m c .model .jobs) → j .start ≤ j .promise
+single-moves-keep m c j v i = call-valid m c v .promised j i
+
+-- ## Tickets
+
+-- "Each call of either desk also gives the tickets ended, ascending, and those started, in order of starting (on the Promise Desk,
+-- ascending)."
+abbrev pub Rising : ℕ → List ℕ → Type 0
+Rising lo [] = Unit {0}
+Rising lo (t ∷ ts) = (lo ≤ t) × Rising (suc t) ts
+
+rising-from : (lo lo′ : ℕ) (ts : List ℕ) → lo′ ≤ lo → Rising lo ts → Rising lo′ ts
+rising-from lo lo′ [] l a = tt
+rising-from lo lo′ (t ∷ ts) l a = (omega arith, a .1)
+
+pub tickets-rise : (lo : ℕ) (js : List Job) → Asc lo js → Rising lo (ticketsOf js)
+tickets-rise lo [] a = tt
+tickets-rise lo (j ∷ js) a = (a .0, tickets-rise (suc (j .ticket)) js (a .1))
+
+begun-rises : (lo : ℕ) (js ks : List Job) → Asc lo js → Rising lo (begun js ks)
+begun-rises lo [] ks a = tt
+begun-rises lo (j ∷ js) [] a = tt
+begun-rises lo (j ∷ js) (k ∷ ks) a =
+    let rest = begun-rises (suc (j .ticket)) js ks (a .1) in
+    case (isWaiting j && isRunning k) (λ e. rw e (a .0, rest)) (λ e. rw e (rising-from (suc (j .ticket)) lo (begun js ks) (omega (arith, a .0)) rest))
+
+outcome-rises : (m : Model) {c : Call} {r : Result} → Valid m → CameOut m c r → Rising 1 (r .reply .ended) × Rising 1 (r .reply .started)
+unfolding submitted advanced
+outcome-rises m v (idle c r n) = (tt, tt)
+outcome-rises m v (joins n e f l) = (tt, case (eqb (planned m n e) (m .clock)) (λ q. rw q (v .sound .next-from, tt)) (λ q. rw q tt))
+outcome-rises m v (leaves c clock s after l g p q) = (
+  tickets-rise 1 (keep (picks s) (m .jobs)) (asc-keep (picks s) 1 (m .jobs) (v .sound .asc)),
+  begun-rises 1 (staying s (m .jobs)) after (asc-keep (λ (j : Job). not (picks s j)) 1 (m .jobs) (v .sound .asc)),
+)
+
+pub answers-rise : (m : Model) (c : Call) → Valid m → Rising 1 (call m c .reply .ended) × Rising 1 (call m c .reply .started)
+answers-rise m c v = outcome-rises m v (outcome m c v)
+
+-- a job that starts waits until then: it waited before the call, or is the one that the call took in
+pub record Waited (m : Model) (t : ℕ) : Type 0 where
+  pub job : Job
+  pub isin : In job (m .jobs)
+  pub waits : isWaiting job ≡ true
+  pub named : job .ticket ≡ t
+
+begun-waited : (t : ℕ) (js ks : List Job) → elem t (begun js ks) ≡ true → (j : Job) × In j js × (isWaiting j ≡ true) × (j .ticket ≡ t)
+begun-waited t [] ks e = true-false false e refl
+begun-waited t (j ∷ js) [] e = true-false false e refl
+begun-waited t (j ∷ js) (k ∷ ks) e =
+    case (isWaiting j && isRunning k)
+    (λ w. case (eqb t (j .ticket))
+    (λ q. (j, here refl, both (isWaiting j) (isRunning k) w .0, sym (eqb-true t (j .ticket) q)))
+    (λ q. later (begun-waited t js ks (rw (w, q) at e))))
+    (λ w. later (begun-waited t js ks (rw w at e)))
+  where
+    later : (x : Job) × In x js × (isWaiting x ≡ true) × (x .ticket ≡ t) → (x : Job) × In x (j ∷ js) × (isWaiting x ≡ true) × (x .ticket ≡ t)
+    later r = (r .0, there (r .1), r .2, r .3)
+
+outcome-waited : (m : Model) {c : Call} {r : Result} (t : ℕ) → CameOut m c r → elem t (r .reply .started) ≡ true → Waited m t ⊎ (t ≡ r .reply .ticket)
+unfolding submitted advanced
+outcome-waited m t (idle c r n) e = true-false false e refl
+outcome-waited m t (joins n e f l) x =
+    case (eqb (planned m n e) (m .clock))
+    (λ q. case (eqb t (m .next)) (λ y. inr (eqb-true t (m .next) y)) (λ y. true-false false (rw (q, y) at x) refl))
+    (λ q. true-false false (rw q at x) refl)
+outcome-waited m t (leaves c clock s after l g p q) e =
+    let w = begun-waited t (staying s (m .jobs)) after e in
+    inl (record { job = w .0; isin = keep-in (λ (j : Job). not (picks s j)) (m .jobs) (w .1) .0; waits = w .2; named = w .3 })
+
+pub started-waited : (m : Model) (c : Call) (t : ℕ) → Valid m → elem t (call m c .reply .started) ≡ true → Waited m t ⊎ (t ≡ call m c .reply .ticket)
+started-waited m c t v e = outcome-waited m t (outcome m c v) e
+
+-- "A refused intake uses none"
+abbrev Given : Model → Call → Result → Type 0
+Given m c x = x .model .next ≡ nextAfter (newsOf c (x .reply) .came) (m .next)
+
+pub next-is : (m : Model) (c : Call) → Given m c (call m c)
+unfolding call submitted completed ticked advanced
+next-is m (submit n e) =
+    let s = planned m n e in
+    judged-by (Given m (submit n e)) m (submitRefusal m n e s) (submitted m n e s) (λ a. refl) (λ a. rw a)
+next-is m (complete t) = judged-by (Given m (complete t)) m (completeRefusal m t) (completed m t) (λ a. refl) (λ a. rw a)
+next-is m tick = judged-by (Given m tick) m (tickRefusal m) (ticked m) (λ a. refl) (λ a. rw a)
+next-is m (unchanged w) = case (accepts w) (λ a. rw a) (λ a. rw a)
+
+-- ## Profile
+
+-- "The first is now; then every later minute whose free nodes differ from those of the minute before."
+pub points-are : (m : Model) → Profile (free (m .settings .nodes) (spans (m .settings) (m .jobs))) (m .clock) (points m)
+points-are m = profile-is (m .settings .nodes) (spans (m .settings) (m .jobs)) (m .clock)
+
+-- the same of the free nodes as document 01 writes them
+pub points-as-written : (m : Model) → Valid m → Profile (freeNodes m) (m .clock) (points m)
+points-as-written m v = profile-agrees (m .clock) (points m) (λ t h. free-as-written m t v h) (points-are m)
+
+-- ## Refusals
+
+-- "A refusal gives its number, no tickets, and the desk .. unchanged": a refused call is its refusal and nothing else
+pub refused-is : (m : Model) (c : Call) → accepts (call m c .reply .refusal) ≡ false → call m c ≡ refuse m (call m c .reply .refusal)
+unfolding call submitted completed ticked advanced
+refused-is m (submit n e) = let s = planned m n e in judged-refused m (submitRefusal m n e s) (submitted m n e s) refl
+refused-is m (complete t) = judged-refused m (completeRefusal m t) (completed m t) refl
+refused-is m tick = judged-refused m (tickRefusal m) (ticked m) refl
+refused-is m (unchanged w) = λ a. refl
+
+-- 8 is "none known": 64 live jobs make at most 129 points, so the test that comes after "64 stacks live" never refuses
+few-points : (m : Model) (n e s : ℕ) → length (m .jobs) < limit.slots → length (points (withNew m n e s)) ≤ maxPoints
+few-points m n e s l =
+    omega (
+      arith,
+      profile-length (m .settings .nodes) (spans (m .settings) (withNew m n e s .jobs)) (m .clock),
+      length-map (withNew m n e s .jobs) (span (m .settings)),
+      length-append (m .jobs) (newJob m n e s ∷ []),
+    )
+
+pub eight-never : (m : Model) (n e s : ℕ) → submitRefusal m n e s ≡ verdict (submitTests m n e ((ltb (horizon (m .settings)) (s + holdTime (m .settings) e), refusal.PastHorizon) ∷ []))
+unfolding submitRefusal verdict
+eight-never m n e s =
+    case (leb limit.slots (length (m .jobs)))
+    (λ q. rw q)
+    (λ q. rw (q, le-ltb maxPoints (length (points (withNew m n e s))) (few-points m n e s (leb-false limit.slots (length (m .jobs)) q))))
+
+-- Each refusal, with its conditions in document 01's order and no others. 1: "stack nodes 0 or above the rack's"; 2: "estimate ..
+-- outside 1 to 10,080"; 4: "64 stacks live"; 5: "ticket 999,999 has been given"; 6: "start + held above 1,000,000"
+pub submit-refusal : (m : Model) (n e : ℕ) → call m (submit n e) .reply .refusal ≡ verdict
+    ((ltb n 1 || ltb (m .settings .nodes) n, refusal.NodesOutOfRange)
+    ∷ (ltb e 1 || ltb 10080 e, refusal.MinutesOutOfRange)
+    ∷ (leb 64 (length (m .jobs)), refusal.Full)
+    ∷ (ltb 999999 (m .next), refusal.NoTicketLeft)
+    ∷ (ltb 1000000 (planned m n e + wallTime e), refusal.PastHorizon)
+    ∷ [])
+unfolding call submitted
+submit-refusal m n e = let s = planned m n e in judged-refusal m (submitRefusal m n e s) (submitted m n e s) refl ∙ eight-never m n e s
+
+-- 7: "the ended ticket is not running: waiting, over or never given"
+pub complete-refusal : (m : Model) (t : ℕ) → call m (complete t) .reply .refusal ≡ verdict
+    ((not (any (λ (j : Job). isRunning j && eqb (j .ticket) t) (m .jobs)), refusal.NotRunning) ∷ [])
+unfolding call completed advanced completeRefusal
+complete-refusal m t = judged-refusal m (completeRefusal m t) (completed m t) refl
+
+-- 6: "Step ..: the clock would pass it"
+pub tick-refusal : (m : Model) → call m tick .reply .refusal ≡ verdict ((ltb 1000000 (suc (m .clock)), refusal.PastHorizon) ∷ [])
+unfolding call ticked advanced tickRefusal
+tick-refusal m = judged-refusal m (tickRefusal m) (ticked m) refl
+
+-- 10: "the lent list .. is shorter than what goes into it"
+pub profile-refusal : (m : Model) (room : ℕ) → profileRefusal m room ≡ verdict ((ltb room (length (points m)), refusal.TooShort) ∷ [])
+unfolding profileRefusal
+profile-refusal m room = refl

@@ -1,0 +1,437 @@
+-- What holds of every model that openings and calls of conservative backfilling hand back (document 01: "The one premise"), and the
+-- ways in which a call comes out: from these few all laws of single calls are proved.
+-- Assumes nothing.
+use Prim.Native.Nat.{ℕ, suc, _+_, _≤_, _<_}
+use native.Mathlib.Omega.{arith}
+use mathlib.Core.Path.{_≡_, refl, ap}
+use mathlib.Core.Bool.{true, false, not}
+use mathlib.Core.List.{List, [], _∷_, _++_, map, map-append}
+use mathlib.Core.Logic.{_⊎_, inl, inr}
+use lib.Dec.{ltb, eqb}
+use lib.ListN.{length}
+use borrow.Author.Tests.{ltb-false, eqb-true, eqb-false}
+use Rattle.lists.specs.Tests.{case, true-false, le-or}
+use Rattle.lists.specs.Lists.{sum, In, here, there, in-nil, in-cons, in-append, keep-in, sum-append, sum-map, sum-keep, sum-le}
+use Rattle.walltime.specs.Laws.{wallTime-pos}
+use Rattle.spans.specs.declared.Span.{Span}
+use Rattle.spans.specs.Spans.{takes, used, free, earliest, Fits, Earliest}
+use Rattle.spans.specs.UsedNodes.{takes-in, takes-before, takes-after}
+use Rattle.spans.specs.EarliestStart.{earliest-is}
+use Rattle.scheduler.specs.declared.Kind.{Kind}
+use Rattle.scheduler.specs.declared.Kind.the-variants.{Conservative}
+use Rattle.scheduler.specs.declared.Job.{Job}
+use Rattle.scheduler.specs.declared.Refusal.{Refusal}
+use Rattle.scheduler.specs.declared.Refusal.the-variants as refusal
+use Rattle.scheduler.specs.declared.Opening.{Opening}
+use Rattle.scheduler.specs.declared.Select.{Select}
+use Rattle.scheduler.specs.declared.Select.the-variants as select
+use Rattle.scheduler.specs.Jobs.{isWaiting, isRunning, waiting?, running?, live?, held, picks}
+use Rattle.scheduler.specs.Settings.{Settings, horizon, holdTime, until}
+use Rattle.scheduler.specs.Table.{nodesHeld, ticketsOf, staying}
+use Rattle.scheduler.specs.Model.{Model, empty, without}
+use Rattle.scheduler.specs.Answers.{Result, accepts, refuse, refusing}
+use Rattle.scheduler.specs.Refusals.{completeRefusal, tickRefusal}
+use Rattle.scheduler.specs.Opening.{openingRefusal, opening}
+use Rattle.jobs.specs.Order.{asc-same}
+use Rattle.jobs.specs.Judgement.{judged-by}
+use Rattle.jobs.specs.Soundness.{SoundJob, Sound, Fit, opening-sound, passed, submit-fit, sound-join, Leaving, early, in-time, sound-leave}
+use Rattle.history.specs.Calls.{Call, submit, complete, tick, unchanged}
+use Rattle.history.specs.News.{newsOf, clockAfter, nothing, refused-news, unchanged-news}
+use Rattle.conservative_rules.specs.Conservative.{span, spans, planned, stateAt, newJob, withNew, submitRefusal, submitted, placed, advanced, moved, pass, completed, turned, ticked, call}
+
+pub record Valid (m : Model) : Type 0 where
+  pub kind : m .settings .kind ≡ Conservative
+  pub sound : Sound m
+  -- in no minute from now on does the plan take more nodes than there are
+  pub room : (t : ℕ) → m .clock ≤ t → used t (spans (m .settings) (m .jobs)) ≤ m .settings .nodes
+  -- no job is planned for later than promised, and a waiting one for later than now
+  pub promised : (j : Job) → In j (m .jobs) → j .start ≤ j .promise
+  pub ahead : (j : Job) → In j (m .jobs) → isWaiting j ≡ true → m .clock < j .start
+
+-- ## Two lists of jobs, side by side
+
+abbrev pub Zip : (Job → Job → Type 0) → List Job → List Job → Type 0
+Zip R [] [] = Unit {0}
+Zip R [] (k ∷ ks) = ⊥
+Zip R (j ∷ js) [] = ⊥
+Zip R (j ∷ js) (k ∷ ks) = R j k × Zip R js ks
+
+module _ (R : Job → Job → Type 0) where
+  pub zip-map : (Q : Job → Job → Type 0) (js ks : List Job) → ((j k : Job) → In j js → R j k → Q j k) → Zip R js ks → Zip Q js ks
+  zip-map Q [] [] f z = tt
+  zip-map Q [] (k ∷ ks) f z = absurd z
+  zip-map Q (j ∷ js) [] f z = absurd z
+  zip-map Q (j ∷ js) (k ∷ ks) f z = (f j k (here refl) (z .0), zip-map Q js ks (λ x y i. f x y (there i)) (z .1))
+
+  -- whom a job of the second list stands beside, and whom one of the first
+  pub zip-right : (js ks : List Job) {k : Job} → Zip R js ks → In k ks → (j : Job) × In j js × R j k
+  zip-right [] [] z i = in-nil i
+  zip-right [] (y ∷ ys) z i = absurd z
+  zip-right (x ∷ xs) [] z i = absurd z
+  zip-right (x ∷ xs) (y ∷ ys) {k} z i = go (in-cons i) (λ l. zip-right xs ys (z .1) l)
+    where
+      go : (k ≡ y) ⊎ In k ys → (In k ys → (j : Job) × In j xs × R j k) → (j : Job) × In j (x ∷ xs) × R j k
+      go (inl e) f = (x, here refl, rw e (z .0))
+      go (inr l) f = let r = f l in (r .0, there (r .1), r .2)
+
+  pub zip-left : (js ks : List Job) {j : Job} → Zip R js ks → In j js → (k : Job) × In k ks × R j k
+  zip-left [] [] z i = in-nil i
+  zip-left [] (y ∷ ys) z i = absurd z
+  zip-left (x ∷ xs) [] z i = absurd z
+  zip-left (x ∷ xs) (y ∷ ys) {j} z i = go (in-cons i) (λ l. zip-left xs ys (z .1) l)
+    where
+      go : (j ≡ x) ⊎ In j xs → (In j xs → (k : Job) × In k ys × R j k) → (k : Job) × In k (y ∷ ys) × R j k
+      go (inl e) f = (y, here refl, rw e (z .0))
+      go (inr l) f = let r = f l in (r .0, there (r .1), r .2)
+
+  pub zip-length : (js ks : List Job) → Zip R js ks → length ks ≡ length js
+  zip-length [] [] z = refl
+  zip-length [] (k ∷ ks) z = absurd z
+  zip-length (j ∷ js) [] z = absurd z
+  zip-length (j ∷ js) (k ∷ ks) z = ap suc (zip-length js ks (z .1))
+
+  pub zip-tickets : (js ks : List Job) → ((j k : Job) → R j k → k .ticket ≡ j .ticket) → Zip R js ks → ticketsOf js ≡ ticketsOf ks
+  zip-tickets [] [] f z = refl
+  zip-tickets [] (k ∷ ks) f z = absurd z
+  zip-tickets (j ∷ js) [] f z = absurd z
+  zip-tickets (j ∷ js) (k ∷ ks) f z = rw (f j k (z .0), zip-tickets js ks f (z .1))
+
+-- ## What jobs take
+
+module _ (S : Settings) (t : ℕ) where
+  -- the nodes that a job takes in minute t
+  abbrev pub taken : Job → ℕ
+  taken j = takes t (span S j)
+
+  pub used-jobs : (js : List Job) → used t (spans S js) ≡ sum taken js
+  used-jobs js = sum-map (takes t) (span S) js
+
+  pub used-append : (xs ys : List Job) → used t (spans S (xs ++ ys)) ≡ used t (spans S xs) + used t (spans S ys)
+  used-append xs ys = rw (map-append (span S) xs ys) (sum-append (takes t) (spans S xs) (spans S ys))
+
+  pub used-staying : (s : Select) (js : List Job) → used t (spans S (staying s js)) ≤ used t (spans S js)
+  used-staying s js = omega (arith, used-jobs js, used-jobs (staying s js), sum-keep taken (picks s) js)
+
+-- the nodes that run now are taken now
+pub held-used : (S : Settings) (clock : ℕ) (js : List Job) → ((j : Job) → In j js → SoundJob S clock j) → nodesHeld js ≤ used clock (spans S js)
+held-used S clock js f = omega (arith, used-jobs S clock js, sum-le held (taken S clock) js (λ j i. one j (f j i)))
+  where
+    one : (j : Job) → SoundJob S clock j → held j ≤ taken S clock j
+    one j s =
+        case (isRunning j)
+        (λ r. rw r (omega (arith, takes-in clock (span S j) (s .runs r .0) (s .runs r .1))))
+        (λ r. rw r (omega arith))
+
+-- a job put where it fits leaves no minute with more than there is
+pub room-with : (N : ℕ) (xs : List Span) (x : Span) (now n h s : ℕ) → x .from ≡ s → x .until ≡ s + h → x .nodes ≡ n → Earliest (free N xs) now n h s
+    → ((t : ℕ) → now ≤ t → used t xs ≤ N) → (t : ℕ) → now ≤ t → takes t x + used t xs ≤ N
+room-with N xs x now n h s a b c E f t l = go (le-or s t) (le-or (s + h) t)
+  where
+    go : (s ≤ t) ⊎ (t < s) → (s + h ≤ t) ⊎ (t < s + h) → takes t x + used t xs ≤ N
+    go (inr p) q = omega (arith, f t l, takes-before t x (omega arith))
+    go (inl p) (inl q) = omega (arith, f t l, takes-after t x (omega arith))
+    go (inl p) (inr q) = omega (arith, f t l, takes-in t x (omega arith) (omega arith), E .fit t p q)
+
+-- ## What becomes of a job that stays, in a call that leaves the clock at now
+
+pub data Follows (now : ℕ) (j : Job) : Job → Type 0 where
+  -- one that runs is as it was
+  stays : isWaiting j ≡ false → Follows now j j
+  -- one that waits is planned for a minute no later than before, and starts if that is now
+  moves : (s : ℕ) → isWaiting j ≡ true → now ≤ s → s ≤ j .start → Follows now j (placed now s j)
+
+-- a job placed now or later is in order
+state-live : (now s : ℕ) → live? (stateAt now s) ≡ true
+state-live now s = case (eqb s now) (λ e. rw e) (λ e. rw e)
+
+state-runs : (now s : ℕ) → running? (stateAt now s) ≡ true → s ≡ now
+state-runs now s r = case (eqb s now) (λ e. eqb-true s now e) (λ e. true-false false (rw e at r) refl)
+
+state-waits : (now s : ℕ) → now ≤ s → waiting? (stateAt now s) ≡ true → now < s
+state-waits now s l w = case (eqb s now) (λ e. true-false false (rw e at w) refl) (λ e. omega (arith, eqb-false s now e))
+
+pub follows-ticket : (now : ℕ) (j k : Job) → Follows now j k → k .ticket ≡ j .ticket
+follows-ticket now j k (stays e) = refl
+follows-ticket now j k (moves s e a b) = refl
+
+pub follows-promise : (now : ℕ) (j k : Job) → Follows now j k → k .promise ≡ j .promise
+follows-promise now j k (stays e) = refl
+follows-promise now j k (moves s e a b) = refl
+
+pub follows-start : (now : ℕ) (j k : Job) → Follows now j k → k .start ≤ j .start
+follows-start now j k (stays e) = omega arith
+follows-start now j k (moves s e a b) = b
+
+pub follows-ahead : (now : ℕ) (j k : Job) → Follows now j k → isWaiting k ≡ true → now < k .start
+follows-ahead now j k (stays e) w = true-false (isWaiting j) w e
+follows-ahead now j k (moves s e a b) w = state-waits now s a w
+
+-- a job that waits and comes to run has its start now
+pub follows-begins : (now : ℕ) (j k : Job) → Follows now j k → isWaiting j ≡ true → isRunning k ≡ true → k .start ≡ now
+follows-begins now j k (stays e) w r = true-false (isWaiting j) w e
+follows-begins now j k (moves s e a b) w r = state-runs now s r
+
+follows-sound : (S : Settings) (now : ℕ) (j k : Job) → SoundJob S now j → Follows now j k → SoundJob S now k
+follows-sound S now j k o (stays e) = o
+follows-sound S now j k o (moves s e a b) = record {
+  is-live = state-live now s;
+  nodes-from = o .nodes-from;
+  nodes-to = o .nodes-to;
+  estimate-from = o .estimate-from;
+  estimate-to = o .estimate-to;
+  ends = omega (arith, o .ends);
+  runs = λ r. omega (arith, state-runs now s r, wallTime-pos (j .estimate) (o .estimate-from));
+}
+
+-- the jobs after a call, beside those that stay
+pub record Moved (S : Settings) (now : ℕ) (js ks : List Job) : Type 0 where
+  pub follow : Zip (Follows now) js ks
+  pub room : (t : ℕ) → now ≤ t → used t (spans S ks) ≤ S .nodes
+
+-- ## How a call comes out
+
+pub data CameOut (m : Model) : Call → Result → Type 0 where
+  -- refused, or a profile: nothing changes
+  idle : (c : Call) (r : Refusal) → newsOf c (refusing r) ≡ nothing → CameOut m c (refuse m r)
+  -- a submission is taken
+  joins : (n e : ℕ) → Fit m n e → planned m n e + holdTime (m .settings) e ≤ horizon (m .settings) → CameOut m (submit n e) (submitted m n e (planned m n e))
+  -- an early end, or a tick: jobs leave, and those that stay come to be `after`
+  leaves : (c : Call) (clock : ℕ) (s : Select) (after : List Job) → Leaving m clock s → Moved (m .settings) clock (staying s (m .jobs)) after
+      → clockAfter (newsOf c (advanced m clock s after .reply)) (m .clock) ≡ clock → newsOf c (advanced m clock s after .reply) .came ≡ []
+      → CameOut m c (advanced m clock s after)
+
+-- ### The pass of an early end
+
+module _ (S : Settings) (now : ℕ) where
+  pub moved-follows : (others : List Job) (j : Job) → j .nodes ≤ S .nodes → (isWaiting j ≡ true → now < j .start)
+      → ((t : ℕ) → now ≤ t → takes t (span S j) + used t (spans S others) ≤ S .nodes)
+      → Follows now j (moved S now others j) × ((t : ℕ) → now ≤ t → takes t (span S (moved S now others j)) + used t (spans S others) ≤ S .nodes)
+  moved-follows others j l w f = case (isWaiting j) (λ q. rw q (at q)) (λ q. rw q (stays q, f))
+    where
+      h : ℕ
+      h = holdTime S (j .estimate)
+
+      s : ℕ
+      s = earliest (S .nodes) (spans S others) now (j .nodes) h
+
+      E : Earliest (free (S .nodes) (spans S others)) now (j .nodes) h s
+      E = earliest-is (S .nodes) (spans S others) now (j .nodes) h l
+
+      -- where it was it fits still
+      old : now < j .start → Fits (free (S .nodes) (spans S others)) (j .nodes) h (j .start)
+      old b t p q = omega (arith, f t (omega arith), takes-in t (span S j) p q)
+
+      at : isWaiting j ≡ true
+          → Follows now j (placed now s j) × ((t : ℕ) → now ≤ t → takes t (span S (placed now s j)) + used t (spans S others) ≤ S .nodes)
+      at q = (
+        moves s q (E .later) (E .smallest (j .start) (omega (arith, w q)) (old (w q))),
+        room-with (S .nodes) (spans S others) (span S (placed now s j)) now (j .nodes) h s refl refl refl E (λ t a. omega (arith, f t a)),
+      )
+
+  pass-follows : (done js : List Job) → ((j : Job) → In j js → j .nodes ≤ S .nodes) → ((j : Job) → In j js → isWaiting j ≡ true → now < j .start)
+      → ((t : ℕ) → now ≤ t → used t (spans S done) + used t (spans S js) ≤ S .nodes)
+      → Zip (Follows now) js (pass S now done js) × ((t : ℕ) → now ≤ t → used t (spans S done) + used t (spans S (pass S now done js)) ≤ S .nodes)
+  unfolding pass
+  pass-follows done [] l w f = (tt, f)
+  pass-follows done (j ∷ js) l w f =
+      let k : Job = moved S now (done ++ js) j in
+      let one = moved-follows (done ++ js) j (l j (here refl)) (w j (here refl)) (λ t a. omega (arith, f t a, used-append S t done js)) in
+      let rest =
+      pass-follows (k ∷ done) js (λ x i. l x (there i)) (λ x i. w x (there i)) (λ t a. omega (arith, one .1 t a, used-append S t done js)) in
+      ((one .0, rest .0), λ t a. omega (arith, rest .1 t a))
+
+-- ### The turn of a tick
+
+turned-follows : (now : ℕ) (j : Job) → (isWaiting j ≡ true → now ≤ j .start) → Follows now j (turned now j)
+turned-follows now j w = case (isWaiting j) (λ q. rw q (moves (j .start) q (w q) (omega arith))) (λ q. rw q (stays q))
+
+turned-takes : (S : Settings) (now t : ℕ) (j : Job) → takes t (span S (turned now j)) ≡ takes t (span S j)
+turned-takes S now t j = case (isWaiting j) (λ q. rw q) (λ q. rw q)
+
+module _ (S : Settings) (now : ℕ) where
+  turns-follow : (js : List Job) → ((j : Job) → In j js → isWaiting j ≡ true → now ≤ j .start) → Zip (Follows now) js (map (turned now) js)
+  turns-follow [] w = tt
+  turns-follow (j ∷ js) w = (turned-follows now j (w j (here refl)), turns-follow js (λ x i. w x (there i)))
+
+  turns-used : (t : ℕ) (js : List Job) → used t (spans S (map (turned now) js)) ≡ used t (spans S js)
+  turns-used t [] = refl
+  turns-used t (j ∷ js) = omega (arith, turned-takes S now t j, turns-used t js)
+
+-- ### Every call comes out in one of these ways
+
+pub outcome : (m : Model) (c : Call) → Valid m → CameOut m c (call m c)
+unfolding call submitRefusal completeRefusal tickRefusal completed ticked advanced
+outcome m (submit n e) v =
+    let s = planned m n e in
+    judged-by (CameOut m (submit n e)) m (submitRefusal m n e s) (submitted m n e s) (λ a. taken a)
+    (λ a. idle (submit n e) _ (refused-news (submit n e) (submitRefusal m n e s) a))
+  where
+    taken : accepts (submitRefusal m n e (planned m n e)) ≡ true → CameOut m (submit n e) (submitted m n e (planned m n e))
+    taken a =
+        let f = submit-fit m n e _ a in
+        let b = passed (ltb (horizon (m .settings)) (planned m n e + holdTime (m .settings) e)) refusal.PastHorizon _ refl (f .1) in
+        joins n e (f .0) (ltb-false (horizon (m .settings)) (planned m n e + holdTime (m .settings) e) (b .0))
+outcome m (complete t) v =
+    judged-by (CameOut m (complete t)) m (completeRefusal m t) (completed m t) (λ a. taken)
+    (λ a. idle (complete t) _ (refused-news (complete t) (completeRefusal m t) a))
+  where
+    S : Settings
+    S = m .settings
+
+    u : Select
+    u = select.RunningTicket t
+
+    js : List Job
+    js = staying u (m .jobs)
+
+    in-all : (j : Job) → In j js → In j (m .jobs)
+    in-all j i = keep-in (λ (j : Job). not (picks u j)) (m .jobs) i .0
+
+    taken : CameOut m (complete t) (completed m t)
+    taken =
+        let p = pass-follows S (m .clock) [] js (λ j i. v .sound .each j (in-all j i) .nodes-to) (λ j i. v .ahead j (in-all j i))
+        (λ r a. omega (arith, v .room r a, used-staying S r u (m .jobs))) in
+        leaves (complete t) (m .clock) u (pass S (m .clock) [] js) (early t) (record { follow = p .0; room = λ r a. omega (arith, p .1 r a) }) refl refl
+outcome m tick v =
+    judged-by (CameOut m tick) m (tickRefusal m) (ticked m) (λ a. taken a) (λ a. idle tick _ (refused-news tick (tickRefusal m) a))
+  where
+    S : Settings
+    S = m .settings
+
+    now : ℕ
+    now = suc (m .clock)
+
+    u : Select
+    u = select.EndingAt now
+
+    js : List Job
+    js = staying u (m .jobs)
+
+    in-all : (j : Job) → In j js → In j (m .jobs)
+    in-all j i = keep-in (λ (j : Job). not (picks u j)) (m .jobs) i .0
+
+    taken : accepts (tickRefusal m) ≡ true → CameOut m tick (ticked m)
+    taken a =
+        let b = passed (ltb (horizon S) now) refusal.PastHorizon [] refl a in
+        leaves tick now u (map (turned now) js) (in-time (ltb-false (horizon S) now (b .0)))
+        (record {
+          follow = turns-follow S now js (λ j i w. v .ahead j (in-all j i) w);
+          room = λ t l. omega (arith, v .room t (omega arith), used-staying S t u (m .jobs), turns-used S now t js);
+        })
+        refl refl
+outcome m (unchanged r) v = idle (unchanged r) r (unchanged-news r r)
+
+-- ## Every model handed back is valid
+
+empty-valid : (k : Kind) (n c t : ℕ) → k ≡ Conservative → Sound (empty k n c t) → Valid (empty k n c t)
+empty-valid k n c t e s = record {
+  kind = e;
+  sound = s;
+  room = λ t a. omega arith;
+  promised = λ j i. in-nil i;
+  ahead = λ j i w. in-nil i;
+}
+
+pub opening-valid : (o : Opening) → o .kind ≡ Conservative → Valid (opening o)
+unfolding opening
+opening-valid o k =
+    case (accepts (openingRefusal o))
+    (λ e. rw e (empty-valid (o .kind) (o .nodes) (o .minute) (o .ticket) k (rw e at (opening-sound o))))
+    (λ e. rw e (empty-valid (o .kind) 1 0 1 k (rw e at (opening-sound o))))
+
+joins-valid : (m : Model) (n e : ℕ) → Valid m → Fit m n e → planned m n e + holdTime (m .settings) e ≤ horizon (m .settings) → Valid (withNew m n e (planned m n e))
+unfolding planned
+joins-valid m n e v f l = record {
+  kind = v .kind;
+  sound = sound-join m n e j (v .sound) f one refl (omega (arith, held-used S now (m .jobs ++ (j ∷ [])) each, sum-append held (m .jobs) (j ∷ []), room now (omega arith)));
+  room = room;
+  promised = λ k i. by-place (λ (x : Job). x .start ≤ x .promise) (v .promised) (omega arith) k i;
+  ahead = λ k i. by-place (λ (x : Job). isWaiting x ≡ true → now < x .start) (v .ahead) (λ w. state-waits now s (E .later) w) k i;
+}
+  where
+    S : Settings
+    S = m .settings
+
+    now : ℕ
+    now = m .clock
+
+    s : ℕ
+    s = planned m n e
+
+    j : Job
+    j = newJob m n e s
+
+    E : Earliest (free (S .nodes) (spans S (m .jobs))) now n (holdTime S e) s
+    E = earliest-is (S .nodes) (spans S (m .jobs)) now n (holdTime S e) (f .nodes-to)
+
+    room : (t : ℕ) → now ≤ t → used t (spans S (m .jobs ++ (j ∷ []))) ≤ S .nodes
+    room t a = omega (arith, used-append S t (m .jobs) (j ∷ []), room-with (S .nodes) (spans S (m .jobs)) (span S j) now n (holdTime S e) s refl refl refl E (v .room) t a)
+
+    one : SoundJob S now j
+    one = record {
+      is-live = state-live now s;
+      nodes-from = f .nodes-from;
+      nodes-to = f .nodes-to;
+      estimate-from = f .estimate-from;
+      estimate-to = f .estimate-to;
+      ends = l;
+      runs = λ r. omega (arith, state-runs now s r, wallTime-pos e (f .estimate-from));
+    }
+
+    by-place : (P : Job → Type 0) → ((k : Job) → In k (m .jobs) → P k) → P j → (k : Job) → In k (m .jobs ++ (j ∷ [])) → P k
+    by-place P g p k i = go (in-append (m .jobs) i)
+      where
+        last : (k ≡ j) ⊎ In k [] → P k
+        last (inl e) = rw e p
+        last (inr u) = in-nil u
+
+        go : In k (m .jobs) ⊎ In k (j ∷ []) → P k
+        go (inl u) = g k u
+        go (inr u) = last (in-cons u)
+
+    each : (k : Job) → In k (m .jobs ++ (j ∷ [])) → SoundJob S now k
+    each k i = by-place (SoundJob S now) (v .sound .each) one k i
+
+leaves-valid : (m : Model) (c : ℕ) (s : Select) (ks : List Job) → Valid m → Leaving m c s → Moved (m .settings) c (staying s (m .jobs)) ks
+    → Valid (record { settings = m .settings; clock = c; next = m .next; jobs = ks })
+leaves-valid m c s ks v l g = record {
+  kind = v .kind;
+  sound = record {
+    nodes-from = old .nodes-from;
+    nodes-to = old .nodes-to;
+    clock-to = old .clock-to;
+    next-from = old .next-from;
+    next-to = old .next-to;
+    few = omega (arith, old .few, zip-length (Follows c) js ks (g .follow));
+    asc = asc-same 1 js ks (zip-tickets (Follows c) js ks (follows-ticket c) (g .follow)) (old .asc);
+    below = λ k i. let b = beside k i in omega (arith, old .below (b .0) (b .1), follows-ticket c (b .0) k (b .2));
+    each = each;
+    capacity = omega (arith, held-used (m .settings) c ks each, g .room c (omega arith));
+  };
+  room = g .room;
+  promised = λ k i.
+      let b = beside k i in
+      omega (arith, v .promised (b .0) (keep-in (λ (j : Job). not (picks s j)) (m .jobs) (b .1) .0), follows-start c (b .0) k (b .2), follows-promise c (b .0) k (b .2));
+  ahead = λ k i w. let b = beside k i in follows-ahead c (b .0) k (b .2) w;
+}
+  where
+    js : List Job
+    js = staying s (m .jobs)
+
+    old : Sound (without m c s)
+    old = sound-leave m c s (v .sound) l
+
+    beside : (k : Job) → In k ks → (j : Job) × In j js × Follows c j k
+    beside k i = zip-right (Follows c) js ks (g .follow) i
+
+    each : (k : Job) → In k ks → SoundJob (m .settings) c k
+    each k i = let b = beside k i in follows-sound (m .settings) c (b .0) k (old .each (b .0) (b .1)) (b .2)
+
+outcome-valid : (m : Model) {c : Call} {r : Result} → Valid m → CameOut m c r → Valid (r .model)
+unfolding submitted advanced
+outcome-valid m v (idle c r n) = v
+outcome-valid m v (joins n e f l) = joins-valid m n e v f l
+outcome-valid m v (leaves c clock s after l g p q) = leaves-valid m clock s after v l g
+
+pub call-valid : (m : Model) (c : Call) → Valid m → Valid (call m c .model)
+call-valid m c v = outcome-valid m v (outcome m c v)

@@ -1,0 +1,48 @@
+-- `conservative_plan::move_to` meets its contract: the job's span shifts to the place found.
+-- Assumes nothing.
+use native.Mathlib.Omega.{arith}
+use Rattle.walltime.specs.Laws.{wallTime-le}
+use Rattle.conservative_plan.specs.Replan.{start-of, start-to, shifts, turned-moves}
+use borrow.Author.Needs.{needs}
+use Rattle.conservative_plan.proofs.move_to.Statement.{statement}
+use Rattle.conservative_plan.proofs.move_to.Tie as tie
+
+mul-start : tie.Need-mul-start
+mul-start c = search needs
+
+element-copy-out-start : tie.Need-element-copy-out-start
+element-copy-out-start c = search needs
+
+span-requires : tie.Need-span-requires
+span-requires c κs =
+    let s = c .before in
+    (omega (arith, start-of (s .pre .replans)), omega (arith, s .pre .hold-is, wallTime-le (s .args .job .estimate)))
+
+span-requires-2 : tie.Need-span-requires-2
+span-requires-2 c κs =
+    let s = c .before .before in
+    (omega (arith, start-to (s .pre), start-of (s .pre .replans)), omega (arith, s .pre .hold-is, wallTime-le (s .args .job .estimate)))
+
+shift-requires : tie.Need-shift-requires
+shift-requires c κs = rw (c .before .before .before .span .ensures, c .before .before .span2 .ensures) (shifts (c .before .before .before .before .before .pre))
+
+place-requires : tie.Need-place-requires
+place-requires c κs = search needs
+
+returns : tie.Need-returns
+returns c =
+    let u = c .before .before .before .before .before .span .ensures in
+    let v = c .before .before .before .before .span2 .ensures in
+    λ m. rw (c .place .ensures) (turned-moves m (rw (u, v) at (c .before .shift .ensures)))
+
+pub move-to-spec : {M : Type 1} → statement M
+move-to-spec =
+    tie.close
+    (tie.spec
+    mul-start
+    element-copy-out-start
+    span-requires
+    span-requires-2
+    shift-requires
+    place-requires
+    returns)

@@ -1,0 +1,104 @@
+-- `conservative_plan::tabulate` meets its contract: the slots passed are laid over the idle machine.
+-- Assumes nothing.
+use mathlib.Core.Path.{_≡_, sym, _∙_}
+use mathlib.Core.Logic.{⊎-elim}
+use Prim.Native.Nat.{_-_, _≤_, _<_}
+use native.Mathlib.Omega.{arith}
+use lib.ListN.{getD}
+use Rattle.walltime.specs.Laws.{wallTime-le}
+use Rattle.scheduler.specs.Jobs.{unused}
+use Rattle.scheduler.specs.Model.{view}
+use Rattle.conservative_plan.specs.PlannedSlots.{Laying, HoldsTo, held-slots, start-low, laying-begin, holds-none, holds-more, holds-skip, lay, laid-more, laid-unused, laid-all}
+use borrow.Author.Needs.{needs}
+use Rattle.conservative_plan.proofs.tabulate.Statement.{statement}
+use Rattle.conservative_plan.proofs.tabulate.Tie as tie
+
+abbrev Inv-loop : tie.InvT-loop
+Inv-loop minutes₀ free₀ holds₀ d count₀ i₀ minutes free holds count i = (i ≤ 64) × Laying (view d .settings) (d .clock) (d .jobs) i count minutes free × HoldsTo (d .jobs) i holds
+
+abbrev μ-loop : tie.MeasureT-loop
+μ-loop minutes₀ free₀ holds₀ d count₀ i₀ minutes free holds count i = 64 - i
+
+idle-requires : tie.Need-idle-requires Inv-loop μ-loop
+idle-requires c κs = (c .before .before .pre .1, c .before .before .pre .2)
+
+loop-holds : tie.Need-loop-holds Inv-loop μ-loop
+unfolding view
+loop-holds c =
+    let s = c .before .before .before in
+    (omega arith, laying-begin (held-slots (s .args .t1) (s .pre .0)) _ _ (c .idle .ensures), holds-none (s .args .t1 .jobs) _ (s .pre .3))
+
+mul-j : tie.Need-mul-j Inv-loop μ-loop
+mul-j c = search needs
+
+element-copy-out-j : tie.Need-element-copy-out-j Inv-loop μ-loop
+element-copy-out-j c = search needs
+
+is-live-requires : tie.Need-is-live-requires Inv-loop μ-loop
+is-live-requires c κs = search needs
+
+wall-time-requires : tie.Need-wall-time-requires Inv-loop μ-loop
+wall-time-requires c κs = search needs
+
+mul-holds : tie.Need-mul-holds Inv-loop μ-loop
+mul-holds c = search needs
+
+element-write-holds : tie.Need-element-write-holds Inv-loop μ-loop
+element-write-holds c = search needs
+
+span-requires : tie.Need-span-requires Inv-loop μ-loop
+span-requires c κs =
+    let s = c .before .before .before .before .before .before .before .before .before .before .before in
+    (start-low (held-slots (s .args .t1) (s .pre .0)) (c .before .before .before .before .before .before .before .loop .i) (omega arith), omega (arith, c .before .before .wall-time .ensures, wallTime-le (getD (s .args .t1 .jobs) (c .before .before .before .before .before .before .before .loop .i) unused .estimate)))
+
+lay-requires : tie.Need-lay-requires Inv-loop μ-loop
+lay-requires c κs =
+    let s = c .before .before .before .before .before .before .before .before .before .before .before .before in
+    let l = c .before .before .before .before .before .before .before .before .loop in
+    rw (c .span .ensures, c .before .before .before .wall-time .ensures) (lay (held-slots (s .args .t1) (s .pre .0)) {i = l .i} (omega arith) (l .inv .1))
+
+add-i : tie.Need-add-i Inv-loop μ-loop
+add-i c = search needs
+
+loop-less : tie.Need-loop-less Inv-loop μ-loop
+loop-less c = search needs
+
+loop-again : tie.Need-loop-again Inv-loop μ-loop
+loop-again c =
+    let s = c .before .before .before .before .before .before .before .before in
+    let l = c .before .before .before .before .loop in
+    let q = held-slots (s .args .t1) (s .pre .0) in
+    let h : l .i < 64 = omega arith in
+    let e = c .before .is-live .ensures in
+    ⊎-elim
+    (λ w. rw (w .6, w .7, w .8, w .9) (omega arith, laid-more q {i = l .i} h (l .inv .1) (rw (w .4 .ensures, w .1 .ensures) at (w .5 .ensures)), rw (w .1 .ensures) (holds-more (l .inv .2) h)))
+    (λ w. rw (w .1, w .2, w .3, w .4) (omega arith, laid-unused q {i = l .i} h (l .inv .1) (sym e ∙ w .0 .left), holds-skip (l .inv .2) (sym e ∙ w .0 .left)))
+    (c .if1 .came)
+
+returns : tie.Need-returns Inv-loop μ-loop
+returns c =
+    let s = c .before .before .before .before .before in
+    let l = c .before .loop in
+    let i-is : l .i ≡ 64 = omega arith in
+    (laid-all (s .args .t1) (s .pre .0) (rw i-is at (l .inv .1)), rw i-is at (l .inv .2))
+
+pub tabulate-spec : {M : Type 1} → statement M
+tabulate-spec =
+    tie.close
+    (tie.spec
+    Inv-loop
+    μ-loop
+    idle-requires
+    loop-holds
+    mul-j
+    element-copy-out-j
+    is-live-requires
+    wall-time-requires
+    mul-holds
+    element-write-holds
+    span-requires
+    lay-requires
+    add-i
+    loop-less
+    loop-again
+    returns)

@@ -1,0 +1,4 @@
+pub mod PlannedSlots
+pub mod EarliestStart
+pub mod Replan
+pub mod Pass

@@ -1,0 +1,191 @@
+// Where conservative backfilling places jobs: the plan of a scheduler as a table of free nodes, the earliest start of a job in it, the pass
+// in which waiting jobs move forward after an early completion, and the profile. The calls are in `conservative`.
+ghost use mathlib.Core.Path.{_≡_};
+ghost use mathlib.Core.List.{[]};
+ghost use Prim.Native.Nat.{_≤_};
+ghost use lib.ListN.{length};
+ghost use Rattle.walltime.specs.WallTime.{wallTime};
+ghost use Rattle.scheduler.specs.Limits.{horizon, longest, slots};
+ghost use Rattle.scheduler.specs.Table.{withJobs};
+ghost use Rattle.scheduler.specs.Model.{view};
+ghost use Rattle.jobs.specs.Premise.{Holds};
+ghost use Rattle.conservative_rules.specs.Conservative.{placed, points, pass};
+ghost use Rattle.conservative_table.specs.ListChanges.{rows};
+ghost use Rattle.conservative_profile.specs.StoredProfile.{stored};
+ghost use Rattle.conservative_plan.specs.PlannedSlots.{spanAt, Planned, Tabulated, HoldsTo};
+ghost use Rattle.conservative_plan.specs.EarliestStart.{Askable, startFor};
+ghost use Rattle.conservative_plan.specs.Replan.{Replans, Moves, TurnDone};
+ghost use Rattle.conservative_plan.specs.Pass.{Replannable};
+use conservative_profile::Profile;
+use scheduler::Job;
+use scheduler::Scheduler;
+use scheduler::State;
+
+// So many nodes, from a minute on for so long.
+fn span(nodes: u32, from: u32, hold: u32) -> spans::Span
+    requires { ⌜ (from ≤ horizon) × (hold ≤ longest) ⌝ }
+    ensures { λ r. ⌜ r ≡ spanAt nodes from hold ⌝ }
+{
+    spans::Span {
+        from: from,
+        until: from + hold,
+        nodes: nodes,
+    }
+}
+
+// The free nodes from now on, as a table: each live job's span is laid over the idle machine's. Their wall times are kept for later.
+fn tabulate(
+    d: Scheduler,
+    minutes: &mut [u32; 385],
+    free: &mut [u32; 385],
+    holds: &mut [u32; 64],
+) -> usize
+    requires { ⌜ Holds Planned d × (length (now minutes) ≡ rows) × (length (now free) ≡ rows) × (length (now holds) ≡ slots) ⌝ }
+    ensures { λ r. ⌜ Tabulated d r (now (minutes .exit)) (now (free .exit)) × HoldsTo (d .jobs) slots (now (holds .exit)) ⌝ }
+{
+    conservative_table::idle(minutes, free, d.nodes, d.clock);
+    let mut count: usize = 1;
+    let mut i: usize = 0;
+    while i < Scheduler::LIVE {
+        let j = d.jobs[i];
+        if j.is_live() {
+            let hold = walltime::wall_time(j.estimate);
+            holds[i] = hold;
+            count = conservative_table::lay(
+                minutes,
+                free,
+                count,
+                span(j.nodes, j.start, hold),
+                false,
+            );
+        }
+        i += 1;
+    }
+    count
+}
+
+// The profile: the points of the table.
+pub fn profile_of(d: Scheduler) -> Profile
+    requires { ⌜ Holds Planned d ⌝ }
+    ensures { λ r. ⌜ r ≡ stored (points (view d)) ⌝ }
+{
+    let mut minutes = [0u32; 385];
+    let mut free = [0u32; 385];
+    let mut holds = [0u32; 64];
+    let count = tabulate(d, &mut minutes, &mut free, &mut holds);
+    Profile::of(&minutes, &free, count)
+}
+
+// The earliest minute, now or later, from which on so many nodes are free for so long.
+pub fn earliest(d: Scheduler, nodes: u32, hold: u32) -> u32
+    requires { ⌜ Askable d nodes hold ⌝ }
+    ensures { λ r. ⌜ r ≡ startFor (view d) nodes hold ⌝ }
+{
+    let mut minutes = [0u32; 385];
+    let mut free = [0u32; 385];
+    let mut holds = [0u32; 64];
+    let count = tabulate(d, &mut minutes, &mut free, &mut holds);
+    let at = conservative_table::search(&minutes, &free, count - 1, nodes, hold);
+    minutes[at]
+}
+
+// The job with the planned start s; it runs if that is now.
+pub fn place(job: Job, now: u32, s: u32) -> Job
+    ensures { λ r. ⌜ r ≡ placed now s job ⌝ }
+{
+    if s == now {
+        return Job {
+            ticket: job.ticket,
+            nodes: job.nodes,
+            estimate: job.estimate,
+            state: State::Running,
+            start: s,
+            promise: job.promise,
+        };
+    }
+    Job {
+        ticket: job.ticket,
+        nodes: job.nodes,
+        estimate: job.estimate,
+        state: State::Waiting,
+        start: s,
+        promise: job.promise,
+    }
+}
+
+// A job at its place, and how many places the table with it there has.
+pub struct Replanned {
+    pub job: Job,
+    pub count: usize,
+}
+
+// A waiting job, which stands in its own place of the table, is taken out and put in again from an earlier place on.
+fn move_to(
+    job: Job,
+    hold: u32,
+    clock: u32,
+    minutes: &mut [u32; 385],
+    free: &mut [u32; 385],
+    own: conservative_table::Row,
+    at: usize,
+) -> Replanned
+    requires { ⌜ Moves (now minutes) (now free) own at job hold clock ⌝ }
+    ensures { λ r. ⌜ ((m : Moves (now (minutes .entry)) (now (free .entry)) own at job hold clock) → TurnDone (m .replans) r (now (minutes .exit)) (now (free .exit))) ⌝ }
+{
+    let start = minutes[at];
+    let before = span(job.nodes, job.start, hold);
+    let after = span(job.nodes, start, hold);
+    let count = conservative_table::shift(minutes, free, own, before, at, after);
+    Replanned {
+        job: place(job, clock, start),
+        count: count,
+    }
+}
+
+// A waiting job is taken out of the plan and put in again at its smallest minute, if that is another.
+fn replan(
+    job: Job,
+    hold: u32,
+    clock: u32,
+    minutes: &mut [u32; 385],
+    free: &mut [u32; 385],
+    count: usize,
+) -> Replanned
+    requires { ⌜ Replans (now minutes) (now free) count job clock × (hold ≡ wallTime (job .estimate)) ⌝ }
+    ensures { λ r. ⌜ ((q : Replans (now (minutes .entry)) (now (free .entry)) count job clock) → TurnDone q r (now (minutes .exit)) (now (free .exit))) ⌝ }
+{
+    let own = conservative_table::split(minutes, free, 1, count, job.start);
+    let at = conservative_table::search(minutes, free, own.at, job.nodes, hold);
+    if at == own.at {
+        return Replanned {
+            job: job,
+            count: own.count,
+        };
+    }
+    move_to(job, hold, clock, minutes, free, own, at)
+}
+
+// Each waiting job, once, in ticket order, is taken out of the plan and put in again, the others staying at their places.
+pub fn replan_all(d: Scheduler) -> Scheduler
+    requires { ⌜ Holds Replannable d ⌝ }
+    ensures { λ r. ⌜ r ≡ withJobs d (pass (view d .settings) (d .clock) [] (d .jobs)) ⌝ }
+{
+    let clock = d.clock;
+    let mut minutes = [0u32; 385];
+    let mut free = [0u32; 385];
+    let mut holds = [0u32; 64];
+    let mut count = tabulate(d, &mut minutes, &mut free, &mut holds);
+    let mut e = d;
+    let mut i: usize = 0;
+    while i < Scheduler::LIVE {
+        let j = e.jobs[i];
+        if j.is_waiting() {
+            let t = replan(j, holds[i], clock, &mut minutes, &mut free, count);
+            let k = t.job;
+            e.jobs[i] = k;
+            count = t.count;
+        }
+        i += 1;
+    }
+    e
+}

@@ -1,0 +1,2 @@
+pub mod StoredProfile
+pub mod TablePoints

@@ -1,0 +1,26 @@
+-- `conservative_table::idle` meets its contract: from now on every node is free.
+-- Assumes nothing.
+use mathlib.Core.Path.{_∙_}
+use native.Mathlib.Omega.{arith}
+use lib.ListN.{length-set}
+use lib.Seq.{getD-set-same}
+use borrow.Author.Needs.{needs}
+use Rattle.conservative_table.proofs.idle.Statement.{statement}
+use Rattle.conservative_table.proofs.idle.Tie as tie
+
+element-write-minutes : tie.Need-element-write-minutes
+element-write-minutes c = search needs
+
+element-write-free : tie.Need-element-write-free
+element-write-free c = search needs
+
+returns : tie.Need-returns
+returns c = record {
+  minutes-long = length-set (c .args .minutes .now) 0 (c .args .minute) ∙ c .pre .0;
+  free-long = length-set (c .args .free .now) 0 (c .args .nodes) ∙ c .pre .1;
+  minute = getD-set-same (c .args .minutes .now) 0 (c .args .minute) 0 (omega (arith, c .pre .0));
+  left = getD-set-same (c .args .free .now) 0 (c .args .nodes) 0 (omega (arith, c .pre .1));
+}
+
+pub idle-spec : {M : Type 1} → statement M
+idle-spec = tie.close (tie.spec element-write-minutes element-write-free returns)

@@ -1,0 +1,86 @@
+-- `conservative_table::place_after` meets its contract: the place sought stays between the two bounds.
+-- Assumes nothing.
+use Prim.Native.Nat.{ℕ, _+_, _-_, _≤_, _<_}
+use native.Mathlib.Omega.{arith}
+use mathlib.Core.Path.{_≡_, ap}
+use mathlib.Core.List.{List}
+use lib.ListN.{getD}
+use Rattle.conservative_table.specs.Table.{Place}
+use borrow.Author.Needs.{needs}
+use Rattle.conservative_table.proofs.place_after.Statement.{statement}
+use Rattle.conservative_table.proofs.place_after.Tie as tie
+
+record Inv (ms : List ℕ) (n t low high : ℕ) : Type 0 where
+  some : 1 ≤ low
+  order : low ≤ high
+  inside : high ≤ n
+  last : getD ms (low - 1) 0 ≤ t
+  next : high < n → t < getD ms high 0
+
+above : {ms : List ℕ} {n t low high : ℕ} (mid : ℕ) → mid < high → getD ms mid 0 ≤ t → Inv ms n t low high → Inv ms n t (mid + 1) high
+above {ms} mid l h v =
+    let e : mid + 1 - 1 ≡ mid = omega arith in
+    record { some = omega arith; order = omega arith; inside = v .inside; last = omega (arith, ap (λ (k : ℕ). getD ms k 0) e); next = v .next }
+
+found : {ms : List ℕ} {n t low high : ℕ} → high ≤ low → Inv ms n t low high → Place ms n t low
+found {ms} {low = low} {high = high} l v =
+    let e : low ≡ high = omega (arith, v .order) in
+    record {
+      some = v .some;
+      low = omega (arith, v .inside, v .order);
+      last = v .last;
+      next = λ k. omega (arith, v .next (omega arith), ap (λ (k : ℕ). getD ms k 0) e);
+    }
+
+abbrev Inv-loop : tie.InvT-loop
+Inv-loop minutes first count t low₀ high₀ low high = Inv minutes count t low high
+
+abbrev μ-loop : tie.MeasureT-loop
+μ-loop minutes first count t low₀ high₀ low high = high - low
+
+loop-holds : tie.Need-loop-holds Inv-loop μ-loop
+loop-holds c = search needs
+
+add-mid : tie.Need-add-mid Inv-loop μ-loop
+add-mid c = search needs
+
+mul-if1 : tie.Need-mul-if1 Inv-loop μ-loop
+mul-if1 c = search needs
+
+element-copy-out-if1 : tie.Need-element-copy-out-if1 Inv-loop μ-loop
+element-copy-out-if1 c = search needs
+
+add-low : tie.Need-add-low Inv-loop μ-loop
+add-low c = search needs
+
+loop-less : tie.Need-loop-less Inv-loop μ-loop
+loop-less c = search needs
+
+loop-again : tie.Need-loop-again Inv-loop μ-loop
+loop-again c = above _ (omega arith) (omega arith) (c .before .before .before .loop .inv)
+
+loop-less-2 : tie.Need-loop-less-2 Inv-loop μ-loop
+loop-less-2 c = search needs
+
+loop-again-2 : tie.Need-loop-again-2 Inv-loop μ-loop
+loop-again-2 c = search needs
+
+returns : tie.Need-returns Inv-loop μ-loop
+returns c = found (omega arith) (c .before .loop .inv)
+
+pub place-after-spec : {M : Type 1} → statement M
+place-after-spec =
+    tie.close
+    (tie.spec
+    Inv-loop
+    μ-loop
+    loop-holds
+    add-mid
+    mul-if1
+    element-copy-out-if1
+    add-low
+    loop-less
+    loop-again
+    loop-less-2
+    loop-again-2
+    returns)

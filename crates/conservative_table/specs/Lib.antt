@@ -1,0 +1,4 @@
+pub mod ListChanges
+pub mod Table
+pub mod LaidSpans
+pub mod Search

@@ -1,0 +1,272 @@
+-- The survey of the records: one slot more, its end, and the lists that it leaves.
+-- Assumes nothing.
+use Prim.Native.Nat.{ℕ, zero, suc, _+_, _-_, _≤_, _<_}
+use native.Mathlib.Omega.{arith}
+use native.Mathlib.Numerals.{add-one}
+use mathlib.Core.Path.{_≡_, refl, sym, ap, subst, _∙_}
+use mathlib.Core.Bool.{Bool, true, false}
+use mathlib.Core.List.{List, [], _∷_, _++_, map, map-append, append-assoc, append-nil}
+use mathlib.Core.Logic.{_⊎_, inl, inr}
+use lib.ListN.{length, getD, set, take, drop, replicate, length-map, length-append, List·getD-append, drop-of-length-le}
+use lib.Seq.{take-all, take-suc, drop-cons, set-at, getD-at, length-take-le}
+use Rattle.lists.specs.Tests.{case, on}
+use Rattle.lists.specs.Lists.{In, keep, sum, in-append, in-cons, in-nil, keep-in, keep-all, sum-append, length-keep-le}
+use Rattle.lists.specs.Loops.{keep-take-yes, keep-take-no}
+use Rattle.lists.specs.Pads.{pad, keep-pad, sum-pad, pad-push, pad-set}
+use Rattle.scheduler.specs.declared.Job.{Job}
+use Rattle.scheduler.specs.declared.Scheduler.{Scheduler}
+use Rattle.scheduler.specs.Limits.{slots}
+use Rattle.scheduler.specs.Jobs.{unused, isWaiting, isRunning, held}
+use Rattle.scheduler.specs.Table.{ticketOf, nodesHeld}
+use Rattle.scheduler.specs.Model.{store, view}
+use Rattle.scheduler.specs.TableLaws.{nodesHeld-stored}
+use Rattle.jobs.specs.Order.{asc-keep}
+use Rattle.jobs.specs.Soundness.{Sound}
+use Rattle.jobs.specs.Premise.{Holds}
+use Rattle.jobs.specs.Slots.{slots-are}
+use Rattle.easy_rules.specs.Easy.{queue, free}
+use Rattle.easy_laws.specs.Settling.{idle}
+use Rattle.easy_laws.specs.Validity.{Ready}
+use Rattle.easy_engine.specs.Survey.{Column, Blank, nodesOf, startOf, estimateOf, endOf, asks, running, WaitingColumns, Surveyed, SlotColumn, Passed, StartsInTime}
+use Rattle.easy_engine.specs.Columns.{column-push}
+
+-- a list of zeros
+pub blank : Blank (replicate slots 0)
+unfolding pad
+blank = refl
+
+-- ## Sums over the first slots
+
+sum-first : (f : Job → ℕ) (xs : List Job) (i : ℕ) → i < length xs → sum f (take (i + 1) xs) ≡ sum f (take i xs) + f (getD xs i unused)
+sum-first f xs i l = rw (add-one, take-suc xs i unused l) (omega (arith, sum-append f (take i xs) (getD xs i unused ∷ [])))
+
+sum-within : (f : Job → ℕ) (xs : List Job) (i : ℕ) → sum f (take i xs) ≤ sum f xs
+sum-within f xs zero = omega arith
+sum-within f [] (suc i) = omega arith
+sum-within f (x ∷ xs) (suc i) = omega (arith, sum-within f xs i)
+
+pub sum-those : (f : Job → ℕ) (p : Job → Bool) (xs : List Job) → sum f (keep p xs) ≡ sum (λ (j : Job). on (p j) (f j)) xs
+sum-those f p [] = refl
+sum-those f p (x ∷ xs) = case (p x) (λ e. rw e (omega (arith, sum-those f p xs))) (λ e. rw e (omega (arith, sum-those f p xs)))
+
+-- ## One slot more
+
+module _ {d : Scheduler} {r w spare : ℕ} {heldₗ starts terms asked estimates tickets places : List ℕ} (i : ℕ)
+    (v : Passed d (take i (d .jobs)) r w spare heldₗ starts terms asked estimates tickets places) (l : i < 64) (len : length (d .jobs) ≡ 64) where
+  abbrev xs : List Job
+  xs = d .jobs
+
+  abbrev x : Job
+  x = getD xs i unused
+
+  inside : i < length xs
+  inside = omega arith
+
+  pub few-so-far : (r < slots) × (w < slots)
+  few-so-far =
+      let t = length-take-le i xs (omega arith) in
+      omega (arith, v .running-is, v .waiting-is, length-keep-le isRunning (take i xs), length-keep-le isWaiting (take i xs))
+
+  -- it waits
+  module _ (e : isWaiting x ≡ true) where
+    pub waits-next : Passed d (take (i + 1) xs) r (w + 1) spare heldₗ starts terms (set asked w (x .nodes)) (set estimates w (x .estimate)) (set tickets w (x .ticket)) (set places w i)
+    waits-next =
+        let q : queue (take (i + 1) xs) ≡ queue (take i xs) ++ (x ∷ []) = keep-take-yes unused isWaiting xs i inside e in
+        let k : running (take (i + 1) xs) ≡ running (take i xs) = keep-take-no unused isRunning xs i inside (idle x e) in
+        let z : held x ≡ 0 = rw (idle x e) in
+        let w′ = few-so-far .1 in
+        record {
+          running-is = ap length k ∙ v .running-is;
+          held-is = subst (λ (js : List Job). Column nodesOf js heldₗ) (sym k) (v .held-is);
+          starts-are = subst (λ (js : List Job). Column startOf js starts) (sym k) (v .starts-are);
+          terms-are = subst (λ (js : List Job). Column estimateOf js terms) (sym k) (v .terms-are);
+          spare-is = omega (arith, v .spare-is, sum-first held xs i inside);
+          waiting-is = ap length q ∙ length-append (queue (take i xs)) (x ∷ []) ∙ ap (λ (n : ℕ). n + 1) (v .waiting-is);
+          asked-is = subst (λ (js : List Job). Column nodesOf js (set asked w (x .nodes))) (sym q) (column-push nodesOf (queue (take i xs)) asked (v .asked-is) x w (x .nodes) (v .waiting-is) w′ refl);
+          estimates-are = subst (λ (js : List Job). Column estimateOf js (set estimates w (x .estimate))) (sym q) (column-push estimateOf (queue (take i xs)) estimates (v .estimates-are) x w (x .estimate) (v .waiting-is) w′ refl);
+          tickets-are = subst (λ (js : List Job). Column ticketOf js (set tickets w (x .ticket))) (sym q) (column-push ticketOf (queue (take i xs)) tickets (v .tickets-are) x w (x .ticket) (v .waiting-is) w′ refl);
+          slots-are = subst (λ (js : List Job). SlotColumn xs js (set places w i)) (sym q) (more (v .slots-are));
+        }
+      where
+        below : {ks : List ℕ} (k : ℕ) → ((n : ℕ) → In n ks → n < slots) → In k ks ⊎ In k (i ∷ []) → k < slots
+        below k f (inl u) = f k u
+        below k f (inr u) = last (in-cons u)
+          where
+            last : (k ≡ i) ⊎ In k [] → k < slots
+            last (inl q) = omega arith
+            last (inr n) = in-nil n
+
+        more : SlotColumn xs (queue (take i xs)) places → SlotColumn xs (queue (take i xs) ++ (x ∷ [])) (set places w i)
+        more s =
+            let n : length (s .at) ≡ w = sym (length-map (s .at) (λ (k : ℕ). getD xs k unused)) ∙ ap length (s .jobs-at) ∙ v .waiting-is in
+            record {
+              at = s .at ++ (i ∷ []);
+              places-is = ap (λ (ps : List ℕ). set ps w i) (s .places-is) ∙ pad-push slots 0 (s .at) i w n (few-so-far .1);
+              low = λ k u. below k (s .low) (in-append (s .at) u);
+              jobs-at = map-append (λ (k : ℕ). getD xs k unused) (s .at) (i ∷ []) ∙ ap (λ (js : List Job). js ++ (x ∷ [])) (s .jobs-at);
+            }
+
+  -- it runs
+  module _ (h : Holds Sound d) (e : isRunning x ≡ true) (f : isWaiting x ≡ false) where
+    pub room-for : x .nodes ≤ spare
+    unfolding view
+    room-for =
+        let z : held x ≡ x .nodes = rw e in
+        let a : nodesHeld xs ≡ nodesHeld (view d .jobs) = ap nodesHeld (slots-are d h) ∙ nodesHeld-stored (view d) in
+        omega (arith, v .spare-is, sum-first held xs i inside, sum-within held xs (i + 1), h .holds .capacity)
+
+    pub runs-next : Passed d (take (i + 1) xs) (r + 1) w (spare - x .nodes) (set heldₗ r (x .nodes)) (set starts r (x .start)) (set terms r (x .estimate)) asked estimates tickets places
+    runs-next =
+        let k : running (take (i + 1) xs) ≡ running (take i xs) ++ (x ∷ []) = keep-take-yes unused isRunning xs i inside e in
+        let q : queue (take (i + 1) xs) ≡ queue (take i xs) = keep-take-no unused isWaiting xs i inside f in
+        let z : held x ≡ x .nodes = rw e in
+        let r′ = few-so-far .0 in
+        record {
+          running-is = ap length k ∙ length-append (running (take i xs)) (x ∷ []) ∙ ap (λ (n : ℕ). n + 1) (v .running-is);
+          held-is = subst (λ (js : List Job). Column nodesOf js (set heldₗ r (x .nodes))) (sym k) (column-push nodesOf (running (take i xs)) heldₗ (v .held-is) x r (x .nodes) (v .running-is) r′ refl);
+          starts-are = subst (λ (js : List Job). Column startOf js (set starts r (x .start))) (sym k) (column-push startOf (running (take i xs)) starts (v .starts-are) x r (x .start) (v .running-is) r′ refl);
+          terms-are = subst (λ (js : List Job). Column estimateOf js (set terms r (x .estimate))) (sym k) (column-push estimateOf (running (take i xs)) terms (v .terms-are) x r (x .estimate) (v .running-is) r′ refl);
+          spare-is = omega (arith, v .spare-is, sum-first held xs i inside, room-for);
+          waiting-is = ap length q ∙ v .waiting-is;
+          asked-is = subst (λ (js : List Job). Column nodesOf js asked) (sym q) (v .asked-is);
+          estimates-are = subst (λ (js : List Job). Column estimateOf js estimates) (sym q) (v .estimates-are);
+          tickets-are = subst (λ (js : List Job). Column ticketOf js tickets) (sym q) (v .tickets-are);
+          slots-are = subst (λ (js : List Job). SlotColumn xs js places) (sym q) (v .slots-are);
+        }
+
+-- ## The end
+
+take-pad : (L : List Job) (n i : ℕ) → length L ≤ i → i ≤ length L + n → take i (L ++ replicate n unused) ≡ L ++ replicate (i - length L) unused
+take-pad [] n zero a b = refl
+take-pad [] zero (suc i) a b = absurd (omega arith)
+take-pad [] (suc n) (suc i) a b =
+    let e : suc i - 0 ≡ suc (i - 0) = omega arith in
+    rw e (ap (λ (l : List Job). unused ∷ l) (take-pad [] n i (omega arith) (omega arith)))
+take-pad (x ∷ L) n zero a b = absurd (omega arith)
+take-pad (x ∷ L) n (suc i) a b =
+    let e : suc i - suc (length L) ≡ i - length L = omega arith in
+    rw e (ap (λ (l : List Job). x ∷ l) (take-pad L n i (omega arith) (omega arith)))
+
+module _ (d : Scheduler) (h : Holds Sound d) (i : ℕ) (b : i ≤ 64) where
+  abbrev L : List Job
+  L = view d .jobs
+
+  -- past the live jobs no slot counts
+  front : length L ≤ i → take i (d .jobs) ≡ pad i unused L
+  unfolding store pad
+  front a = ap (take i) (slots-are d h) ∙ take-pad L (slots - length L) i a (omega (arith, h .holds .few))
+
+  module _ (a : length L ≤ i) {r w spare : ℕ} {heldₗ starts terms asked estimates tickets places : List ℕ}
+      (v : Passed d (take i (d .jobs)) r w spare heldₗ starts terms asked estimates tickets places) where
+    pub passed-all : Passed d L r w spare heldₗ starts terms asked estimates tickets places
+    passed-all =
+        let k : running (take i (d .jobs)) ≡ running L = ap running (front a) ∙ keep-pad i unused isRunning L refl in
+        let q : queue (take i (d .jobs)) ≡ queue L = ap queue (front a) ∙ keep-pad i unused isWaiting L refl in
+        let n : nodesHeld (take i (d .jobs)) ≡ nodesHeld L = ap nodesHeld (front a) ∙ sum-pad i unused held L refl in
+        record {
+          running-is = sym (ap length k) ∙ v .running-is;
+          held-is = subst (λ (js : List Job). Column nodesOf js heldₗ) k (v .held-is);
+          starts-are = subst (λ (js : List Job). Column startOf js starts) k (v .starts-are);
+          terms-are = subst (λ (js : List Job). Column estimateOf js terms) k (v .terms-are);
+          spare-is = omega (arith, v .spare-is);
+          waiting-is = sym (ap length q) ∙ v .waiting-is;
+          asked-is = subst (λ (js : List Job). Column nodesOf js asked) q (v .asked-is);
+          estimates-are = subst (λ (js : List Job). Column estimateOf js estimates) q (v .estimates-are);
+          tickets-are = subst (λ (js : List Job). Column ticketOf js tickets) q (v .tickets-are);
+          slots-are = subst (λ (js : List Job). SlotColumn (d .jobs) js places) q (v .slots-are);
+        }
+
+-- ## What the lists stand for
+
+asks-those : (js : List Job) → map asks (queue js) ≡ map nodesOf (queue js)
+asks-those [] = refl
+asks-those (j ∷ js) = case (isWaiting j) (λ e. rw (e, e, asks-those js)) (λ e. rw (e, asks-those js))
+
+module _ (d : Scheduler) (h : Holds Ready d) {r w spare : ℕ} {heldₗ starts terms asked estimates tickets places : List ℕ}
+    (v : Passed d (view d .jobs) r w spare heldₗ starts terms asked estimates tickets places) where
+  abbrev js : List Job
+  js = view d .jobs
+
+  abbrev pub starts-of : StartsInTime starts terms r
+  starts-of = record {
+    jobs = running js;
+    starts-are = v .starts-are;
+    terms-are = v .terms-are;
+    count-is = v .running-is;
+    few = omega (arith, v .running-is, length-keep-le isRunning js, h .holds .sound .few);
+    ends = λ j i. omega (arith, h .holds .sound .each j (keep-in isRunning js i .0) .ends);
+  }
+
+  pub spare-free : spare ≡ free (view d)
+  unfolding view
+  spare-free = omega (arith, v .spare-is)
+
+  pub waits-of : WaitingColumns (view d) (queue js) asked estimates w
+  waits-of = record {
+    asked-is = v .asked-is ∙ ap (pad slots 0) (sym (asks-those js));
+    estimates-is = v .estimates-are;
+    count-is = v .waiting-is;
+    few = omega (arith, v .waiting-is, length-keep-le isWaiting js, h .holds .sound .few);
+    asc = asc-keep isWaiting 1 js (h .holds .sound .asc);
+    queue-is = keep-all isWaiting (queue js) (λ j i. keep-in isWaiting js i .1);
+  }
+
+  pub clock-of : d .clock ≡ view d .clock
+  unfolding view
+  clock-of = refl
+
+  abbrev pub surveyed : (clock : ℕ) → clock ≡ d .clock → (ends : List ℕ) → Column endOf (running js) ends → Surveyed heldₗ ends r asked estimates w clock spare
+  surveyed clock e ends c = record {
+    model = view d;
+    ready = h .holds;
+    clock-is = e ∙ clock-of;
+    jobs = running js;
+    holding = record {
+      sound = h .holds .sound;
+      runs = record { each = λ j i. keep-in isRunning js i .1; same = λ f. sum-those f isRunning js };
+      held-is = v .held-is;
+      ends-is = c;
+      count-is = v .running-is;
+      spare-is = spare-free;
+    };
+    asking = queue js;
+    waits = waits-of;
+  }
+
+-- ## Starts become ends
+
+module _ (ys : List Job) where
+  abbrev pub filled : ℕ → List ℕ
+  filled i = map endOf (take i ys) ++ map startOf (drop i ys)
+
+  module _ (i : ℕ) (l : i < length ys) where
+    abbrev y : Job
+    y = getD ys i unused
+
+    mid : map startOf (drop i ys) ≡ y .start ∷ map startOf (drop (i + 1) ys)
+    mid = rw (add-one, drop-cons ys i unused l)
+
+    len : length (map endOf (take i ys)) ≡ i
+    len = length-map (take i ys) endOf ∙ length-take-le i ys (omega arith)
+
+    long : i < length (filled i)
+    long = rw mid (omega (arith, length-append (map endOf (take i ys)) (y .start ∷ map startOf (drop (i + 1) ys)), len))
+
+    pub start-there : getD (pad slots 0 (filled i)) i 0 ≡ y .start
+    unfolding pad
+    start-there =
+        List·getD-append (filled i) (replicate (slots - length (filled i)) 0) 0 i long
+        ∙ ap (λ (ns : List ℕ). getD (map endOf (take i ys) ++ ns) i 0) mid
+        ∙ getD-at (map endOf (take i ys)) (y .start) (map startOf (drop (i + 1) ys)) 0 i len
+
+    pub fill-next : set (pad slots 0 (filled i)) i (endOf y) ≡ pad slots 0 (filled (i + 1))
+    fill-next =
+        pad-set slots 0 (filled i) i (endOf y) long
+        ∙ ap (λ (ns : List ℕ). pad slots 0 (set (map endOf (take i ys) ++ ns) i (endOf y))) mid
+        ∙ ap (pad slots 0) (set-at (map endOf (take i ys)) (y .start) (map startOf (drop (i + 1) ys)) (endOf y) i len ∙ more)
+      where
+        more : map endOf (take i ys) ++ (endOf y ∷ map startOf (drop (i + 1) ys)) ≡ filled (i + 1)
+        more = rw (add-one, take-suc ys i unused l, map-append endOf (take i ys) (y ∷ []), append-assoc)
+
+  pub fill-done : (i : ℕ) → length ys ≤ i → filled i ≡ map endOf ys
+  fill-done i l = rw (take-all i ys l, drop-of-length-le ys l) (append-nil (map endOf ys))

@@ -1,0 +1,287 @@
+-- The one invariant of a waiting job, and what keeps it: the head's shadow, and a unit for each job that waits before it, end by b.
+-- b is any number: document 01's bound, a forecast, or the last start that leaves room before the last minute.
+-- Assumes nothing.
+use Prim.Native.Nat.{ℕ, suc, _+_, _-_, _*_, _≤_, _<_}
+use native.Mathlib.Omega.{arith}
+use native.Mathlib.Nat.{mul-le-mul-right}
+use mathlib.Core.Path.{_≡_, refl, sym, ap, subst, _∙_}
+use mathlib.Core.Bool.{true, false, not, _&&_, _||_}
+use mathlib.Core.Option.{none}
+use mathlib.Core.List.{List, [], _∷_, _++_, append-nil}
+use mathlib.Core.Logic.{⊎-elim}
+use lib.Dec.{leb, ltb, eqb}
+use lib.ListN.{length}
+use borrow.Author.Tests.{leb-true, leb-false, lt-ltb, le-ltb, eqb-true, ne-eqb}
+use Rattle.lists.specs.Tests.{case, true-false, on, on-le, both, either}
+use Rattle.lists.specs.Lists.{keep, first, elem, sum, In, here, in-nil, in-cons, in-map, in-left, in-right, keep-in, in-keep, first-in, keep-append, keep-cong, keep-keep, sum-append, sum-keep, sum-le, sum-zero, length-keep}
+use Rattle.scheduler.specs.declared.Job.{Job}
+use Rattle.scheduler.specs.declared.Select.{Select}
+use Rattle.scheduler.specs.Jobs.{isWaiting, isRunning, held, picks}
+use Rattle.scheduler.specs.Settings.{Settings, holdTime, unit, until}
+use Rattle.scheduler.specs.Table.{ticketOf, staying}
+use Rattle.scheduler.specs.Model.{Model, joined, without}
+use Rattle.jobs.specs.Order.{Asc, asc-in, asc-keep}
+use Rattle.jobs.specs.Soundness.{Sound, Leaving, leaving-runs, leaving-clock}
+use Rattle.easy_rules.specs.Easy.{queue, free, freed, avail, shadow, extra, qualifies, pick, choice, mark, begin, newJob, rank}
+use Rattle.easy_laws.specs.Settling.{shadow-from, shadow-to, shadow-min, shadow-holds, avail-now, none-starts, How, as-head, passing, Chosen, chosen, each-begin, Settles, rest, start, idle, mark-same, sum-mark, queue-mark}
+
+-- the job with ticket u waits
+pub record Waits (m : Model) (u : ℕ) : Type 0 where
+  pub job : Job
+  pub isin : In job (m .jobs)
+  pub waits : isWaiting job ≡ true
+  pub named : job .ticket ≡ u
+
+-- the number of jobs that wait before u
+abbrev pub before : ℕ → Job → ℕ
+before u j = on (isWaiting j && ltb (j .ticket) u) 1
+
+abbrev pub ahead : ℕ → List Job → ℕ
+ahead u js = sum (before u) js
+
+-- the job u waits, and will start by b
+pub record OnCourse (m : Model) (u b : ℕ) : Type 0 where
+  pub waits : Waits m u
+  pub by : (h : Job) (later : List Job) → queue (m .jobs) ≡ h ∷ later → shadow m (h .nodes) + ahead u (m .jobs) * unit (m .settings) ≤ b
+
+-- a job that waits after a start waited before it
+waits-mark : (t : ℕ) (m : Model) (u : ℕ) → Waits (begin t m) u → Waits m u
+waits-mark t m u w =
+    each-begin (λ (k : Job). isWaiting k ≡ true → k .ticket ≡ u → Waits m u) t m
+    (λ k i n x e. record { job = k; isin = i; waits = x; named = e })
+    (λ k i e x. true-false false x refl)
+    (w .job) (w .isin) (w .waits) (w .named)
+
+-- a job that a settling starts waited before it
+pub settles-waited : (u : ℕ) {m m′ : Model} {ts : List ℕ} → Settles m m′ ts → elem u ts ≡ true → Waits m u
+settles-waited u (rest e) q = true-false false q refl
+settles-waited u (start {m = m} j e s) q =
+    let c = chosen m j e in
+    case (eqb u (j .ticket))
+    (λ z. record { job = j; isin = c .isin; waits = c .waits; named = sym (eqb-true u (j .ticket) z) })
+    (λ z. waits-mark (j .ticket) m u (settles-waited u s (rw z at q)))
+
+-- ## The head
+
+pub record Head (m : Model) : Type 0 where
+  pub job : Job
+  pub later : List Job
+  pub first : queue (m .jobs) ≡ job ∷ later
+
+-- where a job waits there is a head
+pub head-of : (m : Model) (u : ℕ) → Waits m u → Head m
+head-of m u w = by (queue (m .jobs)) refl (in-keep isWaiting (w .isin) (w .waits))
+  where
+    by : (q : List Job) → queue (m .jobs) ≡ q → In (w .job) q → Head m
+    by [] e i = in-nil i
+    by (h ∷ later) e i = record { job = h; later = later; first = e }
+
+module _ (m : Model) (h : Job) (later : List Job) (e : queue (m .jobs) ≡ h ∷ later) where
+  pub head-in : In h (m .jobs) × (isWaiting h ≡ true)
+  head-in = keep-in isWaiting (m .jobs) (subst (λ (q : List Job). In h q) (sym e) (here refl))
+
+  -- it has the lowest ticket of those that wait
+  pub head-lowest : Asc 1 (m .jobs) → (j : Job) → In j later → h .ticket < j .ticket
+  head-lowest a j i = asc-in (suc (h .ticket)) later (subst (λ (q : List Job). Asc 1 q) e (asc-keep isWaiting 1 (m .jobs) a) .1) i
+
+  pub head-before : (u : ℕ) → Asc 1 (m .jobs) → Waits m u → (h .ticket ≡ u → ⊥) → h .ticket < u
+  head-before u a w n =
+      ⊎-elim (λ (z : w .job ≡ h). absurd (n (ap ticketOf (sym z) ∙ w .named)))
+      (λ (k : In (w .job) later). omega (arith, head-lowest a (w .job) k, w .named))
+      (in-cons (subst (λ (q : List Job). In (w .job) q) e (in-keep isWaiting (w .isin) (w .waits))))
+
+  none-ahead : Asc 1 (m .jobs) → ahead (h .ticket) (m .jobs) ≡ 0
+  none-ahead a = sum-zero (before (h .ticket)) (m .jobs) one
+    where
+      one : (j : Job) → In j (m .jobs) → before (h .ticket) j ≡ 0
+      one j i =
+          case (isWaiting j)
+          (λ w. rw (w, le-ltb (j .ticket) (h .ticket) (⊎-elim (λ (z : j ≡ h). omega (arith, ap ticketOf z)) (λ (k : In j later). omega (arith, head-lowest a j k)) (in-cons (subst (λ (q : List Job). In j q) e (in-keep isWaiting i w))))))
+          (λ w. rw w)
+
+  -- the head is on course for its shadow
+  pub head-course : Sound m → OnCourse m (h .ticket) (shadow m (h .nodes))
+  head-course s = record {
+    waits = record { job = h; isin = head-in .0; waits = head-in .1; named = refl };
+    by = λ k q e′.
+        let p : h ∷ later ≡ k ∷ q = sym e ∙ e′ in
+        let z : h ≡ k = cc in
+        omega (arith, ap (λ (x : Job). shadow m (x .nodes)) z, ap (λ (x : ℕ). x * unit (m .settings)) (none-ahead (s .asc)));
+  }
+
+  -- At rest the head's nodes are not free, and the clock stands before the shadow.
+  pub head-lacks : choice m ≡ none → free m < h .nodes
+  head-lacks r = none-starts m h later (ap (pick m) (sym e) ∙ r) .0
+
+  pub rest-shadow : Sound m → choice m ≡ none → m .clock < shadow m (h .nodes)
+  rest-shadow s r =
+      case (leb (shadow m (h .nodes)) (m .clock))
+      (λ l. absurd (omega (arith, shadow-holds m (h .nodes) s (s .each h (head-in .0) .nodes-to), avail-now m (shadow m (h .nodes)) s (leb-true (shadow m (h .nodes)) (m .clock) l), head-lacks r)))
+      (λ l. leb-false (shadow m (h .nodes)) (m .clock) l)
+
+-- A job on course has time: b is not past, and at rest it is yet to come.
+module _ (m : Model) (u b : ℕ) (o : OnCourse m u b) where
+  pub course-clock : m .clock ≤ b
+  course-clock =
+      let h = head-of m u (o .waits) in
+      omega (arith, o .by (h .job) (h .later) (h .first), shadow-from m (h .job .nodes))
+
+  pub course-rest : Sound m → choice m ≡ none → m .clock < b
+  course-rest s r =
+      let h = head-of m u (o .waits) in
+      omega (arith, o .by (h .job) (h .later) (h .first), rest-shadow m (h .job) (h .later) (h .first) s r)
+
+-- ## A start keeps it
+
+module _ (m : Model) (j : Job) (s : Sound m) (c : Chosen m j) where
+  avail-begin : (t : ℕ) → avail (begin (j .ticket) m) t ≡ free m - j .nodes + (sum (freed (m .settings) t) (m .jobs) + on (leb (m .clock + holdTime (m .settings) (j .estimate)) t) (j .nodes))
+  avail-begin t =
+      let a = sum-mark held (m .clock) 1 (m .jobs) (s .asc) (c .isin) in
+      let b = sum-mark (freed (m .settings) t) (m .clock) 1 (m .jobs) (s .asc) (c .isin) in
+      let z : held j ≡ 0 = rw (idle j (c .waits)) in
+      let y : freed (m .settings) t j ≡ 0 = rw (idle j (c .waits)) in
+      omega arith
+
+  -- by either rule, a job passed forward leaves the head its nodes at the shadow
+  pub passing-holds : (h : Job) → h .nodes ≤ m .settings .nodes → qualifies m h j ≡ true → h .nodes ≤ avail (begin (j .ticket) m) (shadow m (h .nodes))
+  unfolding qualifies extra
+  passing-holds h l q =
+      let t = shadow m (h .nodes) in
+      let one = leb (m .clock + holdTime (m .settings) (j .estimate)) t in
+      let two = leb (j .nodes) (extra m (h .nodes)) in
+      ⊎-elim
+      (λ (i : one ≡ true). rw (avail-begin t, i) (omega (arith, shadow-holds m (h .nodes) s l, c .fits)))
+      (λ (i : two ≡ true). rw (avail-begin t) (omega (arith, shadow-holds m (h .nodes) s l, c .fits, leb-true (j .nodes) (extra m (h .nodes)) i)))
+      (either one two (both (leb (j .nodes) (free m)) (one || two) q .1))
+
+  module _ (u b : ℕ) (n : j .ticket ≡ u → ⊥) (o : OnCourse m u b) where
+    waits-begin : Waits (begin (j .ticket) m) u
+    waits-begin =
+        let w = o .waits in
+        record {
+          job = w .job;
+          isin = subst (λ (k : Job). In k (begin (j .ticket) m .jobs)) (mark-same (m .clock) (j .ticket) (w .job) (λ e. n (sym e ∙ w .named))) (in-map (mark (m .clock) (j .ticket)) (w .isin));
+          waits = w .waits;
+          named = w .named;
+        }
+
+    -- the head starts: the next one's shadow is at most a unit from now, and one job fewer waits before u
+    by-head : (later : List Job) → queue (m .jobs) ≡ j ∷ later → (k : Job)
+        → shadow (begin (j .ticket) m) (k .nodes) + ahead u (begin (j .ticket) m .jobs) * unit (m .settings) ≤ b
+    by-head later e k =
+        let l = head-before m j later e u (s .asc) (o .waits) n in
+        let a = sum-mark (before u) (m .clock) 1 (m .jobs) (s .asc) (c .isin) in
+        let z : before u j ≡ 1 = rw (c .waits, lt-ltb (j .ticket) u l) in
+        let f : ahead u (m .jobs) ≡ suc (ahead u (begin (j .ticket) m .jobs)) = omega arith in
+        omega (arith, ap (λ (x : ℕ). x * unit (m .settings)) f, o .by j later e, shadow-from m (j .nodes), shadow-to (begin (j .ticket) m) (k .nodes))
+
+    -- a later job passes: the head stays head, and its shadow comes no later
+    by-passing : (h : Job) (later : List Job) → queue (m .jobs) ≡ h ∷ later → In j later → qualifies m h j ≡ true
+        → (k : Job) (q : List Job) → queue (begin (j .ticket) m .jobs) ≡ k ∷ q → shadow (begin (j .ticket) m) (k .nodes) + ahead u (begin (j .ticket) m .jobs) * unit (m .settings) ≤ b
+    by-passing h later e i f k q e′ =
+        let d : eqb (h .ticket) (j .ticket) ≡ false = ne-eqb (h .ticket) (j .ticket) (λ z. omega (arith, head-lowest m h later e (s .asc) j i)) in
+        let p : h ∷ keep (λ (x : Job). not (eqb (x .ticket) (j .ticket))) later ≡ k ∷ q = sym (rw (e, d) at (queue-mark (m .clock) (j .ticket) (m .jobs))) ∙ e′ in
+        let z : h ≡ k = cc in
+        let a = sum-mark (before u) (m .clock) 1 (m .jobs) (s .asc) (c .isin) in
+        let r = shadow-min (begin (j .ticket) m) (h .nodes) (shadow m (h .nodes)) (passing-holds h (s .each h (head-in m h later e .0) .nodes-to) f) (shadow-from m (h .nodes)) in
+        rw (← z) (omega (arith, mul-le-mul-right {m = ahead u (begin (j .ticket) m .jobs)} {n = ahead u (m .jobs)} (unit (m .settings)) (omega arith), o .by h later e))
+
+    pub begin-keeps : OnCourse (begin (j .ticket) m) u b
+    begin-keeps = record { waits = waits-begin; by = go (queue (m .jobs)) refl (c .way) }
+      where
+        go : (q : List Job) → queue (m .jobs) ≡ q → How m j q → (k : Job) (r : List Job) → queue (begin (j .ticket) m .jobs) ≡ k ∷ r
+            → shadow (begin (j .ticket) m) (k .nodes) + ahead u (begin (j .ticket) m .jobs) * unit (m .settings) ≤ b
+        go q e (as-head later l) k r e′ = by-head later e k
+        go q e (passing h later l f) k r e′ = let i = first-in (qualifies m h) later f in by-passing h later e (i .0) (i .1) k r e′
+
+-- ## What a call does before it settles keeps it
+
+-- no minute has fewer nodes, and nobody comes before those that wait
+pub record Eases (m m′ : Model) : Type 0 where
+  pub settings : m′ .settings ≡ m .settings
+  pub soon : m′ .clock ≤ suc (m .clock)
+  pub last : List Job
+  pub queued : queue (m′ .jobs) ≡ queue (m .jobs) ++ last
+  pub nodes : (t : ℕ) → avail m t ≤ avail m′ t
+  pub fewer : (u : ℕ) → u < m .next → ahead u (m′ .jobs) ≤ ahead u (m .jobs)
+  pub stay : (j : Job) → In j (m .jobs) → isWaiting j ≡ true → In j (m′ .jobs)
+
+pub eased : (m m′ : Model) (u b : ℕ) → Sound m → choice m ≡ none → Eases m m′ → OnCourse m u b → OnCourse m′ u b
+eased m m′ u b s r x o =
+    let w = o .waits in
+    record {
+      waits = record { job = w .job; isin = x .stay (w .job) (w .isin) (w .waits); waits = w .waits; named = w .named };
+      by = λ k q e′.
+          let h = head-of m u w in
+          let p : h .job ∷ (h .later ++ x .last) ≡ k ∷ q = sym (rw (h .first) at (x .queued)) ∙ e′ in
+          let z : h .job ≡ k = cc in
+          let n = h .job .nodes in
+          let t = shadow-min m′ n (shadow m n)
+          (omega (arith, x .nodes (shadow m n), shadow-holds m n s (s .each (h .job) (head-in m (h .job) (h .later) (h .first) .0) .nodes-to)))
+          (omega (arith, x .soon, rest-shadow m (h .job) (h .later) (h .first) s r)) in
+          let f = x .fewer u (omega (arith, s .below (w .job) (w .isin), w .named)) in
+          rw (← z) (omega (arith, ap (λ (S : Settings). ahead u (m′ .jobs) * unit S) (x .settings), mul-le-mul-right {m = ahead u (m′ .jobs)} {n = ahead u (m .jobs)} (unit (m .settings)) f, o .by (h .job) (h .later) (h .first)));
+    }
+
+-- running jobs leave
+module _ (m : Model) (c : ℕ) (p : Select) (s : Sound m) (l : Leaving m c p) where
+  pub waits-stay : (j : Job) → isWaiting j ≡ true → picks p j ≡ false
+  waits-stay j w = case (picks p j) (λ e. true-false (isRunning j) (leaving-runs m c p l j e) (idle j w)) (λ e. e)
+
+  pub queue-leave : queue (staying p (m .jobs)) ≡ queue (m .jobs)
+  queue-leave =
+      keep-keep isWaiting (λ (j : Job). not (picks p j)) (m .jobs)
+      ∙ keep-cong (λ (j : Job). not (picks p j) && isWaiting j) isWaiting (m .jobs)
+      (λ j i. case (isWaiting j) (λ w. rw (waits-stay j w, w)) (λ w. rw w (case (picks p j) (λ e. rw e) (λ e. rw e))))
+
+  avail-leave : (t : ℕ) → avail m t ≤ avail (without m c p) t
+  avail-leave t =
+      let a = sum-keep held (picks p) (m .jobs) in
+      let b = sum-keep (freed (m .settings) t) (picks p) (m .jobs) in
+      let d = sum-le (λ (j : Job). on (picks p j) (freed (m .settings) t j)) (λ (j : Job). on (picks p j) (held j)) (m .jobs) (λ j i. less j) in
+      omega (arith, s .capacity)
+    where
+      less : (j : Job) → on (picks p j) (freed (m .settings) t j) ≤ on (picks p j) (held j)
+      less j =
+          case (picks p j)
+          (λ e. rw e (case (isRunning j) (λ r. rw r (on-le (leb (until (m .settings) j) t) (j .nodes))) (λ r. rw r (omega arith))))
+          (λ e. rw e (omega arith))
+
+  pub leave-eases : Eases m (without m c p)
+  leave-eases = record {
+    settings = refl;
+    soon = leaving-clock m c p l .1;
+    last = [];
+    queued = queue-leave ∙ sym (append-nil (queue (m .jobs)));
+    nodes = avail-leave;
+    fewer = λ u k. omega (arith, sum-keep (before u) (picks p) (m .jobs));
+    stay = λ j i w. in-keep (λ (j : Job). not (picks p j)) i (rw (waits-stay j w));
+  }
+
+-- a job joins at the end of the queue
+module _ (m : Model) (n e : ℕ) where
+  pub join-eases : Eases m (joined m (newJob (m .next) n e))
+  join-eases = record {
+    settings = refl;
+    soon = omega arith;
+    last = newJob (m .next) n e ∷ [];
+    queued = keep-append isWaiting (m .jobs) (newJob (m .next) n e ∷ []);
+    nodes = λ t. omega (arith, sum-append held (m .jobs) (newJob (m .next) n e ∷ []), sum-append (freed (m .settings) t) (m .jobs) (newJob (m .next) n e ∷ []));
+    fewer = λ u l. let z : before u (newJob (m .next) n e) ≡ 0 = rw (le-ltb (m .next) u (omega arith)) in omega (arith, sum-append (before u) (m .jobs) (newJob (m .next) n e ∷ []));
+    stay = λ j i w. in-left (newJob (m .next) n e ∷ []) i;
+  }
+
+  -- and is on course for its bound: "the clock at intake + r × 10,080"
+  pub join-course : OnCourse (joined m (newJob (m .next) n e)) (m .next) (m .clock + rank m * unit (m .settings))
+  join-course = record {
+    waits = record { job = newJob (m .next) n e; isin = in-right (m .jobs) (here refl); waits = refl; named = refl };
+    by = λ h q x.
+        let z : before (m .next) (newJob (m .next) n e) ≡ 0 = rw (le-ltb (m .next) (m .next) (omega arith)) in
+        let a = sum-append (before (m .next)) (m .jobs) (newJob (m .next) n e ∷ []) in
+        let d = sum-le (before (m .next)) (λ (j : Job). on (isWaiting j) 1) (m .jobs) (λ j i. less j) in
+        let f : ahead (m .next) (joined m (newJob (m .next) n e) .jobs) ≤ length (queue (m .jobs)) = omega (arith, length-keep isWaiting (m .jobs)) in
+        omega (arith, mul-le-mul-right {m = ahead (m .next) (joined m (newJob (m .next) n e) .jobs)} {n = length (queue (m .jobs))} (unit (m .settings)) f, shadow-to (joined m (newJob (m .next) n e)) (h .nodes));
+  }
+    where
+      less : (j : Job) → before (m .next) j ≤ on (isWaiting j) 1
+      less j = case (isWaiting j) (λ w. rw w (on-le (ltb (j .ticket) (m .next)) 1)) (λ w. rw w (omega arith))

@@ -1,0 +1,127 @@
+-- A tick at which no job ends: nothing can start, and only the clock moves.
+-- Assumes nothing.
+use Prim.Native.Nat.{ℕ, suc, _+_, _≤_, _<_}
+use native.Mathlib.Omega.{arith}
+use mathlib.Core.Path.{_≡_, refl, sym, ap, subst, _∙_}
+use mathlib.Core.Bool.{Bool, true, false, not}
+use mathlib.Core.Option.{Option, none, some}
+use mathlib.Core.List.{List, [], _∷_}
+use mathlib.Core.Logic.{⊎-elim}
+use lib.Dec.{leb}
+use borrow.Author.Tests.{leb-true, leb-false, le-leb, lt-leb, le-ltb, eq-eqb}
+use Rattle.lists.specs.Tests.{case, true-false, both, either, neither}
+use Rattle.lists.specs.Lists.{keep, first, any, In, here, there, in-nil, keep-all, keep-none}
+use Rattle.scheduler.specs.declared.Job.{Job}
+use Rattle.scheduler.specs.Jobs.{picks}
+use Rattle.scheduler.specs.Settings.{horizon, holdTime}
+use Rattle.scheduler.specs.Table.{ticketsOf}
+use Rattle.scheduler.specs.Model.{Model, without}
+use Rattle.scheduler.specs.Answers.{Reply, Forecast, verdict, refusing}
+use Rattle.scheduler.specs.Refusals.{tickRefusal}
+use Rattle.scheduler.specs.declared.Refusal.the-variants as refusal
+use Rattle.scheduler.specs.declared.Select.the-variants as select
+use Rattle.jobs.specs.Soundness.{Sound}
+use Rattle.history.specs.Calls.{tick}
+use Rattle.easy_rules.specs.Easy.{queue, head, free, avail, shadow, extra, qualifies, pick, choice, Settling, forecast, finished, advanced, call}
+use Rattle.easy_laws.specs.Settling.{shadow-min, shadow-holds, none-starts}
+use Rattle.easy_laws.specs.Course.{head-in, rest-shadow}
+use Rattle.easy_laws.specs.Validity.{Valid, ticks, moved-ready}
+use Rattle.easy_laws.specs.EngineLaws.{shadow-is, settle-rests}
+
+-- a minute later
+abbrev pub later : Model → Model
+later m = record { settings = m .settings; clock = suc (m .clock); next = m .next; jobs = m .jobs }
+
+none-passes : {A : Type 0} (p : A → Bool) (xs : List A) → any p xs ≡ false → (a : A) → In a xs → p a ≡ false
+none-passes p [] e a i = in-nil i
+none-passes p (x ∷ xs) e a (here q) = ap p q ∙ neither (p x) (any p xs) e .0
+none-passes p (x ∷ xs) e a (there i) = none-passes p xs (neither (p x) (any p xs) e .1) a i
+
+none-first : {A : Type 0} (p : A → Bool) (xs : List A) → ((a : A) → In a xs → p a ≡ false) → first p xs ≡ none
+none-first p [] f = refl
+none-first p (x ∷ xs) f = rw (f x (here refl)) (none-first p xs (λ a i. f a (there i)))
+
+abbrev replied : List ℕ → Option Forecast → Reply
+replied ts o = record { refusal = refusal.None; ticket = 0; promise = 0; ended = []; started = ts; head = o }
+
+module _ (m : Model) (v : Valid m) (l : suc (m .clock) ≤ horizon (m .settings)) (e : any (picks (select.EndingAt (suc (m .clock)))) (m .jobs) ≡ false) where
+  stays : (j : Job) → In j (m .jobs) → picks (select.EndingAt (suc (m .clock))) j ≡ false
+  stays j i = none-passes (picks (select.EndingAt (suc (m .clock)))) (m .jobs) e j i
+
+  nobody-leaves : without m (suc (m .clock)) (select.EndingAt (suc (m .clock))) ≡ later m
+  nobody-leaves = λ i. record {
+    settings = m .settings;
+    clock = suc (m .clock);
+    next = m .next;
+    jobs = keep-all (λ (j : Job). not (picks (select.EndingAt (suc (m .clock))) j)) (m .jobs) (λ j k. ap not (stays j k)) i;
+  }
+
+  later-sound : Sound (later m)
+  later-sound = subst Sound nobody-leaves (moved-ready (ticks l) v .sound)
+
+  module _ (h : Job) (rest : List Job) (q : queue (m .jobs) ≡ h ∷ rest) where
+    -- the shadow stays
+    shadow-stays : shadow m (h .nodes) ≡ shadow (later m) (h .nodes)
+    shadow-stays =
+        let s = v .ready .sound in
+        let n = s .each h (head-in m h rest q .0) .nodes-to in
+        shadow-is (later m) (h .nodes) (shadow m (h .nodes)) later-sound n (rest-shadow m h rest q s (v .rests)) (shadow-holds m (h .nodes) s n) (λ k a b. lacks k (omega arith) b)
+      where
+        lacks : (k : ℕ) → m .clock ≤ k → k < shadow m (h .nodes) → avail m k < h .nodes
+        lacks k a b =
+            case (leb (h .nodes) (avail m k))
+            (λ t. absurd (omega (arith, shadow-min m (h .nodes) k (leb-true (h .nodes) (avail m k) t) a)))
+            (λ t. leb-false (h .nodes) (avail m k) t)
+
+    -- and rule (i) is harder to meet
+    no-sooner : (j : Job) → qualifies m h j ≡ false → qualifies (later m) h j ≡ false
+    unfolding qualifies extra
+    no-sooner j f = case (qualifies (later m) h j) (λ t. true-false (qualifies m h j) (before t) f) (λ t. t)
+      where
+        one : ℕ → Bool
+        one c = leb (c + holdTime (m .settings) (j .estimate)) (shadow m (h .nodes))
+
+        before : qualifies (later m) h j ≡ true → qualifies m h j ≡ true
+        before t =
+            let p = both (leb (j .nodes) (free m)) _ (rw (← shadow-stays) at t) in
+            rw (p .0)
+            (⊎-elim
+            (λ (i : one (suc (m .clock)) ≡ true). rw (le-leb (m .clock + holdTime (m .settings) (j .estimate)) (shadow m (h .nodes)) (omega (arith, leb-true _ (shadow m (h .nodes)) i))))
+            (λ i. case (one (m .clock)) (λ y. rw y) (λ y. rw y i))
+            (either (one (suc (m .clock))) _ (p .1)))
+
+    still-rests : pick (later m) (h ∷ rest) ≡ none
+    unfolding pick
+    still-rests =
+        let n = none-starts m h rest (ap (pick m) (sym q) ∙ v .rests) in
+        rw (lt-leb (h .nodes) (free m) (n .0)) (none-first (qualifies (later m) h) rest (λ j i. no-sooner j (n .1 j i)))
+
+  later-rests : choice (later m) ≡ none
+  unfolding pick
+  later-rests = by (queue (m .jobs)) refl
+    where
+      by : (q : List Job) → queue (m .jobs) ≡ q → choice (later m) ≡ none
+      by [] x = rw x
+      by (h ∷ rest) x = rw x (still-rests h rest x)
+
+  no-forecast : forecast m (later m) ≡ none
+  unfolding forecast
+  no-forecast = by (head m) refl
+    where
+      by : (o : Option Job) → head m ≡ o → forecast m (later m) ≡ none
+      by none x = rw x
+      by (some h) x = rw (x, eq-eqb (h .ticket) (h .ticket) refl)
+
+  quiet-finish : finished m (later m) 0 [] ≡ record { reply = refusing refusal.None; model = later m }
+  unfolding finished
+  quiet-finish =
+      ap (λ (s : Settling). record { reply = replied (s .started) (forecast m (s .model)); model = s .model }) (settle-rests (later m) later-rests)
+      ∙ ap (λ (o : Option Forecast). record { reply = replied [] o; model = later m }) no-forecast
+
+  pub quiet-tick : call m tick ≡ record { reply = refusing refusal.None; model = later m }
+  unfolding call tickRefusal verdict advanced
+  quiet-tick =
+      rw (le-ltb (horizon (m .settings)) (suc (m .clock)) l)
+      (ap (λ (x : Model). finished m x 0 (ticketsOf (keep (picks (select.EndingAt (suc (m .clock)))) (m .jobs)))) nobody-leaves
+      ∙ ap (λ (js : List Job). finished m (later m) 0 (ticketsOf js)) (keep-none (picks (select.EndingAt (suc (m .clock)))) (m .jobs) stays)
+      ∙ quiet-finish)

@@ -1,0 +1,251 @@
+-- What every model of this kind is, that an opening or a call hands back; and what each call does.
+-- Assumes nothing.
+use Prim.Native.Nat.{ℕ, suc, _+_, _*_, _≤_}
+use native.Mathlib.Omega.{arith}
+use mathlib.Core.Path.{_≡_, refl, sym, ap, subst, _∙_}
+use mathlib.Core.Bool.{Bool, true, false, not, cond}
+use mathlib.Core.Option.{none}
+use mathlib.Core.List.{List, [], _∷_}
+use mathlib.Core.Logic.{_⊎_, inl, inr, ⊎-elim}
+use lib.Dec.{ltb, eqb}
+use borrow.Author.Tests.{ltb-false, eqb-false, not-false}
+use Rattle.lists.specs.Tests.{case, true-false}
+use Rattle.lists.specs.Lists.{keep, any, elem, In, in-nil, in-cons, in-append, keep-in}
+use Rattle.scheduler.specs.declared.Kind.{Kind}
+use Rattle.scheduler.specs.declared.Kind.the-variants.{Easy}
+use Rattle.scheduler.specs.declared.Job.{Job}
+use Rattle.scheduler.specs.declared.Opening.{Opening}
+use Rattle.scheduler.specs.declared.Refusal.{Refusal}
+use Rattle.scheduler.specs.declared.Refusal.the-variants as refusal
+use Rattle.scheduler.specs.declared.Select.{Select}
+use Rattle.scheduler.specs.declared.Select.the-variants as select
+use Rattle.scheduler.specs.Jobs.{isWaiting, picks}
+use Rattle.scheduler.specs.Settings.{horizon, holdTime, unit}
+use Rattle.scheduler.specs.Table.{ticketsOf}
+use Rattle.scheduler.specs.Model.{Model, empty, joined, without}
+use Rattle.scheduler.specs.Answers.{Result, accepts, refusing, refuse}
+use Rattle.scheduler.specs.Refusals.{judged, completeRefusal, tickRefusal}
+use Rattle.scheduler.specs.Opening.{openingRefusal, opening}
+use Rattle.jobs.specs.Soundness.{Sound, SoundJob, opening-sound, Fit, passed, submit-fit, sound-join, Leaving, early, in-time, sound-leave}
+use Rattle.history.specs.Calls.{Call, submit, complete, tick, unchanged}
+use Rattle.history.specs.News.{Newcomer, newsOf, nothing, refused-news, unchanged-news}
+use Rattle.easy_rules.specs.Easy.{pick, choice, begin, forecast, finished, newJob, rank, submitRefusal, advanced, call}
+use Rattle.easy_laws.specs.Settling.{Chosen, chosen, each-begin, sound-begin, Settles, rest, start, settles, settles-rest, settles-clock}
+use Rattle.easy_laws.specs.Course.{OnCourse, course-clock, begin-keeps, Eases, eased, leave-eases, join-eases, join-course}
+
+-- however late the job starts, its hold does not pass the last minute
+abbrev pub Room : Model → Job → Type 0
+Room m j = (b : ℕ) × OnCourse m (j .ticket) b × (b + holdTime (m .settings) (j .estimate) ≤ horizon (m .settings))
+
+-- the latest minute at which a job of this estimate can end, if it is submitted now
+abbrev pub latestEnd : Model → ℕ → ℕ
+latestEnd m e = m .clock + rank m * unit (m .settings) + holdTime (m .settings) e
+
+-- ready to settle
+pub record Ready (m : Model) : Type 0 where
+  pub kind : m .settings .kind ≡ Easy
+  pub sound : Sound m
+  -- "on the Loose Desk the promise, and a waiting stack's start, are 0"
+  pub promises : (j : Job) → In j (m .jobs) → j .promise ≡ 0
+  pub starts : (j : Job) → In j (m .jobs) → isWaiting j ≡ true → j .start ≡ 0
+  pub room : (j : Job) → In j (m .jobs) → isWaiting j ≡ true → Room m j
+
+pub record Valid (m : Model) : Type 0 where
+  pub ready : Ready m
+  -- no job can start
+  pub rests : choice m ≡ none
+
+-- ## Opening
+
+empty-ready : (k : Kind) (n c t : ℕ) → k ≡ Easy → Sound (empty k n c t) → Ready (empty k n c t)
+empty-ready k n c t e s = record { kind = e; sound = s; promises = λ j i. in-nil i; starts = λ j i. in-nil i; room = λ j i. in-nil i }
+
+pub opening-valid : (o : Opening) → o .kind ≡ Easy → Valid (opening o)
+unfolding opening pick
+opening-valid o e =
+    by (accepts (openingRefusal o)) (opening-sound o)
+  where
+    by : (b : Bool) → Sound (cond b (empty (o .kind) (o .nodes) (o .minute) (o .ticket)) (empty (o .kind) 1 0 1))
+        → Valid (cond b (empty (o .kind) (o .nodes) (o .minute) (o .ticket)) (empty (o .kind) 1 0 1))
+    by true s = record { ready = empty-ready (o .kind) (o .nodes) (o .minute) (o .ticket) e s; rests = refl }
+    by false s = record { ready = empty-ready (o .kind) 1 0 1 e s; rests = refl }
+
+-- ## Settling
+
+pub begin-ready : (m : Model) (j : Job) → Ready m → Chosen m j → Ready (begin (j .ticket) m)
+begin-ready m j r c = record {
+  kind = r .kind;
+  sound =
+      let w = r .room j (c .isin) (c .waits) in
+      sound-begin m j (r .sound) c (omega (arith, course-clock m (j .ticket) (w .0) (w .1), w .2));
+  promises = each-begin (λ (k : Job). k .promise ≡ 0) (j .ticket) m (λ k i n. r .promises k i) (λ k i e. r .promises k i);
+  starts = each-begin (λ (k : Job). isWaiting k ≡ true → k .start ≡ 0) (j .ticket) m (λ k i n. r .starts k i) (λ k i e w. true-false false w refl);
+  room =
+      each-begin (λ (k : Job). isWaiting k ≡ true → Room (begin (j .ticket) m) k) (j .ticket) m
+      (λ k i n w. let x = r .room k i w in (x .0, begin-keeps m j (r .sound) c (k .ticket) (x .0) (λ e. n (sym e)) (x .1), x .2))
+      (λ k i e w. true-false false w refl);
+}
+
+pub settles-ready : {m m′ : Model} {ts : List ℕ} → Settles m m′ ts → Ready m → Ready m′
+settles-ready (rest e) r = r
+settles-ready (start {m = m} j e s) r = settles-ready s (begin-ready m j r (chosen m j e))
+
+-- a job on course is among those started, and the clock has not passed b; or it goes on waiting, on course still
+pub settles-keeps : (u b : ℕ) {m m′ : Model} {ts : List ℕ} → Settles m m′ ts → Ready m → OnCourse m u b
+    → ((elem u ts ≡ true) × (m′ .clock ≤ b)) ⊎ ((elem u ts ≡ false) × OnCourse m′ u b)
+settles-keeps u b (rest e) r o = inr (refl, o)
+settles-keeps u b (start {m = m} j e s) r o =
+    case (eqb u (j .ticket))
+    (λ q. inl (rw q, omega (arith, settles-clock s, course-clock m u b o)))
+    (λ q. rw q (settles-keeps u b s (begin-ready m j r (chosen m j e)) (begin-keeps m j (r .sound) (chosen m j e) u b (λ z. eqb-false u (j .ticket) q (sym z)) o)))
+
+-- ## What a call does before it settles
+
+pub data OwnPart (m : Model) : Call → Model → ℕ → List ℕ → Type 0 where
+  submits : (n e : ℕ) → Fit m n e → latestEnd m e ≤ horizon (m .settings) → OwnPart m (submit n e) (joined m (newJob (m .next) n e)) (m .next) []
+  completes : (t : ℕ) → any (picks (select.RunningTicket t)) (m .jobs) ≡ true
+      → OwnPart m (complete t) (without m (m .clock) (select.RunningTicket t)) 0 (ticketsOf (keep (picks (select.RunningTicket t)) (m .jobs)))
+  ticks : suc (m .clock) ≤ horizon (m .settings) → OwnPart m tick (without m (suc (m .clock)) (select.EndingAt (suc (m .clock)))) 0 (ticketsOf (keep (picks (select.EndingAt (suc (m .clock)))) (m .jobs)))
+
+module _ (m : Model) (v : Valid m) where
+  leave-ready : (c : ℕ) (p : Select) → Leaving m c p → Ready (without m c p)
+  leave-ready c p l = record {
+    kind = v .ready .kind;
+    sound = sound-leave m c p (v .ready .sound) l;
+    promises = λ j i. v .ready .promises j (old j i);
+    starts = λ j i. v .ready .starts j (old j i);
+    room = λ j i w. let x = v .ready .room j (old j i) w in
+        (x .0, eased m (without m c p) (j .ticket) (x .0) (v .ready .sound) (v .rests) (leave-eases m c p (v .ready .sound) l) (x .1), x .2);
+  }
+    where
+      old : (j : Job) → In j (without m c p .jobs) → In j (m .jobs)
+      old j i = keep-in (λ (j : Job). not (picks p j)) (m .jobs) i .0
+
+  join-ready : (n e : ℕ) → Fit m n e → latestEnd m e ≤ horizon (m .settings) → Ready (joined m (newJob (m .next) n e))
+  join-ready n e f room = record {
+    kind = v .ready .kind;
+    sound = sound-join m n e (newJob (m .next) n e) (v .ready .sound) f fresh refl (omega (arith, v .ready .sound .capacity));
+    promises = each (λ (k : Job). k .promise ≡ 0) (v .ready .promises) refl;
+    starts = each (λ (k : Job). isWaiting k ≡ true → k .start ≡ 0) (v .ready .starts) (λ w. refl);
+    room =
+        each (λ (k : Job). isWaiting k ≡ true → Room (joined m (newJob (m .next) n e)) k)
+        (λ k i w. let x = v .ready .room k i w in
+        (x .0, eased m (joined m (newJob (m .next) n e)) (k .ticket) (x .0) (v .ready .sound) (v .rests) (join-eases m n e) (x .1), x .2))
+        (λ w. (m .clock + rank m * unit (m .settings), join-course m n e, room));
+  }
+    where
+      each : (P : Job → Type 0) → ((j : Job) → In j (m .jobs) → P j) → P (newJob (m .next) n e) → (k : Job) → In k (joined m (newJob (m .next) n e) .jobs) → P k
+      each P f p k i = by (in-append (m .jobs) i)
+        where
+          last : (k ≡ newJob (m .next) n e) ⊎ In k [] → P k
+          last (inl q) = subst P (sym q) p
+          last (inr u) = in-nil u
+
+          by : In k (m .jobs) ⊎ In k (newJob (m .next) n e ∷ []) → P k
+          by (inl o) = f k o
+          by (inr o) = last (in-cons o)
+
+      fresh : SoundJob (m .settings) (m .clock) (newJob (m .next) n e)
+      fresh = record {
+        is-live = refl;
+        nodes-from = f .nodes-from;
+        nodes-to = f .nodes-to;
+        estimate-from = f .estimate-from;
+        estimate-to = f .estimate-to;
+        ends = omega (arith, room);
+        runs = λ r. true-false false r refl;
+      }
+
+pub moved-ready : {m : Model} {c : Call} {mid : Model} {t : ℕ} {ts : List ℕ} → OwnPart m c mid t ts → Valid m → Ready mid
+moved-ready {m} (submits n e f room) v = join-ready m v n e f room
+moved-ready {m} (completes t a) v = leave-ready m v (m .clock) (select.RunningTicket t) (early t)
+moved-ready {m} (ticks l) v = leave-ready m v (suc (m .clock)) (select.EndingAt (suc (m .clock))) (in-time l)
+
+pub moved-eases : {m : Model} {c : Call} {mid : Model} {t : ℕ} {ts : List ℕ} → OwnPart m c mid t ts → Sound m → Eases m mid
+moved-eases {m} (submits n e f room) s = join-eases m n e
+moved-eases {m} (completes t a) s = leave-eases m (m .clock) (select.RunningTicket t) s (early t)
+moved-eases {m} (ticks l) s = leave-eases m (suc (m .clock)) (select.EndingAt (suc (m .clock))) s (in-time l)
+
+-- who comes by it
+abbrev pub joiner : {m : Model} {c : Call} {mid : Model} {t : ℕ} {ts : List ℕ} → OwnPart m c mid t ts → List Newcomer
+joiner {m} (submits n e f room) = record { ticket = m .next; nodes = n; promise = 0 } ∷ []
+joiner (completes t a) = []
+joiner (ticks l) = []
+
+-- ## Each call is accepted or refused
+
+pub record CallAccepted (m : Model) (c : Call) (o : Result) : Type 0 where
+  -- the model before it settles
+  pub mid : Model
+  pub moved : OwnPart m c mid (o .reply .ticket) (o .reply .ended)
+  pub trace : Settles mid (o .model) (o .reply .started)
+  pub accepted : o .reply .refusal ≡ refusal.None
+  pub promise : o .reply .promise ≡ 0
+  pub head : o .reply .head ≡ forecast m (o .model)
+
+-- nothing has changed: the call was refused, or leaves the scheduler as it is
+pub record Unchanged (m : Model) (c : Call) (o : Result) : Type 0 where
+  pub why : Refusal
+  pub same : o ≡ refuse m why
+  pub silent : newsOf c (refusing why) ≡ nothing
+
+pub taken-came : (m : Model) (c : Call) (o : Result) (t : CallAccepted m c o) → newsOf c (o .reply) .came ≡ joiner (t .moved)
+taken-came m c o t = by (t .moved) refl (t .accepted) (t .promise)
+  where
+    by : {c : Call} {mid : Model} {u : ℕ} {ts : List ℕ} (x : OwnPart m c mid u ts) → o .reply .ticket ≡ u
+        → o .reply .refusal ≡ refusal.None → o .reply .promise ≡ 0 → newsOf c (o .reply) .came ≡ joiner x
+    by (submits n e f room) q a p = rw (a, q, p)
+    by (completes t y) q a p = rw a
+    by (ticks l) q a p = rw a
+
+pub quiet-news : (m : Model) (c : Call) (o : Result) → Unchanged m c o → newsOf c (o .reply) ≡ nothing
+quiet-news m c o q = ap (λ (x : Result). newsOf c (x .reply)) (q .same) ∙ q .silent
+
+finished-taken : (m : Model) (c : Call) (mid : Model) (t : ℕ) (ts : List ℕ) → OwnPart m c mid t ts → Ready mid → CallAccepted m c (finished m mid t ts)
+unfolding finished
+finished-taken m c mid t ts x r = record { mid = mid; moved = x; trace = settles mid (r .sound); accepted = refl; promise = refl; head = refl }
+
+judge : (m : Model) (c : Call) (r : Refusal) (o : Result) → (accepts r ≡ true → CallAccepted m c o) → CallAccepted m c (judged m r o) ⊎ Unchanged m c (judged m r o)
+judge m c r o f = case (accepts r) (λ e. rw e (inl (f e))) (λ e. rw e (inr (record { why = r; same = refl; silent = refused-news c r e })))
+
+-- what is accepted moves the model
+module _ (m : Model) where
+  pub submit-moves : (n e : ℕ) → accepts (submitRefusal m n e) ≡ true → OwnPart m (submit n e) (joined m (newJob (m .next) n e)) (m .next) []
+  unfolding submitRefusal
+  submit-moves n e a =
+      let f = submit-fit m n e _ a in
+      let p = passed (ltb (horizon (m .settings)) (latestEnd m e)) refusal.PastHorizon [] refl (f .1) in
+      submits n e (f .0) (ltb-false (horizon (m .settings)) (latestEnd m e) (p .0))
+
+  pub complete-moves : (t : ℕ) → accepts (completeRefusal m t) ≡ true
+      → OwnPart m (complete t) (without m (m .clock) (select.RunningTicket t)) 0 (ticketsOf (keep (picks (select.RunningTicket t)) (m .jobs)))
+  unfolding completeRefusal
+  complete-moves t a =
+      let p = passed (not (any (picks (select.RunningTicket t)) (m .jobs))) refusal.NotRunning [] refl a in
+      completes t (not-false (any (picks (select.RunningTicket t)) (m .jobs)) (p .0))
+
+  pub tick-moves : accepts (tickRefusal m) ≡ true
+      → OwnPart m tick (without m (suc (m .clock)) (select.EndingAt (suc (m .clock)))) 0 (ticketsOf (keep (picks (select.EndingAt (suc (m .clock)))) (m .jobs)))
+  unfolding tickRefusal
+  tick-moves a =
+      let p = passed (ltb (horizon (m .settings)) (suc (m .clock))) refusal.PastHorizon [] refl a in
+      ticks (ltb-false (horizon (m .settings)) (suc (m .clock)) (p .0))
+
+pub called : (m : Model) (c : Call) → Valid m → CallAccepted m c (call m c) ⊎ Unchanged m c (call m c)
+unfolding call advanced
+called m (submit n e) v =
+    judge m (submit n e) (submitRefusal m n e) (finished m (joined m (newJob (m .next) n e)) (m .next) [])
+    (λ a. let x = submit-moves m n e a in finished-taken m (submit n e) (joined m (newJob (m .next) n e)) (m .next) [] x (moved-ready x v))
+called m (complete t) v =
+    judge m (complete t) (completeRefusal m t) (advanced m (m .clock) (select.RunningTicket t))
+    (λ a. let x = complete-moves m t a in finished-taken m (complete t) _ 0 _ x (moved-ready x v))
+called m tick v =
+    judge m tick (tickRefusal m) (advanced m (suc (m .clock)) (select.EndingAt (suc (m .clock))))
+    (λ a. let x = tick-moves m a in finished-taken m tick _ 0 _ x (moved-ready x v))
+called m (unchanged r) v = inr (record { why = r; same = refl; silent = unchanged-news r r })
+
+pub call-valid : (m : Model) (c : Call) → Valid m → Valid (call m c .model)
+call-valid m c v =
+    ⊎-elim (λ (t : CallAccepted m c (call m c)). record { ready = settles-ready (t .trace) (moved-ready (t .moved) v); rests = settles-rest (t .trace) })
+    (λ (q : Unchanged m c (call m c)). subst (λ (o : Result). Valid (o .model)) (sym (q .same)) v)
+    (called m c v)

@@ -1,0 +1,95 @@
+-- How many tickets an answer names: never more than there are slots, so that the lists of an answer hold them all.
+-- Assumes nothing.
+use mathlib.Core.Path.{_≡_, refl}
+use mathlib.Core.Bool.{not, _&&_}
+use mathlib.Core.List.{List, [], _∷_}
+use mathlib.Core.Option.{Option, none, some}
+use Prim.Native.Nat.{ℕ, zero, suc, _≤_}
+use native.Mathlib.Omega.{arith}
+use lib.Dec.{eqb}
+use lib.ListN.{length, length-map, length-append}
+use Rattle.lists.specs.Tests.{case}
+use Rattle.lists.specs.Lists.{keep, length-keep-le}
+use Rattle.scheduler.specs.declared.Kind.{Kind}
+use Rattle.scheduler.specs.declared.Kind.the-variants.{Conservative, Easy}
+use Rattle.scheduler.specs.declared.Job.{Job}
+use Rattle.scheduler.specs.declared.Select.{Select}
+use Rattle.scheduler.specs.declared.Select.the-variants as select
+use Rattle.scheduler.specs.Jobs.{picks, isWaiting, isRunning}
+use Rattle.scheduler.specs.Table.{ticketOf, ticketsOf, staying}
+use Rattle.scheduler.specs.Model.{Model, joined, without}
+use Rattle.scheduler.specs.declared.Refusal.{Refusal}
+use Rattle.scheduler.specs.Answers.{Result, refuse}
+use Rattle.scheduler.specs.Refusals.{completeRefusal, tickRefusal}
+use Rattle.jobs.specs.Soundness.{submit-fit}
+use Rattle.jobs.specs.Judgement.{judged-by}
+use Rattle.history.specs.Calls.{Call, submit, complete, tick, unchanged}
+use Rattle.conservative_rules.specs.Conservative as conservative
+use Rattle.easy_rules.specs.Easy as easy
+use Rattle.guarantees.specs.Rules.{rulesOf, call}
+
+pub record FitsAnswer (r : Result) : Type 0 where
+  pub ended : length (r .reply .ended) ≤ 64
+  pub started : length (r .reply .started) ≤ 64
+
+left-few : (s : Select) (js : List Job) → length js ≤ 64 → length (ticketsOf (keep (picks s) js)) ≤ 64
+left-few s js h = omega (arith, length-map (keep (picks s) js) ticketOf, length-keep-le (picks s) js)
+
+begun-few : (js ks : List Job) → length (conservative.begun js ks) ≤ length js
+begun-few [] ks = omega arith
+begun-few (j ∷ js) [] = omega arith
+begun-few (j ∷ js) (k ∷ ks) = case (isWaiting j && isRunning k) (λ e. rw e (omega (arith, begun-few js ks))) (λ e. rw e (omega (arith, begun-few js ks)))
+
+settle-few : (n : ℕ) (m : Model) → length (easy.settle n m .started) ≤ n
+unfolding easy.settle
+settle-few zero m = omega arith
+settle-few (suc n) m = go (λ a. settle-few n a) (easy.choice m) refl
+  where
+    go : ((a : Model) → length (easy.settle n a .started) ≤ n) → (o : Option Job) → easy.choice m ≡ o → length (easy.settle (suc n) m .started) ≤ suc n
+    go rest none e = rw e (omega arith)
+    go rest (some j) e = rw e (omega (arith, rest (easy.begin (j .ticket) m)))
+
+finished-fits : (b m : Model) (t : ℕ) (ended : List ℕ) → length ended ≤ 64 → length (m .jobs) ≤ 64 → FitsAnswer (easy.finished b m t ended)
+unfolding easy.finished
+finished-fits b m t ended h g = record { ended = h; started = omega (arith, settle-few (length (easy.queue (m .jobs))) m, length-keep-le isWaiting (m .jobs)) }
+
+advanced-fits : (m : Model) (clock : ℕ) (s : Select) (after : List Job) → length (m .jobs) ≤ 64 → FitsAnswer (conservative.advanced m clock s after)
+unfolding conservative.advanced
+advanced-fits m clock s after h = record { ended = left-few s (m .jobs) h; started = omega (arith, begun-few (staying s (m .jobs)) after, length-keep-le (λ (j : Job). not (picks s j)) (m .jobs)) }
+
+leaving-fits : (m : Model) (clock : ℕ) (s : Select) → length (m .jobs) ≤ 64 → FitsAnswer (easy.advanced m clock s)
+unfolding easy.advanced
+leaving-fits m clock s h = finished-fits m (without m clock s) 0 _ (left-few s (m .jobs) h) (omega (arith, length-keep-le (λ (j : Job). not (picks s j)) (m .jobs)))
+
+refused-fits : (m : Model) (r : Refusal) → FitsAnswer (refuse m r)
+refused-fits m r = record { ended = omega arith; started = omega arith }
+
+fits-by : (k : Kind) (m : Model) (c : Call) → length (m .jobs) ≤ 64 → FitsAnswer (rulesOf k m c)
+unfolding
+    conservative.call
+    conservative.submitRefusal
+    conservative.submitted
+    conservative.completed
+    conservative.ticked
+    easy.call
+    easy.submitRefusal
+    easy.advanced
+fits-by Conservative m (submit n e) h =
+    let s = conservative.planned m n e in
+    judged-by FitsAnswer m (conservative.submitRefusal m n e s) (conservative.submitted m n e s)
+    (λ a. record { ended = omega arith; started = case (eqb s (m .clock)) (λ q. rw q (omega arith)) (λ q. rw q (omega arith)) })
+    (λ a. refused-fits m _)
+fits-by Conservative m (complete t) h = judged-by FitsAnswer m (completeRefusal m t) (conservative.completed m t) (λ a. advanced-fits m _ _ _ h) (λ a. refused-fits m _)
+fits-by Conservative m tick h = judged-by FitsAnswer m (tickRefusal m) (conservative.ticked m) (λ a. advanced-fits m _ _ _ h) (λ a. refused-fits m _)
+fits-by Conservative m (unchanged r) h = refused-fits m _
+fits-by Easy m (submit n e) h =
+    let j = easy.newJob (m .next) n e in
+    judged-by FitsAnswer m (easy.submitRefusal m n e) (easy.finished m (joined m j) (m .next) [])
+    (λ a. finished-fits m (joined m j) (m .next) [] (omega arith) (omega (arith, submit-fit m n e _ a .0 .room, length-append (m .jobs) (j ∷ []))))
+    (λ a. refused-fits m _)
+fits-by Easy m (complete t) h = judged-by FitsAnswer m (completeRefusal m t) (easy.advanced m (m .clock) (select.RunningTicket t)) (λ a. leaving-fits m _ (select.RunningTicket t) h) (λ a. refused-fits m _)
+fits-by Easy m tick h = judged-by FitsAnswer m (tickRefusal m) (easy.advanced m (suc (m .clock)) (select.EndingAt (suc (m .clock)))) (λ a. leaving-fits m _ (select.EndingAt (suc (m .clock))) h) (λ a. refused-fits m _)
+fits-by Easy m (unchanged r) h = refused-fits m _
+
+pub call-fits : (m : Model) (c : Call) → length (m .jobs) ≤ 64 → FitsAnswer (call m c)
+call-fits m c h = fits-by (m .settings .kind) m c h

@@ -1,0 +1,4 @@
+pub mod Obligations
+pub mod Departures
+pub mod Seen
+pub mod Proof

@@ -1,0 +1,135 @@
+-- What a kind of scheduler owes, of each single call: from this alone the guarantees of whole lists follow (Proof.antt).
+-- Assumes nothing.
+use mathlib.Core.Path.{_≡_}
+use mathlib.Core.Bool.{Bool, true, false}
+use mathlib.Core.List.{List, _++_, map}
+use mathlib.Core.Option.{Option, some}
+use Prim.Native.Nat.{ℕ, suc, _+_, _*_, _≤_, _<_}
+use lib.ListN.{length}
+use Rattle.lists.specs.Lists.{keep, All, In}
+use Rattle.scheduler.specs.declared.Kind.{Kind}
+use Rattle.scheduler.specs.declared.Kind.the-variants.{Conservative, Easy}
+use Rattle.scheduler.specs.declared.State.{State}
+use Rattle.scheduler.specs.declared.State.the-variants.{Unused, Waiting, Running}
+use Rattle.scheduler.specs.declared.Job.{Job}
+use Rattle.scheduler.specs.Jobs.{isWaiting}
+use Rattle.scheduler.specs.Settings.{unit}
+use Rattle.scheduler.specs.Table.{nodesHeld, ticketsOf}
+use Rattle.scheduler.specs.Model.{Model, Live}
+use Rattle.scheduler.specs.Answers.{Forecast}
+use Rattle.history.specs.Calls.{Call, Rules}
+use Rattle.history.specs.News.{Newcomer, News, newsOf, clockAfter}
+use Rattle.history.specs.Book.{Fate, waiting, running, ended, fateAfter, lowest}
+
+-- ## What calls and answers can show of a job
+
+pub record JobShown : Type 0 where
+  pub ticket : ℕ
+  pub nodes : ℕ
+  pub promise : ℕ
+  pub fate : Fate
+
+abbrev pub fateBy : State → ℕ → Fate
+fateBy Unused s = waiting
+fateBy Waiting s = waiting
+fateBy Running s = running s
+
+abbrev pub shown : Job → JobShown
+shown j = record { ticket = j .ticket; nodes = j .nodes; promise = j .promise; fate = fateBy (j .state) (j .start) }
+
+abbrev pub live : Fate → Bool
+live waiting = true
+live (running s) = true
+live (ended s) = false
+
+abbrev pub isLive : JobShown → Bool
+isLive x = live (x .fate)
+
+-- after an event that left the clock at c
+abbrev pub remark : ℕ → News → JobShown → JobShown
+remark c e x = record { ticket = x .ticket; nodes = x .nodes; promise = x .promise; fate = fateAfter c e (x .ticket) (x .fate) }
+
+-- the jobs that are live after it
+abbrev pub shownAfter : ℕ → News → List JobShown → List JobShown
+shownAfter c e xs = keep isLive (map (remark c e) xs)
+
+-- the jobs that come
+abbrev pub newly : Newcomer → JobShown
+newly o = record { ticket = o .ticket; nodes = o .nodes; promise = o .promise; fate = waiting }
+
+abbrev pub comers : News → List JobShown
+comers e = map newly (e .came)
+
+-- it tells what has changed: the jobs after it are those before it and those that come, as it says
+abbrev pub Tells : Model → News → Model → Type 0
+Tells m e m′ = map shown (m′ .jobs) ≡ shownAfter (m′ .clock) e (map shown (m .jobs) ++ comers e)
+
+-- what a call says, by its answer
+abbrev pub said : Rules → Model → Call → News
+said R m c = newsOf c (R m c .reply)
+
+-- ## What is kept of a start
+
+-- an aim: the minutes in which a job may start, and those in which it may wait
+pub record Aim : Type 1 where
+  pub mayStart : ℕ → Type 0
+  pub mayWait : ℕ → Type 0
+
+-- to start by d
+abbrev pub by : ℕ → Aim
+by d = record { mayStart = λ (s : ℕ). s ≤ d; mayWait = λ (w : ℕ). w < d }
+
+-- A job with this fate has started as the aim says, or waits and is on course to: `Course m t`.
+abbrev pub Meets : Aim → (Model → ℕ → Type 0) → Model → ℕ → Fate → Type 0
+Meets a Course m t waiting = Course m t
+Meets a Course m t (running s) = a .mayStart s
+Meets a Course m t (ended s) = a .mayStart s
+
+-- one that waited does so after the event
+abbrev pub Kept : Aim → (Model → ℕ → Type 0) → ℕ → News → Model → Type 0
+Kept a Course t e m = Meets a Course m t (fateAfter (m .clock) e t waiting)
+
+-- a job on course may still wait, and every call keeps it so or starts it so
+pub record Keeps (R : Rules) (Valid : Model → Type 0) (a : Aim) (Course : Model → ℕ → Type 0) : Type 0 where
+  pub rest : (m : Model) (t : ℕ) → Valid m → Course m t → a .mayWait (m .clock)
+  pub keeps : (m : Model) (c : Call) (t : ℕ) → Valid m → Course m t → Kept a Course t (said R m c) (R m c .model)
+
+-- ## Deadlines
+
+-- the minute by which a job must start, fixed when it is submitted: its promise or its bound
+abbrev pub deadline : Kind → ℕ → ℕ → ℕ
+deadline Conservative promise bound = promise
+deadline Easy promise bound = bound
+
+-- "the clock at intake + r × 10,080", r "one more than the number of stacks waiting just before its intake"
+abbrev pub boundAt : Model → ℕ
+boundAt m = m .clock + suc (length (keep isWaiting (m .jobs))) * unit (m .settings)
+
+-- the ticket of the head
+abbrev pub lowestWaiting : Model → Option ℕ
+lowestWaiting m = lowest (ticketsOf (keep isWaiting (m .jobs)))
+
+-- `OnCourse m u b`: the job u waits, and will start by b
+abbrev pub For : (Model → ℕ → ℕ → Type 0) → ℕ → Model → ℕ → Type 0
+For OnCourse b m u = OnCourse m u b
+
+pub record Lawful (k : Kind) (R : Rules) (Valid : Model → Type 0) (OnCourse : Model → ℕ → ℕ → Type 0) : Type 0 where
+  pub kind-is : (m : Model) → Valid m → m .settings .kind ≡ k
+  pub all-live : (m : Model) → Valid m → All Live (m .jobs)
+  pub capacity : (m : Model) → Valid m → nodesHeld (m .jobs) ≤ m .settings .nodes
+  -- each call hands back a valid model with the same settings
+  pub valid : (m : Model) (c : Call) → Valid m → Valid (R m c .model)
+  pub settings : (m : Model) (c : Call) → Valid m → R m c .model .settings ≡ m .settings
+  -- and its answer tells what has changed
+  pub clock : (m : Model) (c : Call) → Valid m → R m c .model .clock ≡ clockAfter (said R m c) (m .clock)
+  pub tells : (m : Model) (c : Call) → Valid m → Tells m (said R m c) (R m c .model)
+  -- a job on course for a deadline is kept so, and is so from its submission on
+  pub keeps : (b : ℕ) → Keeps R Valid (by b) (For OnCourse b)
+  pub joins : (m : Model) (c : Call) (o : Newcomer) → Valid m → In o (said R m c .came)
+      → let d = deadline k (o .promise) (boundAt m) in Kept (by d) (For OnCourse d) (o .ticket) (said R m c) (R m c .model)
+  -- a ticket given is not that of the head
+  pub fresh : (m : Model) (c : Call) (o : Newcomer) → Valid m → In o (said R m c .came) → lowestWaiting m ≡ some (o .ticket) → ⊥
+  -- a forecast is kept, and on the Loose Desk whoever is head and was not before hears one
+  pub forecasts : (m : Model) (c : Call) (f : Forecast) → Valid m → said R m c .head ≡ some f → OnCourse (R m c .model) (f .ticket) (f .minute)
+  pub hears : k ≡ Easy → (m : Model) (c : Call) (h : ℕ) → Valid m → lowestWaiting (R m c .model) ≡ some h → (lowestWaiting m ≡ some h → ⊥)
+      → (f : Forecast) × (said R m c .head ≡ some f) × (f .ticket ≡ h)

@@ -1,0 +1,291 @@
+-- From what a kind of scheduler owes of each single call to the guarantees of every list of calls.
+-- A book agrees with a model: it has the model's clock and live jobs, and every job in it has met, or is on course to meet, its deadline
+-- and its forecast. Every call keeps that.
+-- Assumes nothing.
+use mathlib.Core.Path.{_≡_, refl, sym, ap, subst, _∙_}
+use mathlib.Core.Bool.{true, false, not, _&&_}
+use mathlib.Core.List.{List, [], _∷_, _++_, map}
+use mathlib.Core.Logic.{_⊎_, inl, inr}
+use mathlib.Core.Option.{Option, none, some}
+use Prim.Native.Nat.{ℕ, _+_, _*_, _≤_}
+use native.Mathlib.Omega.{arith}
+use lib.Dec.{eqb}
+use lib.ListN.{length, length-map}
+use borrow.Author.Tests.{eqb-true, eq-eqb, not-false}
+use Rattle.lists.specs.Tests.{case, true-false}
+use Rattle.lists.specs.Lists.{keep, elem, In, in-append, map-in}
+use Rattle.scheduler.specs.declared.Kind.{Kind}
+use Rattle.scheduler.specs.declared.Kind.the-variants.{Conservative, Easy}
+use Rattle.scheduler.specs.Jobs as jobs
+use Rattle.scheduler.specs.Settings.{unit}
+use Rattle.scheduler.specs.Table.{ticketOf}
+use Rattle.scheduler.specs.Model.{Model}
+use Rattle.scheduler.specs.Answers.{Forecast}
+use Rattle.history.specs.Calls.{Call, Rules, after, events}
+use Rattle.history.specs.News.{Newcomer, News, clockAfter}
+use Rattle.history.specs.Book.{Fate, waiting, running, ended, Entry, Book, waits, start, isWaiting, rank, entry, fateAfter, marked, lowest, entryTicket, headOf, is, given, hearing, heard, enter, enterAll}
+use Rattle.history.specs.Guarantee.{StartedBy, Guarantee}
+use Rattle.history_proof.specs.Seen.{seen, isLiveEntry, keep-seen, marked-seen, Heard, same, first-time, heard-by, heard-seen, drop-ended, queue, queue-seen, came-seen, same-queue, same-nodes}
+use Rattle.history_proof.specs.Obligations.{JobShown, shown, isLive, remark, comers, deadline, boundAt, lowestWaiting, said, Aim, by, For, Meets, Kept, Keeps, Lawful}
+
+-- ## Agreement
+
+-- the job t, whose fate is f, has met the deadline d, or is on course to meet it
+abbrev pub OnTime : (Model → ℕ → ℕ → Type 0) → Model → ℕ → Fate → ℕ → Type 0
+OnTime OnCourse m t f d = Meets (by d) (For OnCourse d) m t f
+
+abbrev pub deadlineOf : Kind → Entry → ℕ
+deadlineOf k x = deadline k (x .promise) (x .bound)
+
+pub record Agrees (k : Kind) (OnCourse : Model → ℕ → ℕ → Type 0) (m : Model) (b : Book) : Type 0 where
+  pub clock-is : b .clock ≡ m .clock
+  pub jobs-are : map seen (keep isLiveEntry (b .entries)) ≡ map shown (m .jobs)
+  pub deadlines : (x : Entry) → In x (b .entries) → OnTime OnCourse m (x .ticket) (x .fate) (deadlineOf k x)
+  pub forecasts : (x : Entry) (f : ℕ) → In x (b .entries) → x .forecast ≡ some f → OnTime OnCourse m (x .ticket) (x .fate) f
+  pub heard-one : k ≡ Easy → (x : Entry) → In x (b .entries) → x .headed ≡ true → (f : ℕ) × (x .forecast ≡ some f)
+  pub heads : (x : Entry) → In x (b .entries) → isWaiting x ≡ true → headOf (b .entries) ≡ some (x .ticket) → x .headed ≡ true
+
+-- ## One call
+
+is-some : (h : Option ℕ) (t : ℕ) → is h t ≡ true → h ≡ some t
+is-some none t e = true-false false e refl
+is-some (some x) t e = ap some (eqb-true x t e)
+
+some-is : (h : Option ℕ) (t : ℕ) → h ≡ some t → is h t ≡ true
+some-is h t e = rw e (eq-eqb t t refl)
+
+waiting-is : (f : Fate) → waits f ≡ true → f ≡ waiting
+waiting-is waiting e = refl
+waiting-is (running s) e = true-false false e refl
+waiting-is (ended s) e = true-false false e refl
+
+-- who waits after a call waited before it
+waited : (c : ℕ) (r : News) (t : ℕ) (f : Fate) → waits (fateAfter c r t f) ≡ true → waits f ≡ true
+waited c r t waiting e = refl
+waited c r t (running s) e = case (elem t (r .ended)) (λ q. rw q at e) (λ q. rw q at e)
+waited c r t (ended s) e = e
+
+-- a forecast given is the answer's
+given-is : (f : Option Forecast) (t d : ℕ) → given f t ≡ some d → (F : Forecast) × (f ≡ some F) × (F .ticket ≡ t) × (F .minute ≡ d)
+given-is none t d e = absurd (let z : _≡_ {A = ℕ} 0 1 = cc in omega arith)
+given-is (some F) t d e = case (eqb (F .ticket) t) (λ q. (F, refl, eqb-true (F .ticket) t q, minute (rw q at e))) (λ q. never (rw q at e))
+  where
+    minute : some (F .minute) ≡ some d → F .minute ≡ d
+    minute s = cc
+
+    never : {A : Type 0} → none ≡ some d → A
+    never s = absurd (let z : _≡_ {A = ℕ} 0 1 = cc in omega arith)
+
+-- and one that the answer gives is given
+given-told : (h : Option Forecast) (F : Forecast) (t : ℕ) → h ≡ some F → F .ticket ≡ t → given h t ≡ some (F .minute)
+given-told h F t e q = rw (e, eq-eqb (F .ticket) t q)
+
+-- what each call keeps of the start of a job that waits, it keeps of every job
+module _ (R : Rules) (Valid : Model → Type 0) (a : Aim) (Course : Model → ℕ → Type 0) (K : Keeps R Valid a Course) (m : Model) (c : Call) (v : Valid m) where
+  pub kept-after : (t : ℕ) (f : Fate) → Meets a Course m t f → Meets a Course (R m c .model) t (fateAfter (R m c .model .clock) (said R m c) t f)
+  kept-after t waiting o = K .keeps m c t v o
+  kept-after t (running s) o = case (elem t (R m c .reply .ended)) (λ e. rw e o) (λ e. rw e o)
+  kept-after t (ended s) o = o
+
+module _ {k : Kind} {R : Rules} {Valid : Model → Type 0} {OnCourse : Model → ℕ → ℕ → Type 0} (L : Lawful k R Valid OnCourse) where
+  -- ### the book after the call
+  module _ (m : Model) (c : Call) (v : Valid m) (b : Book) (a : Agrees k OnCourse m b) (u : ℕ) (u-is : u ≡ unit (m .settings)) where
+    abbrev r : News
+    r = said R m c
+
+    abbrev m′ : Model
+    m′ = R m c .model
+
+    abbrev c′ : ℕ
+    c′ = clockAfter r (b .clock)
+
+    abbrev xs : List Entry
+    xs = b .entries ++ map (entry u b) (r .came)
+
+    abbrev ys : List Entry
+    ys = map (marked c′ r) xs
+
+    abbrev b′ : Book
+    b′ = enter u b r
+
+    clock-after : m′ .clock ≡ c′
+    clock-after = L .clock m c v ∙ ap (clockAfter r) (sym (a .clock-is))
+
+    -- what the entries show, up to those that have ended, is what the jobs show
+    live-after : map seen (keep isLiveEntry (b′ .entries)) ≡ map shown (m′ .jobs)
+    unfolding enter
+    live-after =
+        keep-seen (map (heard (headOf ys) (r .head)) ys)
+        ∙ ap (keep isLive) (heard-seen (headOf ys) (r .head) ys ∙ marked-seen c′ r xs)
+        ∙ drop-ended c′ r (map seen xs)
+        ∙ ap (λ (l : List JobShown). keep isLive (map (remark c′ r) l))
+        (came-seen u b (b .entries) (r .came) ∙ ap (λ (l : List JobShown). l ++ comers r) (a .jobs-are))
+        ∙ sym (rw clock-after at (L .tells m c v))
+
+    -- the heads
+    head-before : headOf (b .entries) ≡ lowestWaiting m
+    head-before = ap lowest (same-queue (m .jobs) (b .entries) (L .all-live m v) (a .jobs-are))
+
+    head-after : headOf (b′ .entries) ≡ lowestWaiting m′
+    head-after = ap lowest (same-queue (m′ .jobs) (b′ .entries) (L .all-live m′ (L .valid m c v)) live-after)
+
+    head-heard : headOf (b′ .entries) ≡ headOf ys
+    unfolding enter
+    head-heard =
+        ap lowest (queue-seen (map (heard (headOf ys) (r .head)) ys) ∙ ap queue (heard-seen (headOf ys) (r .head) ys) ∙ sym (queue-seen ys))
+
+    -- the newcomer's bound is the model's
+    bound-is : boundAt m ≡ b .clock + rank (b .entries) * u
+    bound-is =
+        let q : length (keep isWaiting (b .entries)) ≡ length (keep jobs.isWaiting (m .jobs)) =
+        sym (length-map (keep isWaiting (b .entries)) entryTicket)
+        ∙ ap length (same-queue (m .jobs) (b .entries) (L .all-live m v) (a .jobs-are))
+        ∙ length-map (keep jobs.isWaiting (m .jobs)) ticketOf in
+        rw (u-is, a .clock-is, q)
+
+    -- an entry before the heads are told: one of the book before, or a newcomer
+    data Came : Entry → Type 0 where
+      old : (x : Entry) → In x (b .entries) → Came x
+      new : (o : Newcomer) → In o (r .came) → Came (entry u b o)
+
+    -- The walk over the entries after the call: each comes from one before it, and hears a forecast or does not.
+    each : (P : Entry → Type 0)
+        → ((x : Entry) → Came x → (isWaiting (marked c′ r x) && is (headOf ys) (x .ticket) && not (x .headed)) ≡ false → P (marked c′ r x))
+        → ((x : Entry) → Came x → isWaiting (marked c′ r x) ≡ true → is (headOf ys) (x .ticket) ≡ true → x .headed ≡ false
+        → P (hearing (r .head) (marked c′ r x)))
+        → (z : Entry) → In z (b′ .entries) → P z
+    unfolding enter
+    each P f g z i =
+        let p = map-in (heard (headOf ys) (r .head)) ys i in
+        let q = map-in (marked c′ r) xs (p .1) in
+        from (q .0) (p .2 ∙ ap (heard (headOf ys) (r .head)) (q .2)) (origin (q .0) (in-append (b .entries) (q .1)))
+        (heard-by (headOf ys) (r .head) (marked c′ r (q .0)))
+      where
+        origin : (x : Entry) → In x (b .entries) ⊎ In x (map (entry u b) (r .came)) → Came x
+        origin x (inl k) = old x k
+        origin x (inr k) = let q = map-in (entry u b) (r .came) k in subst Came (sym (q .2)) (new (q .0) (q .1))
+
+        from : (x : Entry) → z ≡ heard (headOf ys) (r .head) (marked c′ r x) → Came x → Heard (headOf ys) (r .head) (marked c′ r x) → P z
+        from x e o (same q t) = subst P (sym (e ∙ q)) (f x o t)
+        from x e o (first-time q w h n) = subst P (sym (e ∙ q)) (g x o w h n)
+
+    -- who met a deadline, or was on course for it, does so after the call
+    on-time : (t d : ℕ) (f : Fate) → OnTime OnCourse m t f d → OnTime OnCourse m′ t (fateAfter c′ r t f) d
+    on-time t d f o =
+        subst (λ (x : ℕ). OnTime OnCourse m′ t (fateAfter x r t f) d) clock-after
+        (kept-after R Valid (by d) (For OnCourse d) (L .keeps d) m c v t f o)
+
+    deadline-came : (x : Entry) → Came x → OnTime OnCourse m′ (x .ticket) (fateAfter c′ r (x .ticket) (x .fate)) (deadlineOf k x)
+    deadline-came x (old y i) = on-time (x .ticket) (deadlineOf k x) (x .fate) (a .deadlines x i)
+    deadline-came x (new o i) =
+        subst (λ (y : ℕ). OnTime OnCourse m′ (o .ticket) (fateAfter y r (o .ticket) waiting) (deadlineOf k (entry u b o))) clock-after
+        (subst (λ (d : ℕ). let e = deadline k (o .promise) d in Kept (by e) (For OnCourse e) (o .ticket) r m′) bound-is (L .joins m c o v i))
+
+    deadline-after : (z : Entry) → In z (b′ .entries) → OnTime OnCourse m′ (z .ticket) (z .fate) (deadlineOf k z)
+    deadline-after =
+        each (λ (z : Entry). OnTime OnCourse m′ (z .ticket) (z .fate) (deadlineOf k z)) (λ x o t. deadline-came x o) (λ x o w h n. deadline-came x o)
+
+    -- a forecast that an entry had, or hears now
+    forecast-came : (x : Entry) (f : ℕ) → Came x → x .forecast ≡ some f → OnTime OnCourse m′ (x .ticket) (fateAfter c′ r (x .ticket) (x .fate)) f
+    forecast-came x f (old y i) e = on-time (x .ticket) f (x .fate) (a .forecasts x f i e)
+    forecast-came x f (new o i) e = absurd (let z : _≡_ {A = ℕ} 0 1 = cc in omega arith)
+
+    forecast-now : (x : Entry) (f : ℕ) → given (r .head) (x .ticket) ≡ some f → OnCourse m′ (x .ticket) f
+    forecast-now x f g =
+        let F = given-is (r .head) (x .ticket) f g in
+        let t : F .0 .ticket ≡ x .ticket = F .2 in
+        let d : F .0 .minute ≡ f = F .3 in
+        subst (λ (d : ℕ). OnCourse m′ (x .ticket) d) d (subst (λ (t : ℕ). OnCourse m′ t (F .0 .minute)) t (L .forecasts m c (F .0) v (F .1)))
+
+    forecast-after : (z : Entry) → In z (b′ .entries) → (f : ℕ) → z .forecast ≡ some f → OnTime OnCourse m′ (z .ticket) (z .fate) f
+    forecast-after =
+        each (λ (z : Entry). (f : ℕ) → z .forecast ≡ some f → OnTime OnCourse m′ (z .ticket) (z .fate) f)
+        (λ x o t f g. forecast-came x f o g)
+        (λ x o w h n f g. rw (waiting-is (fateAfter c′ r (x .ticket) (x .fate)) w) (forecast-now x f g))
+
+    -- who is head now for the first time was not head before
+    not-before : (x : Entry) → Came x → waits (x .fate) ≡ true → x .headed ≡ false → lowestWaiting m ≡ some (x .ticket) → ⊥
+    not-before x (old y i) w n h = true-false (x .headed) (a .heads x i w (head-before ∙ h)) n
+    not-before x (new o i) w n h = L .fresh m c o v i h
+
+    headed-came : k ≡ Easy → (x : Entry) → Came x → x .headed ≡ true → (f : ℕ) × (x .forecast ≡ some f)
+    headed-came ke x (old y i) h = a .heard-one ke x i h
+    headed-came ke x (new o i) h = true-false false h refl
+
+    heard-after : k ≡ Easy → (z : Entry) → In z (b′ .entries) → z .headed ≡ true → (f : ℕ) × (z .forecast ≡ some f)
+    heard-after ke =
+        each (λ (z : Entry). z .headed ≡ true → (f : ℕ) × (z .forecast ≡ some f))
+        (λ x o t h. headed-came ke x o h)
+        (λ x o w hd n h.
+        let now : lowestWaiting m′ ≡ some (x .ticket) = sym head-after ∙ head-heard ∙ is-some (headOf ys) (x .ticket) hd in
+        let F = L .hears ke m c (x .ticket) v now (not-before x o (waited c′ r (x .ticket) (x .fate) w) n) in
+        (F .0 .minute, given-told (r .head) (F .0) (x .ticket) (F .1) (F .2)))
+
+    heads-after : (z : Entry) → In z (b′ .entries) → isWaiting z ≡ true → headOf (b′ .entries) ≡ some (z .ticket) → z .headed ≡ true
+    heads-after =
+        each (λ (z : Entry). isWaiting z ≡ true → headOf (b′ .entries) ≡ some (z .ticket) → z .headed ≡ true)
+        (λ x o t w h. not-false (x .headed) (rw (w, some-is (headOf ys) (x .ticket) (sym head-heard ∙ h)) at t))
+        (λ x o w hd n w′ h. refl)
+
+    -- every call keeps book and model in agreement
+    agrees-call : Agrees k OnCourse m′ b′
+    unfolding enter
+    agrees-call = record {
+      clock-is = sym clock-after;
+      jobs-are = live-after;
+      deadlines = deadline-after;
+      forecasts = λ z f i. forecast-after z i f;
+      heard-one = heard-after;
+      heads = heads-after;
+    }
+
+  -- ## Every list of calls
+
+  pub record InStep (u : ℕ) (m : Model) (b : Book) : Type 0 where
+    pub valid : Valid m
+    pub agrees : Agrees k OnCourse m b
+    pub unit-is : u ≡ unit (m .settings)
+
+  pub follows : (u : ℕ) (m : Model) (b : Book) (cs : List Call) → InStep u m b → InStep u (after R m cs) (enterAll u b (events R m cs))
+  follows u m b [] f = f
+  follows u m b (c ∷ cs) f =
+      follows u (R m c .model) (enter u b (said R m c)) cs
+      (record {
+        valid = L .valid m c (f .valid);
+        agrees = agrees-call m c (f .valid) b (f .agrees) u (f .unit-is);
+        unit-is = f .unit-is ∙ ap unit (sym (L .settings m c (f .valid)));
+      })
+
+  -- ## What agreement guarantees
+
+  module _ (m : Model) (b : Book) (v : Valid m) (a : Agrees k OnCourse m b) where
+    started-by : (x : Entry) (d : ℕ) → OnTime OnCourse m (x .ticket) (x .fate) d → d ≤ b .clock → StartedBy x d
+    started-by x d o l = go (x .fate) refl o
+      where
+        go : (f : Fate) → x .fate ≡ f → OnTime OnCourse m (x .ticket) f d → StartedBy x d
+        go waiting e o = absurd (omega (arith, L .keeps d .rest m (x .ticket) v o, a .clock-is))
+        go (running s) e o = record { minute = s; started = ap start e; by = o }
+        go (ended s) e o = record { minute = s; started = ap start e; by = o }
+
+    pub agrees-guarantee : Guarantee k (m .settings .nodes) b
+    agrees-guarantee = record {
+      promises = λ q x i l. started-by x (x .promise) (by-kind Conservative q x (a .deadlines x i)) l;
+      bounds = λ q x i l. started-by x (x .bound) (by-kind Easy q x (a .deadlines x i)) l;
+      forecasts = λ q x f i e l. started-by x f (a .forecasts x f i e) l;
+      heads = λ q x i w h. a .heard-one q x i (a .heads x i w h);
+      within = omega (arith, same-nodes (m .jobs) (b .entries) (a .jobs-are), L .capacity m v);
+    }
+      where
+        by-kind : (κ : Kind) → k ≡ κ → (x : Entry) → OnTime OnCourse m (x .ticket) (x .fate) (deadlineOf k x) → OnTime OnCourse m (x .ticket) (x .fate) (deadlineOf κ x)
+        by-kind κ q x o = subst (λ (j : Kind). OnTime OnCourse m (x .ticket) (x .fate) (deadlineOf j x)) q o
+
+  -- from any book that agrees with a valid model, after every list of calls
+  pub guaranteed : (u : ℕ) (m : Model) (b : Book) (cs : List Call) → InStep u m b → Guarantee k (after R m cs .settings .nodes) (enterAll u b (events R m cs))
+  guaranteed u m b cs f =
+      let g = follows u m b cs f in
+      agrees-guarantee (after R m cs) (enterAll u b (events R m cs)) (g .valid) (g .agrees)
+
+  -- the machine's nodes stay what they were
+  pub settings-after : (m : Model) (cs : List Call) → Valid m → after R m cs .settings ≡ m .settings
+  settings-after m [] v = refl
+  settings-after m (c ∷ cs) v = settings-after (R m c .model) cs (L .valid m c v) ∙ L .settings m c v

@@ -1,0 +1,144 @@
+-- What the entries of a book show is what jobs of a model show: the live ones after a call, who waits, and the nodes held.
+-- Assumes nothing.
+use mathlib.Core.Path.{_≡_, refl, sym, ap, _∙_}
+use mathlib.Core.Bool.{Bool, true, false, not, _&&_}
+use mathlib.Core.List.{List, _++_, map, map-map, map-append}
+use mathlib.Core.Option.{Option}
+use Prim.Native.Nat.{ℕ}
+use borrow.Author.Tests.{not-true}
+use Rattle.lists.specs.Tests.{case, true-false, both, on}
+use Rattle.lists.specs.Lists.{keep, keep-append, keep-all, sum, sum-kept, sum-map, sum-cong, All, all-in, keep-keep, keep-cong, keep-map, map-cong}
+use Rattle.scheduler.specs.declared.State.{State}
+use Rattle.scheduler.specs.declared.State.the-variants.{Unused, Waiting, Running}
+use Rattle.scheduler.specs.declared.Job.{Job}
+use Rattle.scheduler.specs.Jobs as jobs
+use Rattle.scheduler.specs.Jobs.{live?, waiting?, running?}
+use Rattle.scheduler.specs.Table.{nodesHeld, ticketsOf}
+use Rattle.scheduler.specs.Model.{Live}
+use Rattle.scheduler.specs.Answers.{Forecast}
+use Rattle.history.specs.News.{Newcomer, News}
+use Rattle.history.specs.Book.{Fate, waiting, running, ended, Entry, Book, entry, waits, runs, isWaiting, fateAfter, marked, entryTicket, is, hearing, heard}
+use Rattle.history.specs.Guarantee.{running-nodes}
+use Rattle.history_proof.specs.Obligations.{JobShown, fateBy, shown, live, isLive, remark, newly}
+
+abbrev pub seen : Entry → JobShown
+seen x = record { ticket = x .ticket; nodes = x .nodes; promise = x .promise; fate = x .fate }
+
+abbrev pub isLiveEntry : Entry → Bool
+isLiveEntry x = live (x .fate)
+
+pub keep-seen : (xs : List Entry) → map seen (keep isLiveEntry xs) ≡ keep isLive (map seen xs)
+keep-seen xs = sym (keep-map isLive seen xs)
+
+-- ## After an event
+
+pub marked-seen : (c : ℕ) (e : News) (xs : List Entry) → map seen (map (marked c e) xs) ≡ map (remark c e) (map seen xs)
+marked-seen c e xs = map-map seen (marked c e) xs ∙ sym (map-map (remark c e) seen xs)
+
+-- an entry that hears a forecast was waiting, head, and had not been head before
+pub data Heard (h : Option ℕ) (f : Option Forecast) (y : Entry) : Type 0 where
+  same : heard h f y ≡ y → (isWaiting y && is h (y .ticket) && not (y .headed)) ≡ false → Heard h f y
+  first-time : heard h f y ≡ hearing f y → isWaiting y ≡ true → is h (y .ticket) ≡ true → y .headed ≡ false → Heard h f y
+
+pub heard-by : (h : Option ℕ) (f : Option Forecast) (y : Entry) → Heard h f y
+heard-by h f y =
+    case (isWaiting y && is h (y .ticket) && not (y .headed))
+    (λ e. let p = both (isWaiting y && is h (y .ticket)) (not (y .headed)) e in
+    let q = both (isWaiting y) (is h (y .ticket)) (p .0) in
+    first-time (rw e) (q .0) (q .1) (not-true (y .headed) (p .1)))
+    (λ e. same (rw e) e)
+
+pub heard-seen : (h : Option ℕ) (f : Option Forecast) (ys : List Entry) → map seen (map (heard h f) ys) ≡ map seen ys
+heard-seen h f ys = map-map seen (heard h f) ys ∙ map-cong (λ (y : Entry). seen (heard h f y)) seen ys (λ y i. one y (heard-by h f y))
+  where
+    one : (y : Entry) → Heard h f y → seen (heard h f y) ≡ seen y
+    one y (same e t) = ap seen e
+    one y (first-time e w i n) = ap seen e
+
+-- who has ended stays so
+ended-stays : (c : ℕ) (e : News) (t : ℕ) (f : Fate) → (live f && live (fateAfter c e t f)) ≡ live (fateAfter c e t f)
+ended-stays c e t waiting = refl
+ended-stays c e t (running s) = refl
+ended-stays c e t (ended s) = refl
+
+pub drop-ended : (c : ℕ) (e : News) (xs : List JobShown) → keep isLive (map (remark c e) xs) ≡ keep isLive (map (remark c e) (keep isLive xs))
+drop-ended c e xs =
+    let after : JobShown → Bool = λ (x : JobShown). isLive (remark c e x) in
+    keep-map isLive (remark c e) xs
+    ∙ ap (map (remark c e))
+    (sym (keep-keep after isLive xs ∙ keep-cong (λ (x : JobShown). isLive x && after x) after xs (λ x i. ended-stays c e (x .ticket) (x .fate))))
+    ∙ sym (keep-map isLive (remark c e) (keep isLive xs))
+
+-- who comes is live
+pub came-seen : (u : ℕ) (b : Book) (xs : List Entry) (os : List Newcomer)
+    → keep isLive (map seen (xs ++ map (entry u b) os)) ≡ map seen (keep isLiveEntry xs) ++ map newly os
+came-seen u b xs os =
+    ap (keep isLive) (map-append seen xs (map (entry u b) os))
+    ∙ keep-append isLive (map seen xs) (map seen (map (entry u b) os))
+    ∙ ap (λ (l : List JobShown). l ++ keep isLive (map seen (map (entry u b) os))) (keep-map isLive seen xs)
+    ∙ ap (λ (l : List JobShown). map seen (keep isLiveEntry xs) ++ l)
+    (ap (keep isLive) (map-map seen (entry u b) os) ∙ keep-map isLive newly os ∙ ap (map newly) (keep-all (λ (o : Newcomer). true) os (λ o i. refl)))
+
+-- ## Who waits
+
+abbrev waits-shown : JobShown → Bool
+waits-shown x = waits (x .fate)
+
+abbrev shown-ticket : JobShown → ℕ
+shown-ticket x = x .ticket
+
+abbrev pub queue : List JobShown → List ℕ
+queue xs = map shown-ticket (keep waits-shown xs)
+
+waits-live : (f : Fate) → (live f && waits f) ≡ waits f
+waits-live waiting = refl
+waits-live (running s) = refl
+waits-live (ended s) = refl
+
+queue-live : (xs : List JobShown) → queue (keep isLive xs) ≡ queue xs
+queue-live xs =
+    ap (map shown-ticket)
+    (keep-keep waits-shown isLive xs ∙ keep-cong (λ (x : JobShown). isLive x && waits-shown x) waits-shown xs (λ x i. waits-live (x .fate)))
+
+pub queue-seen : (xs : List Entry) → map entryTicket (keep isWaiting xs) ≡ queue (map seen xs)
+queue-seen xs = sym (ap (map shown-ticket) (keep-map waits-shown seen xs) ∙ map-map shown-ticket seen (keep isWaiting xs))
+
+waits-job : (s : State) (b : ℕ) → live? s ≡ true → waits (fateBy s b) ≡ waiting? s
+waits-job Unused b e = true-false false e refl
+waits-job Waiting b e = refl
+waits-job Running b e = refl
+
+queue-shown : (js : List Job) → All Live js → queue (map shown js) ≡ ticketsOf (keep jobs.isWaiting js)
+queue-shown js l =
+    ap (map shown-ticket) (keep-map waits-shown shown js)
+    ∙ map-map shown-ticket shown (keep (λ (j : Job). waits-shown (shown j)) js)
+    ∙ ap ticketsOf (keep-cong (λ (j : Job). waits-shown (shown j)) jobs.isWaiting js (λ j i. waits-job (j .state) (j .start) (all-in Live l i)))
+
+-- the tickets waiting by the book are those waiting by the model
+pub same-queue : (js : List Job) (xs : List Entry) → All Live js → map seen (keep isLiveEntry xs) ≡ map shown js
+    → map entryTicket (keep isWaiting xs) ≡ ticketsOf (keep jobs.isWaiting js)
+same-queue js xs l e = queue-seen xs ∙ sym (queue-live (map seen xs)) ∙ ap queue (sym (keep-seen xs) ∙ e) ∙ queue-shown js l
+
+-- ## Who runs
+
+abbrev shown-nodes : JobShown → ℕ
+shown-nodes x = on (runs (x .fate)) (x .nodes)
+
+runs-live : (f : Fate) → live f ≡ false → runs f ≡ false
+runs-live waiting e = refl
+runs-live (running s) e = e
+runs-live (ended s) e = refl
+
+runs-job : (s : State) (t : ℕ) → runs (fateBy s t) ≡ running? s
+runs-job Unused t = refl
+runs-job Waiting t = refl
+runs-job Running t = refl
+
+-- the nodes of running jobs, by the book and by the model
+pub same-nodes : (js : List Job) (xs : List Entry) → map seen (keep isLiveEntry xs) ≡ map shown js → sum running-nodes xs ≡ nodesHeld js
+same-nodes js xs e =
+    sym (sum-kept running-nodes isLiveEntry xs (λ x q. ap (λ (t : Bool). on t (x .nodes)) (runs-live (x .fate) q)))
+    ∙ sym (sum-map shown-nodes seen (keep isLiveEntry xs))
+    ∙ ap (sum shown-nodes) e
+    ∙ sum-map shown-nodes shown js
+    ∙ sum-cong (λ (j : Job). shown-nodes (shown j)) jobs.held js (λ j i. ap (λ (t : Bool). on t (j .nodes)) (runs-job (j .state) (j .start)))

@@ -1,0 +1,46 @@
+-- What the calls of this crate share: answers and a submission as flat types, `Outcome` as the struct of the answer and the scheduler,
+-- `ProfileOutcome` as that of a count, the answer and the points (`Results.antt` of crate lent_lemmas).
+-- Assumes nothing.
+use Rattle.lent_lemmas.proofs.Thin.{Flat, FlatLaws, struct-flat, Two}
+use Rattle.lent_lemmas.proofs.Fills.{Sheet}
+use Rattle.lent_lemmas.proofs.Results.{struct-laws, two-of, sheet-of}
+use Rattle.calls.proofs.Shown as W
+use Rattle.calls.proofs.Shown.Laws as W′
+use Rattle.calls.proofs.ProfileOutcome as P
+use Rattle.spans.proofs.Point as Q
+use Rattle.spans.proofs.Point.Laws as Q′
+use Rattle.scheduler.proofs.Scheduler as D
+use Rattle.scheduler.proofs.Scheduler.Laws as D′
+use Rattle.scheduler.proofs.Answer as N
+use Rattle.scheduler.proofs.Answer.Laws as N′
+use Rattle.scheduler.proofs.Submission as X
+use Rattle.scheduler.proofs.Submission.Laws as X′
+use Rattle.scheduler.proofs.Outcome as S
+
+abbrev pub answer : Flat
+answer = struct-flat N.the-type N′.the-laws
+
+pub answer-laws : FlatLaws answer
+answer-laws = struct-laws N.the-type N′.the-laws N′.the-plain
+
+abbrev pub submission : Flat
+submission = struct-flat X.the-type X′.the-laws
+
+pub submission-laws : FlatLaws submission
+submission-laws = struct-laws X.the-type X′.the-laws X′.the-plain
+
+abbrev pub outcome-two : Two answer D.the-type D′.the-laws
+outcome-two = two-of N.the-type N′.the-laws N′.lowers (S.the-type .name) (S.the-type .D) (λ r. r .answer) D.the-type D′.the-laws D′.lowers (λ r. r .scheduler)
+    (S.the-type .to-one)
+
+abbrev pub shown : Flat
+shown = struct-flat W.the-type W′.the-laws
+
+pub shown-laws : FlatLaws shown
+shown-laws = struct-laws W.the-type W′.the-laws W′.the-plain
+
+abbrev pub profile-sheet : Sheet shown
+profile-sheet =
+    sheet-of W.the-type W′.the-laws W′.lowers (P.the-type .name) (P.the-type .D)
+    (λ s. s .answer) W′.the-plain Q.the-type Q′.the-laws Q′.lowers Q′.the-plain 129 (λ s. s .count) (λ s. s .points)
+    (P.the-type .to-one)

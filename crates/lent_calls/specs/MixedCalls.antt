@@ -1,0 +1,61 @@
+-- Calls by value and on a lent scheduler, one after another, are a list of calls of the definitions, and by the answers received they have
+-- its guarantees. Document 01: "Each call, taken or refused, gets the desk that the last one handed back, or left where it was lent"; "A
+-- call on a lent desk counts as its by-value one, a `wait` as its steps or as one refused call"; "A profile leaves the desk as it is, and
+-- the points lent to it are no part of the desk".
+-- Assumes nothing.
+use mathlib.Core.Path.{_≡_, refl, ap, _∙_}
+use mathlib.Core.Bool.{false}
+use mathlib.Core.List.{List, map}
+use Prim.Native.Nat.{ℕ}
+use Rattle.spans.specs.declared.Point.{Point}
+use Rattle.scheduler.specs.declared.Answer.{Answer}
+use Rattle.scheduler.specs.declared.Opening.{Opening}
+use Rattle.scheduler.specs.declared.Outcome.{Outcome}
+use Rattle.scheduler.specs.declared.Refusal.{Refusal}
+use Rattle.scheduler.specs.declared.Scheduler.{Scheduler}
+use Rattle.scheduler.specs.Model.{Model, store, view}
+use Rattle.scheduler.specs.Answers.{accepts, answer, replyOf, outcome, refusedAnswer}
+use Rattle.scheduler.specs.Refusals.{waitRefusal}
+use Rattle.scheduler.specs.Opening.{opening, opened}
+use Rattle.history.specs.Calls.{Call, unchanged, after, events, eventsOf}
+use Rattle.history.specs.Guarantee.{Guarantee}
+use Rattle.guarantees.specs.Rules.{call}
+use Rattle.guarantees.specs.Premise.{Valid, valid-view}
+use Rattle.guarantees.specs.Replies.{reply-back}
+use Rattle.guarantees.specs.Chain.{gives, answerOf, MadeAll, unchanged-refuses, made-keeps}
+use Rattle.guarantees.specs.Statement.{bookOf}
+use Rattle.calls.specs.declared.Shown.{Shown}
+use Rattle.calls.specs.declared.ProfileOutcome.{ProfileOutcome}
+use Rattle.calls.specs.ProfileCall.{profileOutcome}
+use Rattle.lent_calls.specs.CallContract.{Leaves}
+use Rattle.lent_calls.specs.ProfileContract.{Shows}
+
+-- a call on d as its contract says that it was made, by value or on what is lent: what it answers, and the scheduler after it
+pub data Made (d : Scheduler) : Call → Answer → Scheduler → Type 0 where
+  byValue : {c : Call} {o : Outcome} → o ≡ gives d c → Made d c (o .answer) (o .scheduler)
+  onLent : {c : Call} {a : Answer} {e : Scheduler} → Leaves d c a e → Made d c a e
+  -- a profile counts as a call that leaves the scheduler as it is, by the refusal that it answers
+  profileByValue : (room : ℕ) {p : ProfileOutcome} → p ≡ profileOutcome (view d) room
+      → Made d (unchanged (p .answer .refusal)) (refusedAnswer (p .answer .refusal)) d
+  profileOnLent : {lent after : List Point} {s : Shown} → Shows d lent s after → Made d (unchanged (s .refusal)) (refusedAnswer (s .refusal)) d
+  -- and so does a wait which is refused; one that is not is as many ticks
+  waitRefused : {r : Refusal} (minutes : ℕ) → r ≡ waitRefusal (view d) minutes → accepts r ≡ false → Made d (unchanged r) (refusedAnswer r) d
+
+-- where d is a valid model, stored: what each leaves and answers is that of its definition
+module _ (m : Model) (v : Valid m) where
+  unchanged-is : (r : Refusal) → (store m ≡ store (call m (unchanged r) .model)) × (refusedAnswer r ≡ answer (call m (unchanged r) .reply))
+  unchanged-is r = rw (unchanged-refuses m r) (refl, refl)
+
+  made-is : {c : Call} {a : Answer} {e : Scheduler} → Made (store m) c a e → (e ≡ store (call m c .model)) × (a ≡ answer (call m c .reply))
+  made-is (byValue {c} q) = let p = q ∙ ap (λ (x : Model). outcome (call x c)) (valid-view m v) in (ap (λ (o : Outcome). o .scheduler) p, ap (λ (o : Outcome). o .answer) p)
+  made-is (onLent {c} l) = (l .leaves ∙ ap (λ (x : Model). store (call x c .model)) (valid-view m v), l .answers ∙ ap (λ (x : Model). answer (call x c .reply)) (valid-view m v))
+  made-is (profileByValue room {p} e) = unchanged-is (p .answer .refusal)
+  made-is (profileOnLent {lent} {after} {s} w) = unchanged-is (s .refusal)
+  made-is (waitRefused {r} minutes e n) = unchanged-is r
+
+-- From the scheduler that an opening hands back, a refused one too: scheduler and answers are those of the list of calls, and the book of
+-- the calls made and the answers received has the guarantees (document 01: "demand 3").
+pub mixed-keeps : (o : Opening) (cs : List Call) (xs : List Answer) (e : Scheduler) → MadeAll Made (opened o .scheduler) cs xs e
+    → (e ≡ store (after call (opening o) cs)) × (xs ≡ map answerOf (events call (opening o) cs)) × Guarantee (o .kind) (opening o .settings .nodes) (bookOf (opening o) (eventsOf cs (map replyOf xs)))
+unfolding opened
+mixed-keeps o cs xs e l = made-keeps Made store answer replyOf (λ m c a d v. made-is m v) reply-back o l

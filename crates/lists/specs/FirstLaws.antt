@@ -1,0 +1,56 @@
+-- Laws of the first element that passes a test.
+-- Assumes nothing.
+use Prim.Native.Nat.{ℕ, suc, _+_, _-_}
+use native.Mathlib.Omega.{arith}
+use mathlib.Core.Path.{_≡_, refl, ap, _∙_}
+use mathlib.Core.Bool.{Bool, false, _&&_}
+use mathlib.Core.Option.{none, some}
+use mathlib.Core.List.{List, [], _∷_, head?}
+use lib.ListN.{getD}
+use Rattle.lists.specs.Tests.{case}
+use Rattle.lists.specs.Lists.{keep, first, In, in-nil, in-cons}
+use Rattle.lists.specs.Loops.{position, positionFrom, position-says}
+use mathlib.Core.Logic.{_⊎_, inl, inr}
+
+module _ {A : Type 0} where
+  -- where none is found, none passes
+  pub first-none : (p : A → Bool) (xs : List A) → first p xs ≡ none → (a : A) → In a xs → p a ≡ false
+  first-none p [] e a i = in-nil i
+  first-none p (x ∷ xs) e a i =
+      case (p x)
+      (λ q. absurd (let w : some x ≡ none = rw q at e in let z : _≡_ {A = ℕ} 0 1 = cc in omega arith))
+      (λ q. by q (in-cons i) (λ k. first-none p xs (rw q at e) a k))
+    where
+      by : p x ≡ false → (a ≡ x) ⊎ In a xs → (In a xs → p a ≡ false) → p a ≡ false
+      by q (inl z) f = ap p z ∙ q
+      by q (inr k) f = f k
+
+  -- a search among those kept is one search
+  pub first-keep : (p q : A → Bool) (xs : List A) → first p (keep q xs) ≡ first (λ (x : A). q x && p x) xs
+  first-keep p q [] = refl
+  first-keep p q (x ∷ xs) = case (q x) (λ e. rw e (case (p x) (λ k. rw k) (λ k. rw k (first-keep p q xs)))) (λ e. rw e (first-keep p q xs))
+
+  pub head-keep : (p : A → Bool) (xs : List A) → head? (keep p xs) ≡ first p xs
+  head-keep p [] = refl
+  head-keep p (x ∷ xs) = case (p x) (λ e. rw e) (λ e. rw e (head-keep p xs))
+
+  -- the element at the index found, and none where none is found
+  first-from : (p : A → Bool) (xs : List A) (z : A) (k i : ℕ) → positionFrom p k xs ≡ some i → first p xs ≡ some (getD xs (i - k) z)
+  first-from p [] z k i e = absurd (let w : _≡_ {A = ℕ} 0 1 = cc in omega arith)
+  first-from p (x ∷ xs) z k i e =
+      case (p x)
+      (λ q. let w : some k ≡ some i = rw q at e in
+      let y : k ≡ i = cc in
+      let n : i - k ≡ 0 = omega arith in rw (q, n))
+      (λ q. let w : positionFrom p (k + 1) xs ≡ some i = rw q at e in
+      let n : i - k ≡ suc (i - (k + 1)) = omega (arith, position-says z p xs (k + 1) i w .at-is) in rw (q, n) (first-from p xs z (k + 1) i w))
+
+  pub first-at : (p : A → Bool) (xs : List A) (z : A) (i : ℕ) → position p xs ≡ some i → first p xs ≡ some (getD xs i z)
+  first-at p xs z i e = let n : i - 0 ≡ i = omega arith in rw n at (first-from p xs z 0 i e)
+
+  pub first-nowhere : (p : A → Bool) (xs : List A) (k : ℕ) → positionFrom p k xs ≡ none → first p xs ≡ none
+  first-nowhere p [] k e = refl
+  first-nowhere p (x ∷ xs) k e =
+      case (p x)
+      (λ q. absurd (let w : some k ≡ none = rw q at e in let z : _≡_ {A = ℕ} 0 1 = cc in omega arith))
+      (λ q. rw q (first-nowhere p xs (k + 1) (rw q at e)))

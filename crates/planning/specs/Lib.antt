@@ -1,4 +1,0 @@
-pub mod Slots
-pub mod Earliest
-pub mod Replan
-pub mod Pass

@@ -1,4 +1,0 @@
-pub mod Due
-pub mod Conservative
-pub mod Ticks
-pub mod Ahead

@@ -1,0 +1,53 @@
+-- `quiet_minutes::quiet_of` meets its contract.
+-- Assumes nothing.
+use native.Mathlib.Omega.{arith}
+use Rattle.walltime.specs.Laws.{wallTime-le}
+use Rattle.quiet_minutes.specs.QuietCount.{unused-quiet, waiting-quiet, running-quiet}
+use borrow.Author.Needs.{needs}
+use Rattle.quiet_minutes.proofs.quiet_of.Statement.{statement}
+use Rattle.quiet_minutes.proofs.quiet_of.Tie as tie
+
+enum-told : tie.Need-enum-told
+enum-told c = search needs
+
+enum-told-2 : tie.Need-enum-told-2
+enum-told-2 c = search needs
+
+before-requires : tie.Need-before-requires
+before-requires c κs = search needs
+
+enum-told-3 : tie.Need-enum-told-3
+enum-told-3 c = search needs
+
+wall-time-requires : tie.Need-wall-time-requires
+wall-time-requires c κs = search needs
+
+add-before : tie.Need-add-before
+add-before c = omega (arith, c .before .wall-time .ensures, wallTime-le (c .before .before .before .before .args .job .estimate), c .before .before .before .before .pre)
+
+before-requires-2 : tie.Need-before-requires-2
+before-requires-2 c κs = search needs
+
+returns : tie.Need-returns
+returns c = (omega arith, unused-quiet (c .before .before .args .clock) (c .before .before .args .most) (c .before .before .args .job) (c .enum-told .given .1))
+
+returns-2 : tie.Need-returns-2
+returns-2 c = (c .before2 .ensures .0, waiting-quiet (c .before .before .before .args .clock) (c .before2 .result) (c .before .before .before .args .job) (c .before .enum-told2 .given .1) (c .before2 .ensures .1))
+
+returns-3 : tie.Need-returns-3
+returns-3 c = (c .before3 .ensures .0, running-quiet (c .before .before .before .before .before .args .clock) (c .before3 .result) (c .before .before .before .before .before .args .job) (c .before .before .before .enum-told3 .given .1) (rw (c .before .before .wall-time .ensures) at (c .before3 .ensures .1)))
+
+pub quiet-of-spec : {M : Type 1} → statement M
+quiet-of-spec =
+    tie.close
+    (tie.spec
+    enum-told
+    enum-told-2
+    before-requires
+    enum-told-3
+    wall-time-requires
+    add-before
+    before-requires-2
+    returns
+    returns-2
+    returns-3)

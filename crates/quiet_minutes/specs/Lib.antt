@@ -1,0 +1,4 @@
+pub mod DueMinutes
+pub mod ConservativeTick
+pub mod QuietTicks
+pub mod QuietCount

@@ -1,0 +1,38 @@
+-- `script_reading::read_first` meets its contract.
+-- Assumes nothing.
+use mathlib.Core.Path.{sym, ap}
+use Rattle.script_rules.specs.Reading.{deskWord, kindOf, openingIn}
+use Rattle.script_reading.specs.Meaning.{form-said}
+use borrow.Author.Needs.{needs}
+use Rattle.script_reading.proofs.read_first.Statement.{statement}
+use Rattle.script_reading.proofs.read_first.Tie as tie
+
+returns : tie.Need-returns
+unfolding openingIn
+returns c =
+    let numbers = c .before in
+    let kind = numbers .before .before .before in
+    let form = kind .before .before in
+    let read = form .before .before .before in
+    let line = read .before .before .before .args .line .now in
+    rw (
+      form-said line 5 deskWord (read .before .field-count .ensures) (read .field .ensures) (form .before .has-form .ensures) (form .if1 .taken),
+      sym (ap kindOf (kind .before .field2 .ensures)),
+      sym (kind .read-kind .ensures),
+      sym (numbers .before .before .field-number .ensures),
+      sym (numbers .before .field-number2 .ensures),
+      sym (numbers .field-number3 .ensures),
+    )
+    (c .opening .ensures)
+
+returns-2 : tie.Need-returns-2
+unfolding openingIn
+returns-2 c =
+    let read = c .before .before .before in
+    let line = read .before .before .before .args .line .now in
+    rw (form-said line 5 deskWord (read .before .field-count .ensures) (read .field .ensures) (c .before .has-form .ensures) (c .if1 .left))
+
+pub read-first-spec : {M : Type 1} → statement M
+read-first-spec =
+    tie.close (tie.spec (λ c κs. search needs) (λ c κs. search needs) (λ c. search needs) (λ c κs. search needs) (λ c κs. search needs)
+    (λ c κs. search needs) (λ c κs. search needs) (λ c κs. search needs) (λ c κs. search needs) (λ c κs. search needs) returns returns-2)

@@ -1,0 +1,72 @@
+-- `script_reading::read_later` meets its contract: the forms are tried one after the other.
+-- Assumes nothing.
+use mathlib.Core.Path.{_≡_, sym}
+use mathlib.Core.Bool.{Bool, false}
+use mathlib.Core.List.{List}
+use Prim.Native.Nat.{ℕ}
+use Rattle.script_rules.specs.Reading.{hasForm, inWord, endWord, waitWord, commandIn}
+use Rattle.script_reading.specs.Meaning.{formFrom, form-said}
+use borrow.Author.Needs.{needs}
+use Rattle.script_reading.proofs.read_later.Statement.{statement}
+use Rattle.script_reading.proofs.read_later.Tie as tie
+
+abbrev line : tie.After-field → List ℕ
+line c = c .before .before .before .args .line .now
+
+-- what a test says of the line, once its fields are counted and the first is read
+form : (c : tie.After-field) (n : ℕ) (w : List ℕ) {r b : Bool} → r ≡ formFrom (c .before .field-count .result) (c .field .result .now) n w → r ≡ b
+    → hasForm (line c) n w ≡ b
+form c n w = form-said (line c) n w (c .before .field-count .ensures) (c .field .ensures)
+
+not-in : (c : tie.Else1) → hasForm (line (c .before .before .before)) 3 inWord ≡ false
+not-in c = form (c .before .before .before) 3 inWord (c .before .has-form .ensures) (c .if1 .left)
+
+not-end : (c : tie.Else2) → hasForm (line (c .before .before .before .before .before .before)) 2 endWord ≡ false
+not-end c = form (c .before .before .before .before .before .before) 2 endWord (c .before .has-form2 .ensures) (c .if2 .left)
+
+returns : tie.Need-returns
+unfolding commandIn
+returns c =
+    let p = c .before .before .before in
+    rw (
+      form (p .before .before .before) 3 inWord (p .before .has-form .ensures) (p .if1 .taken),
+      sym (c .before .before .field-number .ensures),
+      sym (c .before .field-number2 .ensures),
+    )
+    (c .submission .ensures)
+
+returns-2 : tie.Need-returns-2
+unfolding commandIn
+returns-2 c =
+    let p = c .before .before in
+    let q = p .before .before .before in
+    rw (not-in q, form (q .before .before .before) 2 endWord (p .before .has-form2 .ensures) (p .if2 .taken), sym (c .before .field-number3 .ensures))
+    (c .completion .ensures)
+
+returns-3 : tie.Need-returns-3
+unfolding commandIn
+returns-3 c =
+    let p = c .before .before in
+    let q = p .before .before .before in
+    let r = q .before .before .before in
+    rw (
+      not-in r,
+      not-end q,
+      form (r .before .before .before) 2 waitWord (p .before .has-form3 .ensures) (p .if3 .taken),
+      sym (c .before .field-number4 .ensures),
+    )
+    (c .waiting .ensures)
+
+returns-4 : tie.Need-returns-4
+unfolding commandIn
+returns-4 c =
+    let q = c .before .before .before in
+    let r = q .before .before .before in
+    rw (not-in r, not-end q, form (r .before .before .before) 2 waitWord (c .before .has-form3 .ensures) (c .if3 .left))
+
+pub read-later-spec : {M : Type 1} → statement M
+read-later-spec =
+    tie.close (tie.spec (λ c κs. search needs) (λ c κs. search needs) (λ c. search needs) (λ c κs. search needs) (λ c κs. search needs)
+    (λ c κs. search needs) (λ c κs. search needs) returns (λ c. search needs) (λ c κs. search needs) (λ c κs. search needs)
+    (λ c κs. search needs) returns-2 (λ c. search needs) (λ c κs. search needs) (λ c κs. search needs) (λ c κs. search needs) returns-3
+    returns-4)

@@ -1,0 +1,6 @@
+pub mod Spans
+pub mod Computed
+pub mod UsedNodes
+pub mod EarliestStart
+pub mod ProfileLaws
+pub mod ProfileLoop

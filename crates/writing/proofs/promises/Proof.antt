@@ -1,8 +1,0 @@
--- `writing::promises` meets its contract.
--- Assumes nothing.
-use borrow.Author.Needs.{needs}
-use Rattle.writing.proofs.promises.Statement.{statement}
-use Rattle.writing.proofs.promises.Tie as tie
-
-pub promises-spec : {M : Type 1} → statement M
-promises-spec = tie.close (tie.spec (λ c. search needs) (λ c. search needs) (λ c. search needs) (λ c. search needs))
