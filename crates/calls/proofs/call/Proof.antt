@@ -9,16 +9,10 @@ use borrow.Author.Needs.{needs}
 use Rattle.calls.proofs.call.Statement.{statement}
 use Rattle.calls.proofs.call.Tie as tie
 
-enum-told : tie.Need-enum-told
-enum-told c = search needs
-
 call-requires : tie.Need-call-requires
 call-requires c κs =
     let s = c .before .before in
     premise-of (s .args .d) Conservative (c .enum-told .given .1) (s .pre)
-
-enum-told-2 : tie.Need-enum-told-2
-enum-told-2 c = search needs
 
 call-requires-2 : tie.Need-call-requires-2
 call-requires-2 c κs =
@@ -36,5 +30,4 @@ returns-2 c =
     c .call2 .ensures ∙ ap outcome (sym (rules-of (s .args .d) Easy (asked (s .args .request)) (c .before .enum-told2 .given .1)))
 
 pub call-spec : {M : Type 1} → statement M
-call-spec =
-    tie.close (tie.spec enum-told call-requires enum-told-2 call-requires-2 returns returns-2)
+call-spec = tie.close (tie.spec (λ c. search needs) call-requires (λ c. search needs) call-requires-2 returns returns-2)

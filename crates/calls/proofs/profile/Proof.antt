@@ -11,22 +11,10 @@ use borrow.Author.Needs.{needs}
 use Rattle.calls.proofs.profile.Statement.{statement}
 use Rattle.calls.proofs.profile.Tie as tie
 
-enum-told : tie.Need-enum-told
-enum-told c = search needs
-
 profile-of-requires : tie.Need-profile-of-requires
 profile-of-requires c κs =
     let s = c .before .before in
     holds-as _ _ (s .args .d) valid-planned (premise-of (s .args .d) Conservative (c .enum-told .given .1) (s .pre))
-
-show-requires : tie.Need-show-requires
-show-requires c κs = search needs
-
-enum-told-2 : tie.Need-enum-told-2
-enum-told-2 c = search needs
-
-no-points-requires : tie.Need-no-points-requires
-no-points-requires c κs = search needs
 
 returns : tie.Need-returns
 returns c =
@@ -40,12 +28,5 @@ returns-2 c =
 
 pub profile-spec : {M : Type 1} → statement M
 profile-spec =
-    tie.close
-    (tie.spec
-    enum-told
-    profile-of-requires
-    show-requires
-    enum-told-2
-    no-points-requires
-    returns
+    tie.close (tie.spec (λ c. search needs) profile-of-requires (λ c κs. search needs) (λ c. search needs) (λ c κs. search needs) returns
     returns-2)

@@ -7,9 +7,6 @@ use borrow.Author.Needs.{needs}
 use Rattle.calls.proofs.show.Statement.{statement}
 use Rattle.calls.proofs.show.Tie as tie
 
-no-points-requires : tie.Need-no-points-requires
-no-points-requires c κs = search needs
-
 returns : tie.Need-returns
 returns c = c .no-points .ensures ∙ no-room _ _ (omega arith)
 
@@ -17,4 +14,4 @@ returns-2 : tie.Need-returns-2
 returns-2 c = all-shown _ _ (omega arith)
 
 pub show-spec : {M : Type 1} → statement M
-show-spec = tie.close (tie.spec no-points-requires returns returns-2)
+show-spec = tie.close (tie.spec (λ c κs. search needs) returns returns-2)

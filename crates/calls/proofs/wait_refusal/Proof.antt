@@ -14,9 +14,6 @@ use borrow.Author.Needs.{needs}
 use Rattle.calls.proofs.wait_refusal.Statement.{statement}
 use Rattle.calls.proofs.wait_refusal.Tie as tie
 
-outside-range-requires : tie.Need-outside-range-requires
-outside-range-requires c κs = search needs
-
 returns : tie.Need-returns
 unfolding waitRefusal verdict view
 returns c =
@@ -47,4 +44,4 @@ returns-3 c =
     rw (t, le-ltb horizon (s .args .d .clock + s .args .minutes) (c .if2 .left))
 
 pub wait-refusal-spec : {M : Type 1} → statement M
-wait-refusal-spec = tie.close (tie.spec outside-range-requires returns add-if2 returns-2 returns-3)
+wait-refusal-spec = tie.close (tie.spec (λ c κs. search needs) returns add-if2 returns-2 returns-3)

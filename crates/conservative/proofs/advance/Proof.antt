@@ -3,12 +3,9 @@ use borrow.Author.Needs.{needs}
 use Rattle.conservative.proofs.advance.Statement.{statement}
 use Rattle.conservative.proofs.advance.Tie as tie
 
-newly-running-requires : tie.Need-newly-running-requires
-newly-running-requires c κs = search needs
-
 returns : tie.Need-returns
 unfolding advancedBy
 returns c = rw (c .before .newly-running .ensures)
 
 pub advance-spec : {M : Type 1} → statement M
-advance-spec = tie.close (tie.spec newly-running-requires returns)
+advance-spec = tie.close (tie.spec (λ c κs. search needs) returns)

@@ -6,18 +6,6 @@ use borrow.Author.Needs.{needs}
 use Rattle.conservative.proofs.began.Statement.{statement}
 use Rattle.conservative.proofs.began.Tie as tie
 
-enum-told : tie.Need-enum-told
-enum-told c = search needs
-
-enum-told-2 : tie.Need-enum-told-2
-enum-told-2 c = search needs
-
-enum-told-3 : tie.Need-enum-told-3
-enum-told-3 c = search needs
-
-is-waiting-requires : tie.Need-is-waiting-requires
-is-waiting-requires c κs = search needs
-
 returns : tie.Need-returns
 returns c = sym (and-right-false (isWaiting (c .before .before .args .before)) (ap running? (c .enum-told .given .1)))
 
@@ -31,5 +19,4 @@ returns-3 c =
 
 pub began-spec : {M : Type 1} → statement M
 began-spec =
-    tie.close
-    (tie.spec enum-told enum-told-2 enum-told-3 is-waiting-requires returns returns-2 returns-3)
+    tie.close (tie.spec (λ c. search needs) (λ c. search needs) (λ c. search needs) (λ c κs. search needs) returns returns-2 returns-3)

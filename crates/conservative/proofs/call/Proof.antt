@@ -10,24 +10,6 @@ use Rattle.conservative_rules.specs.Conservative.{call}
 use Rattle.conservative.proofs.call.Statement.{statement}
 use Rattle.conservative.proofs.call.Tie as tie
 
-enum-known-request : tie.Need-enum-known-request
-enum-known-request c = search needs
-
-submit-requires : tie.Need-submit-requires
-submit-requires c κs = search needs
-
-enum-known-request-2 : tie.Need-enum-known-request-2
-enum-known-request-2 c = search needs
-
-complete-requires : tie.Need-complete-requires
-complete-requires c κs = search needs
-
-enum-told : tie.Need-enum-told
-enum-told c = search needs
-
-tick-requires : tie.Need-tick-requires
-tick-requires c κs = search needs
-
 returns : tie.Need-returns
 returns c =
     let m = view (c .before .before .before .before .args .d) in
@@ -45,14 +27,5 @@ returns-3 c =
 
 pub call-spec : {M : Type 1} → statement M
 call-spec =
-    tie.close
-    (tie.spec
-    enum-known-request
-    submit-requires
-    enum-known-request-2
-    complete-requires
-    enum-told
-    tick-requires
-    returns
-    returns-2
-    returns-3)
+    tie.close (tie.spec (λ c. search needs) (λ c κs. search needs) (λ c. search needs) (λ c κs. search needs) (λ c. search needs)
+    (λ c κs. search needs) returns returns-2 returns-3)

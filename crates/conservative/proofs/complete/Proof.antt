@@ -16,21 +16,12 @@ use Rattle.conservative.proofs.complete.Tie as tie
 left-is : (c : tie.After-leave) → c .leave .result ≡ part (completing (view (c .before .args .d)) (c .before .args .ticket))
 left-is c = c .leave .ensures
 
-leave-requires : tie.Need-leave-requires
-leave-requires c κs = search needs
-
-is-none-requires : tie.Need-is-none-requires
-is-none-requires c κs = search needs
-
 replan-all-requires : tie.Need-replan-all-requires
 replan-all-requires c κs =
     let l = c .before .before .before in
     let s = l .before in
     let a : accepts (completing (view (s .args .d)) (s .args .ticket) .refusal) ≡ true = ap (λ (p : Part). accepts (p .refusal)) (sym (left-is l)) ∙ sym (c .before .is-none .ensures) ∙ c .if1 .taken in
     rw (left-is l) (replannable-held (view (s .args .d)) (s .args .ticket) (s .pre .holds) a)
-
-advance-requires : tie.Need-advance-requires
-advance-requires c κs = search needs
 
 returns : tie.Need-returns
 returns c =
@@ -47,4 +38,4 @@ returns c =
     (c .before .if1 .came)
 
 pub complete-spec : {M : Type 1} → statement M
-complete-spec = tie.close (tie.spec leave-requires is-none-requires replan-all-requires advance-requires returns)
+complete-spec = tie.close (tie.spec (λ c κs. search needs) (λ c κs. search needs) replan-all-requires (λ c κs. search needs) returns)

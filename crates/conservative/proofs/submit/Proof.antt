@@ -32,18 +32,6 @@ start c =
     ∙ ap (startFor (view (s .args .d)) (s .args .s .nodes)) (c .before .wall-time .ensures)
     ∙ start-held (s .args .d) (s .args .s .nodes) (s .args .s .estimate) (s .pre) (passed t)
 
-first-unused-requires : tie.Need-first-unused-requires
-first-unused-requires c κs = search needs
-
-submit-refusal-requires : tie.Need-submit-refusal-requires
-submit-refusal-requires c κs = search needs
-
-is-none-requires : tie.Need-is-none-requires
-is-none-requires c κs = search needs
-
-wall-time-requires : tie.Need-wall-time-requires
-wall-time-requires c κs = search needs
-
 earliest-requires : tie.Need-earliest-requires
 earliest-requires c κs =
     let s = c .before .before .before .before .before in
@@ -53,9 +41,6 @@ add-if2 : tie.Need-add-if2
 add-if2 c =
     let s = c .before .before .before .before .before .before in
     omega (arith, start c, c .before .wall-time .ensures, planned-low (s .args .d) (s .args .s .nodes) (s .args .s .estimate) (s .pre), wallTime-le (s .args .s .estimate))
-
-refused-requires : tie.Need-refused-requires
-refused-requires c κs = search needs
 
 returns : tie.Need-returns
 returns c =
@@ -80,9 +65,6 @@ returns-2 c =
     ∙ ap (accepted (s .args .d) (s .args .s .nodes) (s .args .s .estimate) (f .first-unused .result)) (start g)
     ∙ taken-held (s .args .d) (s .args .s .nodes) (s .args .s .estimate) (s .pre) (passed t) _ (f .first-unused .ensures) (omega (arith, start g, g .before .wall-time .ensures, c .before .if2 .left))
 
-refused-requires-2 : tie.Need-refused-requires-2
-refused-requires-2 c κs = search needs
-
 returns-3 : tie.Need-returns-3
 returns-3 c =
     let i = c .before .before in
@@ -94,17 +76,5 @@ returns-3 c =
 
 pub submit-spec : {M : Type 1} → statement M
 submit-spec =
-    tie.close
-    (tie.spec
-    first-unused-requires
-    submit-refusal-requires
-    is-none-requires
-    wall-time-requires
-    earliest-requires
-    add-if2
-    refused-requires
-    returns
-    accept-requires
-    returns-2
-    refused-requires-2
-    returns-3)
+    tie.close (tie.spec (λ c κs. search needs) (λ c κs. search needs) (λ c κs. search needs) (λ c κs. search needs) earliest-requires
+    add-if2 (λ c κs. search needs) returns accept-requires returns-2 (λ c κs. search needs) returns-3)

@@ -6,12 +6,6 @@ use borrow.Author.Needs.{needs}
 use Rattle.conservative_plan.proofs.earliest.Statement.{statement}
 use Rattle.conservative_plan.proofs.earliest.Tie as tie
 
-tabulate-requires : tie.Need-tabulate-requires
-tabulate-requires c κs = search needs
-
-sub-search : tie.Need-sub-search
-sub-search c = search needs
-
 search-requires : tie.Need-search-requires
 search-requires c κs = seeks-last (c .before .before .before .before .before .before .pre) (c .before .before .tabulate .ensures .0)
 
@@ -29,4 +23,4 @@ array-read-result c =
     omega (arith, last-low a (c .before .before .before .tabulate .ensures .0) (c .search .ensures))
 
 pub earliest-spec : {M : Type 1} → statement M
-earliest-spec = tie.close (tie.spec tabulate-requires sub-search search-requires mul-result array-read-result returns)
+earliest-spec = tie.close (tie.spec (λ c κs. search needs) (λ c. search needs) search-requires mul-result array-read-result returns)

@@ -7,12 +7,6 @@ use borrow.Author.Needs.{needs}
 use Rattle.conservative_plan.proofs.move_to.Statement.{statement}
 use Rattle.conservative_plan.proofs.move_to.Tie as tie
 
-mul-start : tie.Need-mul-start
-mul-start c = search needs
-
-element-copy-out-start : tie.Need-element-copy-out-start
-element-copy-out-start c = search needs
-
 span-requires : tie.Need-span-requires
 span-requires c κs =
     let s = c .before in
@@ -26,9 +20,6 @@ span-requires-2 c κs =
 shift-requires : tie.Need-shift-requires
 shift-requires c κs = rw (c .before .before .before .span .ensures, c .before .before .span2 .ensures) (shifts (c .before .before .before .before .before .pre))
 
-place-requires : tie.Need-place-requires
-place-requires c κs = search needs
-
 returns : tie.Need-returns
 returns c =
     let u = c .before .before .before .before .before .span .ensures in
@@ -37,12 +28,4 @@ returns c =
 
 pub move-to-spec : {M : Type 1} → statement M
 move-to-spec =
-    tie.close
-    (tie.spec
-    mul-start
-    element-copy-out-start
-    span-requires
-    span-requires-2
-    shift-requires
-    place-requires
-    returns)
+    tie.close (tie.spec (λ c. search needs) (λ c. search needs) span-requires span-requires-2 shift-requires (λ c κs. search needs) returns)

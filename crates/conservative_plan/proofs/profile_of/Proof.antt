@@ -5,9 +5,6 @@ use borrow.Author.Needs.{needs}
 use Rattle.conservative_plan.proofs.profile_of.Statement.{statement}
 use Rattle.conservative_plan.proofs.profile_of.Tie as tie
 
-tabulate-requires : tie.Need-tabulate-requires
-tabulate-requires c κs = search needs
-
 of-requires : tie.Need-of-requires
 of-requires c κs = tabled (c .before .before .before .before .before .before .args .d) (c .before .before .before .before .before .before .pre) (c .before .before .tabulate .ensures .0)
 
@@ -15,4 +12,4 @@ returns : tie.Need-returns
 returns c = tabled-points (c .before .before .before .before .before .before .before .args .d) (c .before .before .before .before .before .before .before .pre) (c .before .before .before .tabulate .ensures .0) (c .of .ensures)
 
 pub profile-of-spec : {M : Type 1} → statement M
-profile-of-spec = tie.close (tie.spec tabulate-requires of-requires returns)
+profile-of-spec = tie.close (tie.spec (λ c κs. search needs) of-requires returns)

@@ -36,21 +36,6 @@ loop-holds c =
     let s = c .before .before .before .before in
     record { scheduler-is = refl; passing = pass-begins (held-before (s .args .d) (s .pre) .fits) (c .tabulate .ensures .0) }
 
-mul-j : tie.Need-mul-j Inv-loop μ-loop
-mul-j c = search needs
-
-element-copy-out-j : tie.Need-element-copy-out-j Inv-loop μ-loop
-element-copy-out-j c = search needs
-
-is-waiting-requires : tie.Need-is-waiting-requires Inv-loop μ-loop
-is-waiting-requires c κs = search needs
-
-mul-replan : tie.Need-mul-replan Inv-loop μ-loop
-mul-replan c = search needs
-
-array-read-replan : tie.Need-array-read-replan Inv-loop μ-loop
-array-read-replan c = search needs
-
 replan-requires : tie.Need-replan-requires Inv-loop μ-loop
 replan-requires c κs =
     let s = c .before .before .before .before .before .before .before .before .before .before .before in
@@ -59,18 +44,6 @@ replan-requires c κs =
     let q = held-before (s .args .d) (s .pre) in
     let t = c .before .before .before .before .before .before .before .tabulate .ensures in
     (replans q (l .inv .passing) (omega arith) w, hold-is q (l .inv .passing) (omega arith) (t .1) w)
-
-mul-k : tie.Need-mul-k Inv-loop μ-loop
-mul-k c = search needs
-
-element-set-from-k : tie.Need-element-set-from-k Inv-loop μ-loop
-element-set-from-k c = search needs
-
-add-i : tie.Need-add-i Inv-loop μ-loop
-add-i c = search needs
-
-loop-less : tie.Need-loop-less Inv-loop μ-loop
-loop-less c = search needs
 
 loop-again : tie.Need-loop-again Inv-loop μ-loop
 loop-again c =
@@ -95,21 +68,6 @@ returns c =
 
 pub replan-all-spec : {M : Type 1} → statement M
 replan-all-spec =
-    tie.close
-    (tie.spec
-    Inv-loop
-    μ-loop
-    tabulate-requires
-    loop-holds
-    mul-j
-    element-copy-out-j
-    is-waiting-requires
-    mul-replan
-    array-read-replan
-    replan-requires
-    mul-k
-    element-set-from-k
-    add-i
-    loop-less
-    loop-again
-    returns)
+    tie.close (tie.spec Inv-loop μ-loop tabulate-requires loop-holds (λ c. search needs) (λ c. search needs) (λ c κs. search needs)
+    (λ c. search needs) (λ c. search needs) replan-requires (λ c. search needs) (λ c. search needs) (λ c. search needs) (λ c. search needs)
+    loop-again returns)

@@ -28,24 +28,6 @@ loop-holds c =
     let s = c .before .before .before in
     (omega arith, laying-begin (held-slots (s .args .t1) (s .pre .0)) _ _ (c .idle .ensures), holds-none (s .args .t1 .jobs) _ (s .pre .3))
 
-mul-j : tie.Need-mul-j Inv-loop μ-loop
-mul-j c = search needs
-
-element-copy-out-j : tie.Need-element-copy-out-j Inv-loop μ-loop
-element-copy-out-j c = search needs
-
-is-live-requires : tie.Need-is-live-requires Inv-loop μ-loop
-is-live-requires c κs = search needs
-
-wall-time-requires : tie.Need-wall-time-requires Inv-loop μ-loop
-wall-time-requires c κs = search needs
-
-mul-holds : tie.Need-mul-holds Inv-loop μ-loop
-mul-holds c = search needs
-
-element-write-holds : tie.Need-element-write-holds Inv-loop μ-loop
-element-write-holds c = search needs
-
 span-requires : tie.Need-span-requires Inv-loop μ-loop
 span-requires c κs =
     let s = c .before .before .before .before .before .before .before .before .before .before .before in
@@ -56,12 +38,6 @@ lay-requires c κs =
     let s = c .before .before .before .before .before .before .before .before .before .before .before .before in
     let l = c .before .before .before .before .before .before .before .before .loop in
     rw (c .span .ensures, c .before .before .before .wall-time .ensures) (lay (held-slots (s .args .t1) (s .pre .0)) {i = l .i} (omega arith) (l .inv .1))
-
-add-i : tie.Need-add-i Inv-loop μ-loop
-add-i c = search needs
-
-loop-less : tie.Need-loop-less Inv-loop μ-loop
-loop-less c = search needs
 
 loop-again : tie.Need-loop-again Inv-loop μ-loop
 loop-again c =
@@ -84,21 +60,6 @@ returns c =
 
 pub tabulate-spec : {M : Type 1} → statement M
 tabulate-spec =
-    tie.close
-    (tie.spec
-    Inv-loop
-    μ-loop
-    idle-requires
-    loop-holds
-    mul-j
-    element-copy-out-j
-    is-live-requires
-    wall-time-requires
-    mul-holds
-    element-write-holds
-    span-requires
-    lay-requires
-    add-i
-    loop-less
-    loop-again
-    returns)
+    tie.close (tie.spec Inv-loop μ-loop idle-requires loop-holds (λ c. search needs) (λ c. search needs) (λ c κs. search needs)
+    (λ c κs. search needs) (λ c. search needs) (λ c. search needs) span-requires lay-requires (λ c. search needs) (λ c. search needs)
+    loop-again returns)

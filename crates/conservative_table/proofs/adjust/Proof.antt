@@ -49,15 +49,6 @@ Inv-loop free₀ from to nodes release i₀ free i = Inv free₀ from to nodes r
 abbrev μ-loop : tie.MeasureT-loop
 μ-loop free₀ from to nodes release i₀ free i = to - i
 
-loop-holds : tie.Need-loop-holds Inv-loop μ-loop
-loop-holds c = search needs
-
-mul-free : tie.Need-mul-free Inv-loop μ-loop
-mul-free c = search needs
-
-element-copy-out-free : tie.Need-element-copy-out-free Inv-loop μ-loop
-element-copy-out-free c = search needs
-
 add-free : tie.Need-add-free Inv-loop μ-loop
 add-free c =
     let l = c .before .before .before .loop in
@@ -65,36 +56,12 @@ add-free c =
     let r : getD (s .args .free .now) (l .i) 0 + s .args .nodes ≤ maxNodes = rw (c .before .if1 .taken) at (s .pre .room (l .i) (l .inv .low) (omega arith)) in
     omega (arith, l .inv .after (l .i) (omega arith))
 
-mul-free-2 : tie.Need-mul-free-2 Inv-loop μ-loop
-mul-free-2 c = search needs
-
-element-write-free : tie.Need-element-write-free Inv-loop μ-loop
-element-write-free c = search needs
-
-mul-free-3 : tie.Need-mul-free-3 Inv-loop μ-loop
-mul-free-3 c = search needs
-
-element-copy-out-free-2 : tie.Need-element-copy-out-free-2 Inv-loop μ-loop
-element-copy-out-free-2 c = search needs
-
 sub-free : tie.Need-sub-free Inv-loop μ-loop
 sub-free c =
     let l = c .before .before .before .loop in
     let s = c .before .before .before .before in
     let r : s .args .nodes ≤ getD (s .args .free .now) (l .i) 0 = rw (c .before .if1 .left) at (s .pre .room (l .i) (l .inv .low) (omega arith)) in
     omega (arith, l .inv .after (l .i) (omega arith))
-
-mul-free-4 : tie.Need-mul-free-4 Inv-loop μ-loop
-mul-free-4 c = search needs
-
-element-write-free-2 : tie.Need-element-write-free-2 Inv-loop μ-loop
-element-write-free-2 c = search needs
-
-add-i : tie.Need-add-i Inv-loop μ-loop
-add-i c = search needs
-
-loop-less : tie.Need-loop-less Inv-loop μ-loop
-loop-less c = search needs
 
 loop-again : tie.Need-loop-again Inv-loop μ-loop
 loop-again c =
@@ -113,22 +80,6 @@ returns c =
 
 pub adjust-spec : {M : Type 1} → statement M
 adjust-spec =
-    tie.close
-    (tie.spec
-    Inv-loop
-    μ-loop
-    loop-holds
-    mul-free
-    element-copy-out-free
-    add-free
-    mul-free-2
-    element-write-free
-    mul-free-3
-    element-copy-out-free-2
-    sub-free
-    mul-free-4
-    element-write-free-2
-    add-i
-    loop-less
-    loop-again
-    returns)
+    tie.close (tie.spec Inv-loop μ-loop (λ c. search needs) (λ c. search needs) (λ c. search needs) add-free (λ c. search needs)
+    (λ c. search needs) (λ c. search needs) (λ c. search needs) sub-free (λ c. search needs) (λ c. search needs) (λ c. search needs)
+    (λ c. search needs) loop-again returns)

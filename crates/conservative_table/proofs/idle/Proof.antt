@@ -8,12 +8,6 @@ use borrow.Author.Needs.{needs}
 use Rattle.conservative_table.proofs.idle.Statement.{statement}
 use Rattle.conservative_table.proofs.idle.Tie as tie
 
-element-write-minutes : tie.Need-element-write-minutes
-element-write-minutes c = search needs
-
-element-write-free : tie.Need-element-write-free
-element-write-free c = search needs
-
 returns : tie.Need-returns
 returns c = record {
   minutes-long = length-set (c .args .minutes .now) 0 (c .args .minute) ∙ c .pre .0;
@@ -23,4 +17,4 @@ returns c = record {
 }
 
 pub idle-spec : {M : Type 1} → statement M
-idle-spec = tie.close (tie.spec element-write-minutes element-write-free returns)
+idle-spec = tie.close (tie.spec (λ c. search needs) (λ c. search needs) returns)

@@ -56,41 +56,11 @@ Inv-loop list₀ count at value i₀ list i = Inv list₀ count at list i
 abbrev μ-loop : tie.MeasureT-loop
 μ-loop list₀ count at value i₀ list i = i
 
-loop-holds : tie.Need-loop-holds Inv-loop μ-loop
-loop-holds c = search needs
-
-sub-list : tie.Need-sub-list Inv-loop μ-loop
-sub-list c = search needs
-
-mul-list : tie.Need-mul-list Inv-loop μ-loop
-mul-list c = search needs
-
-element-copy-out-list : tie.Need-element-copy-out-list Inv-loop μ-loop
-element-copy-out-list c = search needs
-
-mul-list-2 : tie.Need-mul-list-2 Inv-loop μ-loop
-mul-list-2 c = search needs
-
-element-write-list : tie.Need-element-write-list Inv-loop μ-loop
-element-write-list c = search needs
-
-sub-i : tie.Need-sub-i Inv-loop μ-loop
-sub-i c = search needs
-
-loop-less : tie.Need-loop-less Inv-loop μ-loop
-loop-less c = search needs
-
 loop-again : tie.Need-loop-again Inv-loop μ-loop
 loop-again c =
     let l = c .before .before .loop in
     let h : l .i < length (l .list) = omega (arith, c .before .before .before .pre .0, l .inv .long, l .inv .high) in
     one-more (l .list) h (omega arith) (l .inv)
-
-mul-list-3 : tie.Need-mul-list-3 Inv-loop μ-loop
-mul-list-3 c = search needs
-
-element-write-list-2 : tie.Need-element-write-list-2 Inv-loop μ-loop
-element-write-list-2 c = search needs
 
 returns : tie.Need-returns Inv-loop μ-loop
 returns c =
@@ -101,19 +71,5 @@ returns c =
 
 pub insert-spec : {M : Type 1} → statement M
 insert-spec =
-    tie.close
-    (tie.spec
-    Inv-loop
-    μ-loop
-    loop-holds
-    sub-list
-    mul-list
-    element-copy-out-list
-    mul-list-2
-    element-write-list
-    sub-i
-    loop-less
-    loop-again
-    mul-list-3
-    element-write-list-2
-    returns)
+    tie.close (tie.spec Inv-loop μ-loop (λ c. search needs) (λ c. search needs) (λ c. search needs) (λ c. search needs) (λ c. search needs)
+    (λ c. search needs) (λ c. search needs) (λ c. search needs) loop-again (λ c. search needs) (λ c. search needs) returns)

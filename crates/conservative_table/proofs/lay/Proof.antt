@@ -10,9 +10,6 @@ use borrow.Author.Needs.{needs}
 use Rattle.conservative_table.proofs.lay.Statement.{statement}
 use Rattle.conservative_table.proofs.lay.Tie as tie
 
-element-copy-out-from : tie.Need-element-copy-out-from
-element-copy-out-from c = search needs
-
 returns : tie.Need-returns
 returns c =
     let s = c .before .before .before .before .before in
@@ -56,5 +53,4 @@ returns-2 c =
     λ l. laid-from l from-is (omega (arith, c .before .before .before .before .before .before .if2 .left)) (c .before .before .before .split .ensures) (c .lay-at .ensures)
 
 pub lay-spec : {M : Type 1} → statement M
-lay-spec =
-    tie.close (tie.spec element-copy-out-from returns split-requires lay-at-requires returns-2)
+lay-spec = tie.close (tie.spec (λ c. search needs) returns split-requires lay-at-requires returns-2)

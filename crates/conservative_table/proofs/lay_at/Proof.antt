@@ -6,9 +6,6 @@ use borrow.Author.Needs.{needs}
 use Rattle.conservative_table.proofs.lay_at.Statement.{statement}
 use Rattle.conservative_table.proofs.lay_at.Tie as tie
 
-add-split : tie.Need-add-split
-add-split c = search needs
-
 split-requires : tie.Need-split-requires
 split-requires c κs =
     let l = c .before .before .before .pre in
@@ -21,4 +18,4 @@ returns : tie.Need-returns
 returns c = λ l. laid-at l (c .before .before .split .ensures) (c .adjust .ensures)
 
 pub lay-at-spec : {M : Type 1} → statement M
-lay-at-spec = tie.close (tie.spec add-split split-requires adjust-requires returns)
+lay-at-spec = tie.close (tie.spec (λ c. search needs) split-requires adjust-requires returns)

@@ -33,35 +33,14 @@ Inv-loop minutes free from at nodes until k₀ k = Inv free from at nodes k
 abbrev μ-loop : tie.MeasureT-loop
 μ-loop minutes free from at nodes until k₀ k = at - k
 
-add-k : tie.Need-add-k Inv-loop μ-loop
-add-k c = search needs
-
 loop-holds : tie.Need-loop-holds Inv-loop μ-loop
 loop-holds c = record { above = omega arith; to = omega arith; enough = λ j a b. absurd (omega arith) }
-
-mul-if1 : tie.Need-mul-if1 Inv-loop μ-loop
-mul-if1 c = search needs
-
-element-copy-out-if1 : tie.Need-element-copy-out-if1 Inv-loop μ-loop
-element-copy-out-if1 c = search needs
 
 returns : tie.Need-returns Inv-loop μ-loop
 returns c = stop (c .before .before .before .loop .inv) (λ a b. absurd (omega arith))
 
-mul-if2 : tie.Need-mul-if2 Inv-loop μ-loop
-mul-if2 c = search needs
-
-element-copy-out-if2 : tie.Need-element-copy-out-if2 Inv-loop μ-loop
-element-copy-out-if2 c = search needs
-
 returns-2 : tie.Need-returns-2 Inv-loop μ-loop
 returns-2 c = stop (c .before .before .before .before .before .loop .inv) (λ a b. omega arith)
-
-add-k-2 : tie.Need-add-k-2 Inv-loop μ-loop
-add-k-2 c = search needs
-
-loop-less : tie.Need-loop-less Inv-loop μ-loop
-loop-less c = search needs
 
 loop-again : tie.Need-loop-again Inv-loop μ-loop
 loop-again c = one-more (omega arith) (omega arith) (c .before .before .before .before .before .loop .inv)
@@ -71,19 +50,5 @@ returns-3 c = stop (c .before .loop .inv) (λ a b. absurd (omega arith))
 
 pub reach-spec : {M : Type 1} → statement M
 reach-spec =
-    tie.close
-    (tie.spec
-    Inv-loop
-    μ-loop
-    add-k
-    loop-holds
-    mul-if1
-    element-copy-out-if1
-    returns
-    mul-if2
-    element-copy-out-if2
-    returns-2
-    add-k-2
-    loop-less
-    loop-again
-    returns-3)
+    tie.close (tie.spec Inv-loop μ-loop (λ c. search needs) loop-holds (λ c. search needs) (λ c. search needs) returns (λ c. search needs)
+    (λ c. search needs) returns-2 (λ c. search needs) (λ c. search needs) loop-again returns-3)

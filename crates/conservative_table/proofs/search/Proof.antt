@@ -16,26 +16,8 @@ abbrev μ-loop : tie.MeasureT-loop
 loop-holds : tie.Need-loop-holds Inv-loop μ-loop
 loop-holds c = past-begin
 
-mul-if1 : tie.Need-mul-if1 Inv-loop μ-loop
-mul-if1 c = search needs
-
-element-copy-out-if1 : tie.Need-element-copy-out-if1 Inv-loop μ-loop
-element-copy-out-if1 c = search needs
-
-add-i : tie.Need-add-i Inv-loop μ-loop
-add-i c = search needs
-
-loop-less : tie.Need-loop-less Inv-loop μ-loop
-loop-less c = search needs
-
 loop-again : tie.Need-loop-again Inv-loop μ-loop
 loop-again c = past-few (c .before .before .before .loop .inv) (omega arith) (omega arith)
-
-mul-until : tie.Need-mul-until Inv-loop μ-loop
-mul-until c = search needs
-
-element-copy-out-until : tie.Need-element-copy-out-until Inv-loop μ-loop
-element-copy-out-until c = search needs
 
 add-until : tie.Need-add-until Inv-loop μ-loop
 add-until c =
@@ -51,19 +33,10 @@ reach-requires c κs =
 returns : tie.Need-returns Inv-loop μ-loop
 returns c = past-end (c .before .before .before .before .before .before .loop .inv) (omega arith) (omega arith) (c .before .reach .ensures) (c .if2 .taken)
 
-mul-if3 : tie.Need-mul-if3 Inv-loop μ-loop
-mul-if3 c = search needs
-
-element-copy-out-if3 : tie.Need-element-copy-out-if3 Inv-loop μ-loop
-element-copy-out-if3 c = search needs
-
 returns-2 : tie.Need-returns-2 Inv-loop μ-loop
 returns-2 c =
     let l = c .before .before .before .before .before .before .before .before .loop in
     past-far (l .inv) (omega arith) (omega arith) (c .before .before .before .reach .ensures) (omega arith)
-
-add-i-2 : tie.Need-add-i-2 Inv-loop μ-loop
-add-i-2 c = search needs
 
 loop-less-2 : tie.Need-loop-less-2 Inv-loop μ-loop
 loop-less-2 c = omega (arith, c .before .before .before .reach .ensures .above, c .before .before .before .reach .ensures .to)
@@ -79,25 +52,6 @@ returns-3 c = past-last (c .before .loop .inv) (omega arith)
 
 pub search-spec : {M : Type 1} → statement M
 search-spec =
-    tie.close
-    (tie.spec
-    Inv-loop
-    μ-loop
-    loop-holds
-    mul-if1
-    element-copy-out-if1
-    add-i
-    loop-less
-    loop-again
-    mul-until
-    element-copy-out-until
-    add-until
-    reach-requires
-    returns
-    mul-if3
-    element-copy-out-if3
-    returns-2
-    add-i-2
-    loop-less-2
-    loop-again-2
-    returns-3)
+    tie.close (tie.spec Inv-loop μ-loop loop-holds (λ c. search needs) (λ c. search needs) (λ c. search needs) (λ c. search needs)
+    loop-again (λ c. search needs) (λ c. search needs) add-until reach-requires returns (λ c. search needs) (λ c. search needs) returns-2
+    (λ c. search needs) loop-less-2 loop-again-2 returns-3)

@@ -5,9 +5,6 @@ use borrow.Author.Needs.{needs}
 use Rattle.conservative_table.proofs.shift.Statement.{statement}
 use Rattle.conservative_table.proofs.shift.Tie as tie
 
-lay-at-requires : tie.Need-lay-at-requires
-lay-at-requires c κs = search needs
-
 lay-at-requires-2 : tie.Need-lay-at-requires-2
 lay-at-requires-2 c κs = shift-in (c .before .before .before .before .before .pre) (c .before .before .lay-at .ensures)
 
@@ -15,4 +12,4 @@ returns : tie.Need-returns
 returns c = λ s. shifted s (c .before .before .before .lay-at .ensures) (c .lay-at2 .ensures)
 
 pub shift-spec : {M : Type 1} → statement M
-shift-spec = tie.close (tie.spec lay-at-requires lay-at-requires-2 returns)
+shift-spec = tie.close (tie.spec (λ c κs. search needs) lay-at-requires-2 returns)

@@ -14,9 +14,6 @@ use Rattle.easy.specs.Calling.{own-ready, own-before, call-own, handed-p
 use Rattle.easy.proofs.call.Statement.{statement}
 use Rattle.easy.proofs.call.Tie as tie
 
-own-part-requires : tie.Need-own-part-requires
-own-part-requires c κs = search needs
-
 finish-requires : tie.Need-finish-requires
 finish-requires c κs =
     let s = c .before in
@@ -41,4 +38,4 @@ returns c =
     ∙ ap outcome (sym (call-own m v q))
 
 pub call-spec : {M : Type 1} → statement M
-call-spec = tie.close (tie.spec own-part-requires finish-requires returns)
+call-spec = tie.close (tie.spec (λ c κs. search needs) finish-requires returns)

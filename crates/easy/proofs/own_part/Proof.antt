@@ -10,20 +10,8 @@ use Rattle.easy.specs.HeldModel.{valid-sound}
 use Rattle.easy.proofs.own_part.Statement.{statement}
 use Rattle.easy.proofs.own_part.Tie as tie
 
-enum-known-request : tie.Need-enum-known-request
-enum-known-request c = search needs
-
-admit-requires : tie.Need-admit-requires
-admit-requires c κs = search needs
-
-enum-known-request-2 : tie.Need-enum-known-request-2
-enum-known-request-2 c = search needs
-
 leave-requires : tie.Need-leave-requires
 leave-requires c κs = valid-sound _ (c .before .before .before .pre)
-
-enum-told : tie.Need-enum-told
-enum-told c = search needs
 
 expire-requires : tie.Need-expire-requires
 expire-requires c κs = valid-sound _ (c .before .before .pre)
@@ -45,14 +33,5 @@ returns-3 c =
 
 pub own-part-spec : {M : Type 1} → statement M
 own-part-spec =
-    tie.close
-    (tie.spec
-    enum-known-request
-    admit-requires
-    enum-known-request-2
-    leave-requires
-    enum-told
-    expire-requires
-    returns
-    returns-2
-    returns-3)
+    tie.close (tie.spec (λ c. search needs) (λ c κs. search needs) (λ c. search needs) leave-requires (λ c. search needs) expire-requires
+    returns returns-2 returns-3)

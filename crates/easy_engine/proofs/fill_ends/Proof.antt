@@ -38,9 +38,6 @@ mul-wall-time c = omega (arith, c .before .before .before .pre .few)
 element-copy-out-wall-time : tie.Need-element-copy-out-wall-time Inv-loop μ-loop
 element-copy-out-wall-time c = omega (arith, c .before .before .before .pre .few)
 
-wall-time-requires : tie.Need-wall-time-requires Inv-loop μ-loop
-wall-time-requires c κs = search needs
-
 add-ends : tie.Need-add-ends Inv-loop μ-loop
 add-ends c =
     let l = c .before .before .before .before .loop in
@@ -55,12 +52,6 @@ mul-ends-2 c = omega (arith, c .before .before .before .before .before .pre .few
 
 element-write-ends : tie.Need-element-write-ends Inv-loop μ-loop
 element-write-ends c = omega (arith, c .before .before .before .before .before .pre .few)
-
-add-i : tie.Need-add-i Inv-loop μ-loop
-add-i c = search needs
-
-loop-less : tie.Need-loop-less Inv-loop μ-loop
-loop-less c = search needs
 
 loop-again : tie.Need-loop-again Inv-loop μ-loop
 loop-again c =
@@ -79,20 +70,5 @@ returns c =
 
 pub fill-ends-spec : {M : Type 1} → statement M
 fill-ends-spec =
-    tie.close
-    (tie.spec
-    Inv-loop
-    μ-loop
-    loop-holds
-    mul-ends
-    element-copy-out-ends
-    mul-wall-time
-    element-copy-out-wall-time
-    wall-time-requires
-    add-ends
-    mul-ends-2
-    element-write-ends
-    add-i
-    loop-less
-    loop-again
-    returns)
+    tie.close (tie.spec Inv-loop μ-loop loop-holds mul-ends element-copy-out-ends mul-wall-time element-copy-out-wall-time
+    (λ c κs. search needs) add-ends mul-ends-2 element-write-ends (λ c. search needs) (λ c. search needs) loop-again returns)

@@ -18,13 +18,10 @@ returns-2 c =
     let a = c .before .before .args in
     rw (le-leb _ _ (c .before .if1 .left), le-leb _ _ (c .if2 .taken)) (sym (or-true (leb (wallTime (a .estimate)) (a .room)) true refl))
 
-wall-time-requires : tie.Need-wall-time-requires
-wall-time-requires c κs = search needs
-
 returns-3 : tie.Need-returns-3
 returns-3 c =
     let a = c .before .before .before .args in
     rw (c .wall-time .ensures, le-leb _ _ (c .before .before .if1 .left), lt-leb _ _ (c .before .if2 .left)) (sym (or-false (leb (wallTime (a .estimate)) (a .room)) false refl))
 
 pub may-pass-spec : {M : Type 1} → statement M
-may-pass-spec = tie.close (tie.spec returns returns-2 wall-time-requires returns-3)
+may-pass-spec = tie.close (tie.spec returns returns-2 (λ c κs. search needs) returns-3)

@@ -12,12 +12,6 @@ use Rattle.easy_engine.specs.Announcement.{before-is, quiet-answers}
 use Rattle.easy_engine.proofs.settle_all.Statement.{statement}
 use Rattle.easy_engine.proofs.settle_all.Tie as tie
 
-element-copy-out-head-before : tie.Need-element-copy-out-head-before
-element-copy-out-head-before c = search needs
-
-head-before-requires : tie.Need-head-before-requires
-head-before-requires c κs = search needs
-
 rests-requires : tie.Need-rests-requires
 rests-requires c κs =
     let u = c .before .before .before .pre in
@@ -77,13 +71,5 @@ returns-2 c =
 
 pub settle-all-spec : {M : Type 1} → statement M
 settle-all-spec =
-    tie.close
-    (tie.spec
-    element-copy-out-head-before
-    head-before-requires
-    rests-requires
-    returns
-    fill-ends-requires
-    settle-requires
-    announce-requires
-    returns-2)
+    tie.close (tie.spec (λ c. search needs) (λ c κs. search needs) rests-requires returns fill-ends-requires settle-requires
+    announce-requires returns-2)

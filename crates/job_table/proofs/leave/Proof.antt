@@ -45,27 +45,6 @@ found c l =
     (λ w. sym (o .inv .1) ∙ position-hit unused (runsAs (s .args .ticket)) (s .args .d .jobs) (o .i) (omega (arith, whole (s .args .d) (s .good .0))) (sym (w .2 .ensures) ∙ w .3 .taken))
     (c .loop-test .came)
 
-unused-requires : tie.Need-unused-requires Inv-loop μ-loop Inv-loop2 μ-loop2
-unused-requires c κs = search needs
-
-loop-holds : tie.Need-loop-holds Inv-loop μ-loop Inv-loop2 μ-loop2
-loop-holds c = search needs
-
-mul-j : tie.Need-mul-j Inv-loop μ-loop Inv-loop2 μ-loop2
-mul-j c = search needs
-
-element-copy-out-j : tie.Need-element-copy-out-j Inv-loop μ-loop Inv-loop2 μ-loop2
-element-copy-out-j c = search needs
-
-runs-as-requires : tie.Need-runs-as-requires Inv-loop μ-loop Inv-loop2 μ-loop2
-runs-as-requires c κs = search needs
-
-add-i : tie.Need-add-i Inv-loop μ-loop Inv-loop2 μ-loop2
-add-i c = search needs
-
-loop-less : tie.Need-loop-less Inv-loop μ-loop Inv-loop2 μ-loop2
-loop-less c = search needs
-
 loop-again : tie.Need-loop-again Inv-loop μ-loop Inv-loop2 μ-loop2
 loop-again c =
     let o = c .before .before .before .before .loop in
@@ -78,24 +57,6 @@ loop2-holds c =
     let s = c .before .before .before in
     shifts-first (c .before .loop .i) (s .args .d) (whole (s .args .d) (s .good .0)) (c .before .loop .inv .0)
 
-add-next : tie.Need-add-next Inv-loop μ-loop Inv-loop2 μ-loop2
-add-next c = search needs
-
-mul-j-2 : tie.Need-mul-j-2 Inv-loop μ-loop Inv-loop2 μ-loop2
-mul-j-2 c = search needs
-
-element-copy-out-j-2 : tie.Need-element-copy-out-j-2 Inv-loop μ-loop Inv-loop2 μ-loop2
-element-copy-out-j-2 c = search needs
-
-mul-j-3 : tie.Need-mul-j-3 Inv-loop μ-loop Inv-loop2 μ-loop2
-mul-j-3 c = search needs
-
-element-set-from-j : tie.Need-element-set-from-j Inv-loop μ-loop Inv-loop2 μ-loop2
-element-set-from-j c = search needs
-
-loop2-less : tie.Need-loop2-less Inv-loop μ-loop Inv-loop2 μ-loop2
-loop2-less c = search needs
-
 loop2-again : tie.Need-loop2-again Inv-loop μ-loop Inv-loop2 μ-loop2
 loop2-again c =
     let l = c .before .before .loop2 in
@@ -103,15 +64,6 @@ loop2-again c =
     let len = whole (s .args .d) (s .good .0) in
     let k : c .before .before .before .before .loop .i < 64 = omega (arith, l .inv .from) in
     rw (next-there (l .inv) len k (omega arith)) (shifts-next (l .inv) len k (omega arith))
-
-element-set-from-none : tie.Need-element-set-from-none Inv-loop μ-loop Inv-loop2 μ-loop2
-element-set-from-none c = search needs
-
-one-if-requires : tie.Need-one-if-requires Inv-loop μ-loop Inv-loop2 μ-loop2
-one-if-requires c κs = search needs
-
-not-running-requires : tie.Need-not-running-requires Inv-loop μ-loop Inv-loop2 μ-loop2
-not-running-requires c κs = search needs
 
 returns : tie.Need-returns Inv-loop μ-loop Inv-loop2 μ-loop2
 returns c =
@@ -135,29 +87,7 @@ returns c =
 
 pub leave-spec : {M : Type 1} → statement M
 leave-spec =
-    tie.close
-    (tie.spec
-    Inv-loop
-    μ-loop
-    Inv-loop2
-    μ-loop2
-    unused-requires
-    loop-holds
-    mul-j
-    element-copy-out-j
-    runs-as-requires
-    add-i
-    loop-less
-    loop-again
-    loop2-holds
-    add-next
-    mul-j-2
-    element-copy-out-j-2
-    mul-j-3
-    element-set-from-j
-    loop2-less
-    loop2-again
-    element-set-from-none
-    one-if-requires
-    not-running-requires
-    returns)
+    tie.close (tie.spec Inv-loop μ-loop Inv-loop2 μ-loop2 (λ c κs. search needs) (λ c. search needs) (λ c. search needs) (λ c. search needs)
+    (λ c κs. search needs) (λ c. search needs) (λ c. search needs) loop-again loop2-holds (λ c. search needs) (λ c. search needs)
+    (λ c. search needs) (λ c. search needs) (λ c. search needs) (λ c. search needs) loop2-again (λ c. search needs) (λ c κs. search needs)
+    (λ c κs. search needs) returns)

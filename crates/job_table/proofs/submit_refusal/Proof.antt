@@ -15,9 +15,6 @@ use Rattle.job_table.specs.Submitting.{tests-by}
 use Rattle.job_table.proofs.submit_refusal.Statement.{statement}
 use Rattle.job_table.proofs.submit_refusal.Tie as tie
 
-outside-range-requires : tie.Need-outside-range-requires
-outside-range-requires c κs = search needs
-
 returns : tie.Need-returns
 unfolding verdict
 returns c =
@@ -25,9 +22,6 @@ returns c =
     let x = w .before .args in
     let a : outside 1 (x .nodes) (x .s .nodes) ≡ true = sym (w .outside-range .ensures) ∙ c .if1 .taken in
     λ m k. rw a at (tests-by m (x .s .nodes) (x .s .estimate) (x .nodes) (x .live) (x .next) k)
-
-outside-range-requires-2 : tie.Need-outside-range-requires-2
-outside-range-requires-2 c κs = search needs
 
 returns-2 : tie.Need-returns-2
 unfolding verdict
@@ -66,4 +60,4 @@ unfolding verdict
 returns-5 c = λ m k. rw (lt-leb slots _ (c .before .if3 .left), le-ltb lastTicket _ (c .if4 .left)) at (rest (c .before .before) m k)
 
 pub submit-refusal-spec : {M : Type 1} → statement M
-submit-refusal-spec = tie.close (tie.spec outside-range-requires returns outside-range-requires-2 returns-2 returns-3 returns-4 returns-5)
+submit-refusal-spec = tie.close (tie.spec (λ c κs. search needs) returns (λ c κs. search needs) returns-2 returns-3 returns-4 returns-5)

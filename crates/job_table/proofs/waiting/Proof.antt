@@ -23,29 +23,8 @@ Inv-loop d end n₀ i₀ n i = (i ≤ end) × (end ≤ 64) × (n ≤ i) × (n �
 abbrev μ-loop : tie.MeasureT-loop
 μ-loop d end n₀ i₀ n i = end - i
 
-first-unused-requires : tie.Need-first-unused-requires Inv-loop μ-loop
-first-unused-requires c κs = search needs
-
 loop-holds : tie.Need-loop-holds Inv-loop μ-loop
 loop-holds c = (omega arith, omega (arith, c .first-unused .ensures, c .before .pre .holds .few), omega arith, refl)
-
-mul-j : tie.Need-mul-j Inv-loop μ-loop
-mul-j c = search needs
-
-element-copy-out-j : tie.Need-element-copy-out-j Inv-loop μ-loop
-element-copy-out-j c = search needs
-
-is-waiting-requires : tie.Need-is-waiting-requires Inv-loop μ-loop
-is-waiting-requires c κs = search needs
-
-add-n : tie.Need-add-n Inv-loop μ-loop
-add-n c = search needs
-
-add-i : tie.Need-add-i Inv-loop μ-loop
-add-i c = search needs
-
-loop-less : tie.Need-loop-less Inv-loop μ-loop
-loop-less c = search needs
 
 loop-again : tie.Need-loop-again Inv-loop μ-loop
 loop-again c =
@@ -71,17 +50,5 @@ returns c =
 
 pub waiting-spec : {M : Type 1} → statement M
 waiting-spec =
-    tie.close
-    (tie.spec
-    Inv-loop
-    μ-loop
-    first-unused-requires
-    loop-holds
-    mul-j
-    element-copy-out-j
-    is-waiting-requires
-    add-n
-    add-i
-    loop-less
-    loop-again
-    returns)
+    tie.close (tie.spec Inv-loop μ-loop (λ c κs. search needs) loop-holds (λ c. search needs) (λ c. search needs) (λ c κs. search needs)
+    (λ c. search needs) (λ c. search needs) (λ c. search needs) loop-again returns)

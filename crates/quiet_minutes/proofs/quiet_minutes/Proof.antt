@@ -16,32 +16,14 @@ Inv-loop most d k₀ i₀ k i = Asked d most k i
 abbrev μ-loop : tie.MeasureT-loop
 μ-loop most d k₀ i₀ k i = 64 - i
 
-add-before : tie.Need-add-before Inv-loop μ-loop
-add-before c = search needs
-
-before-requires : tie.Need-before-requires Inv-loop μ-loop
-before-requires c κs = search needs
-
 loop-holds : tie.Need-loop-holds Inv-loop μ-loop
 loop-holds c = asked-none (c .before .args .t1) (c .before .args .most) (c .before2 .result) (c .before2 .ensures .0) (c .before2 .ensures .1)
-
-mul-j : tie.Need-mul-j Inv-loop μ-loop
-mul-j c = search needs
-
-element-copy-out-j : tie.Need-element-copy-out-j Inv-loop μ-loop
-element-copy-out-j c = search needs
 
 quiet-of-requires : tie.Need-quiet-of-requires Inv-loop μ-loop
 quiet-of-requires c κs =
     let s = c .before .before .before .before in
     let len = whole (s .args .t1) (s .good .0) in
     slots-low (s .args .t1) (record { stored = s .pre .stored; holds = premise-sound (s .args .t1) (s .pre) }) (c .before .before .loop .i) (omega arith)
-
-add-i : tie.Need-add-i Inv-loop μ-loop
-add-i c = search needs
-
-loop-less : tie.Need-loop-less Inv-loop μ-loop
-loop-less c = search needs
 
 loop-again : tie.Need-loop-again Inv-loop μ-loop
 loop-again c =
@@ -58,17 +40,5 @@ returns c =
 
 pub quiet-minutes-spec : {M : Type 1} → statement M
 quiet-minutes-spec =
-    tie.close
-    (tie.spec
-    Inv-loop
-    μ-loop
-    add-before
-    before-requires
-    loop-holds
-    mul-j
-    element-copy-out-j
-    quiet-of-requires
-    add-i
-    loop-less
-    loop-again
-    returns)
+    tie.close (tie.spec Inv-loop μ-loop (λ c. search needs) (λ c κs. search needs) loop-holds (λ c. search needs) (λ c. search needs)
+    quiet-of-requires (λ c. search needs) (λ c. search needs) loop-again returns)

@@ -7,26 +7,8 @@ use borrow.Author.Needs.{needs}
 use Rattle.quiet_minutes.proofs.quiet_of.Statement.{statement}
 use Rattle.quiet_minutes.proofs.quiet_of.Tie as tie
 
-enum-told : tie.Need-enum-told
-enum-told c = search needs
-
-enum-told-2 : tie.Need-enum-told-2
-enum-told-2 c = search needs
-
-before-requires : tie.Need-before-requires
-before-requires c κs = search needs
-
-enum-told-3 : tie.Need-enum-told-3
-enum-told-3 c = search needs
-
-wall-time-requires : tie.Need-wall-time-requires
-wall-time-requires c κs = search needs
-
 add-before : tie.Need-add-before
 add-before c = omega (arith, c .before .wall-time .ensures, wallTime-le (c .before .before .before .before .args .job .estimate), c .before .before .before .before .pre)
-
-before-requires-2 : tie.Need-before-requires-2
-before-requires-2 c κs = search needs
 
 returns : tie.Need-returns
 returns c = (omega arith, unused-quiet (c .before .before .args .clock) (c .before .before .args .most) (c .before .before .args .job) (c .enum-told .given .1))
@@ -39,15 +21,5 @@ returns-3 c = (c .before3 .ensures .0, running-quiet (c .before .before .before 
 
 pub quiet-of-spec : {M : Type 1} → statement M
 quiet-of-spec =
-    tie.close
-    (tie.spec
-    enum-told
-    enum-told-2
-    before-requires
-    enum-told-3
-    wall-time-requires
-    add-before
-    before-requires-2
-    returns
-    returns-2
-    returns-3)
+    tie.close (tie.spec (λ c. search needs) (λ c. search needs) (λ c κs. search needs) (λ c. search needs) (λ c κs. search needs) add-before
+    (λ c κs. search needs) returns returns-2 returns-3)

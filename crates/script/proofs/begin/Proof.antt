@@ -7,11 +7,8 @@ use borrow.Author.Needs.{needs}
 use Rattle.script.proofs.begin.Statement.{statement}
 use Rattle.script.proofs.begin.Tie as tie
 
-open-requires : tie.Need-open-requires
-open-requires c κs = search needs
-
 returns : tie.Need-returns
 returns c = ap (λ (x : Opened). record { stage = First; at = 0; steps = 0; scheduler = x .scheduler }) (c .before .«open» .ensures)
 
 pub begin-spec : {M : Type 1} → statement M
-begin-spec = tie.close (tie.spec open-requires returns)
+begin-spec = tie.close (tie.spec (λ c κs. search needs) returns)

@@ -7,20 +7,11 @@ use borrow.Author.Needs.{needs}
 use Rattle.script.proofs.first.Statement.{statement}
 use Rattle.script.proofs.first.Tie as tie
 
-refuse-requires : tie.Need-refuse-requires
-refuse-requires c κs = search needs
-
-same-length : tie.Need-same-length
-same-length c = search needs
-
 returns : tie.Need-returns
 returns c = turned-as (first-long _ _ (c .before .before .before .before .if1 .taken)) (c .before .before .refuse .ensures)
 
 returns-2 : tie.Need-returns-2
 returns-2 c = turned-as (first-none _ _ (c .before .before .if1 .left) (c .before .if2 .taken)) (turned-none _ _ _)
-
-next-line-requires : tie.Need-next-line-requires
-next-line-requires c κs = search needs
 
 sub-read-first : tie.Need-sub-read-first
 sub-read-first c = line-ends _ _ _ (c .before .next-line .ensures) (omega (arith, c .before .before .if2 .left)) .after
@@ -33,29 +24,14 @@ part-read-first-start c =
 part-read-first-end : tie.Need-part-read-first-end
 part-read-first-end c = omega (arith, line-ends _ _ _ (c .before .next-line .ensures) (omega (arith, c .before .before .if2 .left)) .within)
 
-read-first-requires : tie.Need-read-first-requires
-read-first-requires c κs = search needs
-
 add-open : tie.Need-add-open
 add-open c = omega (arith, line-ends _ _ _ (c .before .before .before .next-line .ensures) (omega (arith, c .before .before .before .before .if2 .left)) .within)
-
-open-requires : tie.Need-open-requires
-open-requires c κs = search needs
-
-same-length-2 : tie.Need-same-length-2
-same-length-2 c = search needs
 
 returns-3 : tie.Need-returns-3
 returns-3 c =
     turned-as
     (first-closed _ _ (c .before .before .before .before .before .before .before .before .before .if1 .left) (c .before .before .before .before .before .before .before .before .if2 .left) _ (c .before .before .before .before .before .before .before .next-line .ensures) (c .before .before .before .before .before .before .if3 .taken) (c .before .before .before .before .read-first .result) (c .before .before .before .before .read-first .ensures))
     (c .before .before .«open» .ensures)
-
-refuse-requires-2 : tie.Need-refuse-requires-2
-refuse-requires-2 c κs = search needs
-
-same-length-3 : tie.Need-same-length-3
-same-length-3 c = search needs
 
 returns-4 : tie.Need-returns-4
 returns-4 c =
@@ -65,21 +41,6 @@ returns-4 c =
 
 pub first-spec : {M : Type 1} → statement M
 first-spec =
-    tie.close
-    (tie.spec
-    refuse-requires
-    same-length
-    returns
-    returns-2
-    next-line-requires
-    sub-read-first
-    part-read-first-start
-    part-read-first-end
-    read-first-requires
-    add-open
-    open-requires
-    same-length-2
-    returns-3
-    refuse-requires-2
-    same-length-3
-    returns-4)
+    tie.close (tie.spec (λ c κs. search needs) (λ c. search needs) returns returns-2 (λ c κs. search needs) sub-read-first
+    part-read-first-start part-read-first-end (λ c κs. search needs) add-open (λ c κs. search needs) (λ c. search needs) returns-3
+    (λ c κs. search needs) (λ c. search needs) returns-4)

@@ -103,9 +103,6 @@ lacks-turn : (c : tie.After-put-refusal2 Inv-loop μ-loop)
     Turn n (c .put-refusal2 .last .0) (c .put-refusal2 .result) (n .next-turn .result .steps) (found n)
 lacks-turn c = let n = c .before .before .before .before .before .before .before in lacks-turned _ _ _ _ _ (n .next-turn .ensures) _ (c .before .before .before .before .before .turn .given .1) (c .before .before .enum-told .given .1) (c .put-refusal2 .ensures)
 
-page-len-requires : tie.Need-page-len-requires Inv-loop μ-loop
-page-len-requires c κs = search needs
-
 sub-last : tie.Need-sub-last Inv-loop μ-loop
 sub-last c = omega (arith, c .page-len .ensures, c .before .before .before .pre .2)
 
@@ -123,15 +120,6 @@ add-d c =
 sub-next-turn : tie.Need-sub-next-turn Inv-loop μ-loop
 sub-next-turn c = omega (arith, ahead (c .before .before) .few)
 
-next-turn-requires : tie.Need-next-turn-requires Inv-loop μ-loop
-next-turn-requires c κs = search needs
-
-enum-known-turn : tie.Need-enum-known-turn Inv-loop μ-loop
-enum-known-turn c = search needs
-
-enum-known-asked : tie.Need-enum-known-asked Inv-loop μ-loop
-enum-known-asked c = search needs
-
 call-requires : tie.Need-call-requires Inv-loop μ-loop
 call-requires c κs = quiet-filling (passed (c .before .before .before .before .before .before)) .ready .premise
 
@@ -146,14 +134,8 @@ loop-less c = less (c .before .before .before .before .before .before .before .b
 loop-again : tie.Need-loop-again Inv-loop μ-loop
 loop-again c = more (c .before .before .before .before .before .before .before .before .before .before .before .before .before) (call-turn (c .before .before))
 
-enum-known-asked-2 : tie.Need-enum-known-asked-2 Inv-loop μ-loop
-enum-known-asked-2 c = search needs
-
 wait-refusal-requires : tie.Need-wait-refusal-requires Inv-loop μ-loop
 wait-refusal-requires c κs = quiet-filling (passed (c .before .before .before .before .before .before)) .ready .premise
-
-is-none-requires : tie.Need-is-none-requires Inv-loop μ-loop
-is-none-requires c κs = search needs
 
 loop-less-2 : tie.Need-loop-less-2 Inv-loop μ-loop
 loop-less-2 c = less (c .before .before .before .before .before .before .before .before .before) (wait-turn c)
@@ -170,9 +152,6 @@ loop-less-3 c = less (c .before .before .before .before .before .before .before 
 loop-again-3 : tie.Need-loop-again-3 Inv-loop μ-loop
 loop-again-3 c = more (c .before .before .before .before .before .before .before .before .before .before .before .before .before) (refused-turn (c .before .before))
 
-enum-told : tie.Need-enum-told Inv-loop μ-loop
-enum-told c = search needs
-
 put-refusal-requires-2 : tie.Need-put-refusal-requires-2 Inv-loop μ-loop
 put-refusal-requires-2 c κs = omega (arith, room (passed (c .before .before .before .before .before .before) .before))
 
@@ -181,9 +160,6 @@ loop-less-4 c = less (c .before .before .before .before .before .before .before 
 
 loop-again-4 : tie.Need-loop-again-4 Inv-loop μ-loop
 loop-again-4 c = more (c .before .before .before .before .before .before .before .before .before) (lacks-turn (c .before .before))
-
-enum-told-2 : tie.Need-enum-told-2 Inv-loop μ-loop
-enum-told-2 c = search needs
 
 same-length : tie.Need-same-length Inv-loop μ-loop
 same-length c = passed (c .before .before) .before .before .loop .inv .whole
@@ -203,37 +179,7 @@ returns-2 c =
 
 pub later-spec : {M : Type 1} → statement M
 later-spec =
-    tie.close
-    (tie.spec
-    Inv-loop
-    μ-loop
-    page-len-requires
-    sub-last
-    loop-holds
-    quiet-minutes-requires
-    add-d
-    sub-next-turn
-    next-turn-requires
-    enum-known-turn
-    enum-known-asked
-    call-requires
-    put-answer-requires
-    loop-less
-    loop-again
-    enum-known-asked-2
-    wait-refusal-requires
-    is-none-requires
-    loop-less-2
-    loop-again-2
-    put-refusal-requires
-    loop-less-3
-    loop-again-3
-    enum-told
-    put-refusal-requires-2
-    loop-less-4
-    loop-again-4
-    enum-told-2
-    same-length
-    returns
-    same-length-2
-    returns-2)
+    tie.close (tie.spec Inv-loop μ-loop (λ c κs. search needs) sub-last loop-holds quiet-minutes-requires add-d sub-next-turn
+    (λ c κs. search needs) (λ c. search needs) (λ c. search needs) call-requires put-answer-requires loop-less loop-again
+    (λ c. search needs) wait-refusal-requires (λ c κs. search needs) loop-less-2 loop-again-2 put-refusal-requires loop-less-3 loop-again-3
+    (λ c. search needs) put-refusal-requires-2 loop-less-4 loop-again-4 (λ c. search needs) same-length returns same-length-2 returns-2)

@@ -7,9 +7,6 @@ use borrow.Author.Needs.{needs}
 use Rattle.script.proofs.next_line.Statement.{statement}
 use Rattle.script.proofs.next_line.Tie as tie
 
-next-line-requires : tie.Need-next-line-requires
-next-line-requires c κs = search needs
-
 sub-read-later : tie.Need-sub-read-later
 sub-read-later c = line-ends _ _ _ (c .before .next-line .ensures) (omega (arith, c .before .before .before .pre)) .after
 
@@ -20,9 +17,6 @@ part-read-later-start c =
 
 part-read-later-end : tie.Need-part-read-later-end
 part-read-later-end c = omega (arith, line-ends _ _ _ (c .before .next-line .ensures) (omega (arith, c .before .before .before .pre)) .within)
-
-read-later-requires : tie.Need-read-later-requires
-read-later-requires c κs = search needs
 
 add-t8 : tie.Need-add-t8
 add-t8 c = omega (arith, line-ends _ _ _ (c .before .before .before .next-line .ensures) (omega (arith, c .before .before .before .before .before .pre)) .within)
@@ -35,13 +29,5 @@ returns-2 c = comes-unclosed _ _ (c .before .before .before .pre) _ (c .before .
 
 pub next-line-spec : {M : Type 1} → statement M
 next-line-spec =
-    tie.close
-    (tie.spec
-    next-line-requires
-    sub-read-later
-    part-read-later-start
-    part-read-later-end
-    read-later-requires
-    add-t8
-    returns
-    returns-2)
+    tie.close (tie.spec (λ c κs. search needs) sub-read-later part-read-later-start part-read-later-end (λ c κs. search needs) add-t8
+    returns returns-2)

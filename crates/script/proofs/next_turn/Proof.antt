@@ -6,20 +6,14 @@ use borrow.Author.Needs.{needs}
 use Rattle.script.proofs.next_turn.Statement.{statement}
 use Rattle.script.proofs.next_turn.Tie as tie
 
-sub-t8 : tie.Need-sub-t8
-sub-t8 c = search needs
-
 returns : tie.Need-returns
 returns c = comes-step _ _ _ (c .if1 .taken)
 
 returns-2 : tie.Need-returns-2
 returns-2 c = comes-as _ _ _ _ (omega (arith, c .before .if1 .left)) (comes-over _ _ (c .if2 .taken))
 
-next-line-requires : tie.Need-next-line-requires
-next-line-requires c κs = search needs
-
 returns-3 : tie.Need-returns-3
 returns-3 c = comes-as _ _ _ _ (omega (arith, c .before .before .if1 .left)) (c .next-line .ensures)
 
 pub next-turn-spec : {M : Type 1} → statement M
-next-turn-spec = tie.close (tie.spec sub-t8 returns returns-2 next-line-requires returns-3)
+next-turn-spec = tie.close (tie.spec (λ c. search needs) returns returns-2 (λ c κs. search needs) returns-3)

@@ -20,21 +20,6 @@ loop-holds : tie.Need-loop-holds Inv-loop μ-loop
 unfolding pad
 loop-holds c = putting-begin (c .args .minutes .now) (c .args .free .now) (c .args .count)
 
-mul-left : tie.Need-mul-left Inv-loop μ-loop
-mul-left c = search needs
-
-element-copy-out-left : tie.Need-element-copy-out-left Inv-loop μ-loop
-element-copy-out-left c = search needs
-
-differs-requires : tie.Need-differs-requires Inv-loop μ-loop
-differs-requires c κs = search needs
-
-mul-t16 : tie.Need-mul-t16 Inv-loop μ-loop
-mul-t16 c = search needs
-
-element-copy-out-t19 : tie.Need-element-copy-out-t19 Inv-loop μ-loop
-element-copy-out-t19 c = search needs
-
 mul-points : tie.Need-mul-points Inv-loop μ-loop
 mul-points c =
     let l = c .before .before .before .before .before .loop in
@@ -56,12 +41,6 @@ add-n c =
     let h = putting-room (l .inv) (s .pre) (omega arith) (sym (c .before .before .differs .ensures) ∙ c .before .if1 .taken) in
     search needs
 
-add-i : tie.Need-add-i Inv-loop μ-loop
-add-i c = search needs
-
-loop-less : tie.Need-loop-less Inv-loop μ-loop
-loop-less c = search needs
-
 loop-again : tie.Need-loop-again Inv-loop μ-loop
 loop-again c =
     let l = c .before .before .before .before .loop in
@@ -77,20 +56,5 @@ returns c = putting-end (c .before .loop .inv) (omega arith)
 
 pub of-spec : {M : Type 1} → statement M
 of-spec =
-    tie.close
-    (tie.spec
-    Inv-loop
-    μ-loop
-    loop-holds
-    mul-left
-    element-copy-out-left
-    differs-requires
-    mul-t16
-    element-copy-out-t19
-    mul-points
-    array-set-from-points
-    add-n
-    add-i
-    loop-less
-    loop-again
-    returns)
+    tie.close (tie.spec Inv-loop μ-loop loop-holds (λ c. search needs) (λ c. search needs) (λ c κs. search needs) (λ c. search needs)
+    (λ c. search needs) mul-points array-set-from-points add-n (λ c. search needs) (λ c. search needs) loop-again returns)

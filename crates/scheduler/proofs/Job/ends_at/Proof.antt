@@ -8,28 +8,10 @@ use Rattle.lists.specs.Tests.{eqb-sub}
 use Rattle.scheduler.proofs.Job.ends_at.Statement.{statement}
 use Rattle.scheduler.proofs.Job.ends_at.Tie as tie
 
-enum-told : tie.Need-enum-told
-enum-told c = search needs
-
-enum-told-2 : tie.Need-enum-told-2
-enum-told-2 c = search needs
-
-enum-told-3 : tie.Need-enum-told-3
-enum-told-3 c = search needs
-
 returns : tie.Need-returns
 returns c =
     let a = c .before .before .before .before .args in
     rw (c .before .before .enum-told3 .given .1, ne-eqb (a .self .start + wallTime (a .self .estimate)) (a .minute) (λ e. omega arith))
-
-wall-time-requires : tie.Need-wall-time-requires
-wall-time-requires c κs = search needs
-
-returns-2 : tie.Need-returns-2
-returns-2 c = search needs
-
-returns-3 : tie.Need-returns-3
-returns-3 c = search needs
 
 returns-4 : tie.Need-returns-4
 returns-4 c =
@@ -41,13 +23,5 @@ returns-4 c =
 
 pub ends-at-spec : {M : Type 1} → statement M
 ends-at-spec =
-    tie.close
-    (tie.spec
-    enum-told
-    enum-told-2
-    enum-told-3
-    returns
-    wall-time-requires
-    returns-2
-    returns-3
-    returns-4)
+    tie.close (tie.spec (λ c. search needs) (λ c. search needs) (λ c. search needs) returns (λ c κs. search needs) (λ c. search needs)
+    (λ c. search needs) returns-4)

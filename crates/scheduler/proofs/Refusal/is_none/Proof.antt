@@ -7,11 +7,8 @@ use borrow.Author.Needs.{needs}
 use Rattle.scheduler.proofs.Refusal.is_none.Statement.{statement}
 use Rattle.scheduler.proofs.Refusal.is_none.Tie as tie
 
-code-requires : tie.Need-code-requires
-code-requires c κs = search needs
-
 returns : tie.Need-returns
 returns c = ap (λ (n : ℕ). eqb n 0) (c .code .ensures)
 
 pub is-none-spec : {M : Type 1} → statement M
-is-none-spec = tie.close (tie.spec code-requires returns)
+is-none-spec = tie.close (tie.spec (λ c κs. search needs) returns)

@@ -4,12 +4,9 @@ use borrow.Author.Needs.{needs}
 use Rattle.scheduler.proofs.Scheduler.empty.Statement.{statement}
 use Rattle.scheduler.proofs.Scheduler.empty.Tie as tie
 
-unused-requires : tie.Need-unused-requires
-unused-requires c κs = search needs
-
 returns : tie.Need-returns
 unfolding store pad
 returns c = rw (c .unused .ensures)
 
 pub empty-spec : {M : Type 1} → statement M
-empty-spec = tie.close (tie.spec unused-requires returns)
+empty-spec = tie.close (tie.spec (λ c κs. search needs) returns)

@@ -8,20 +8,11 @@ use borrow.Author.Needs.{needs}
 use Rattle.scheduler.proofs.Scheduler.open.Statement.{statement}
 use Rattle.scheduler.proofs.Scheduler.open.Tie as tie
 
-outside-range-requires : tie.Need-outside-range-requires
-outside-range-requires c κs = search needs
-
-empty-requires : tie.Need-empty-requires
-empty-requires c κs = search needs
-
 returns : tie.Need-returns
 unfolding openingRefusal opening opened verdict
 returns c =
     let t : outside 1 maxNodes (c .before .before .before .args .o .nodes) ≡ true = sym (c .before .before .outside-range .ensures) ∙ c .before .if1 .taken in
     rw (t, c .empty .ensures)
-
-empty-requires-2 : tie.Need-empty-requires-2
-empty-requires-2 c κs = search needs
 
 returns-2 : tie.Need-returns-2
 unfolding openingRefusal opening opened verdict
@@ -31,12 +22,6 @@ returns-2 c =
     let t1 : outside 1 maxNodes (s .args .o .nodes) ≡ false = sym (e1 .before .outside-range .ensures) ∙ e1 .if1 .left in
     rw (t1, lt-ltb _ _ (c .before .if2 .taken), c .empty2 .ensures)
 
-outside-range-requires-2 : tie.Need-outside-range-requires-2
-outside-range-requires-2 c κs = search needs
-
-empty-requires-3 : tie.Need-empty-requires-3
-empty-requires-3 c κs = search needs
-
 returns-3 : tie.Need-returns-3
 unfolding openingRefusal opening opened verdict
 returns-3 c =
@@ -45,9 +30,6 @@ returns-3 c =
     let t1 : outside 1 maxNodes (s .args .o .nodes) ≡ false = sym (e1 .before .outside-range .ensures) ∙ e1 .if1 .left in
     let t3 : outside 1 lastTicket (s .args .o .ticket) ≡ true = sym (c .before .before .outside-range2 .ensures) ∙ c .before .if3 .taken in
     rw (t1, le-ltb _ _ (c .before .before .before .if2 .left), t3, c .empty3 .ensures)
-
-empty-requires-4 : tie.Need-empty-requires-4
-empty-requires-4 c κs = search needs
 
 returns-4 : tie.Need-returns-4
 unfolding openingRefusal opening opened verdict
@@ -60,15 +42,5 @@ returns-4 c =
 
 pub open-spec : {M : Type 1} → statement M
 open-spec =
-    tie.close
-    (tie.spec
-    outside-range-requires
-    empty-requires
-    returns
-    empty-requires-2
-    returns-2
-    outside-range-requires-2
-    empty-requires-3
-    returns-3
-    empty-requires-4
-    returns-4)
+    tie.close (tie.spec (λ c κs. search needs) (λ c κs. search needs) returns (λ c κs. search needs) returns-2 (λ c κs. search needs)
+    (λ c κs. search needs) returns-3 (λ c κs. search needs) returns-4)

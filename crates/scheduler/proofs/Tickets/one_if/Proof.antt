@@ -4,9 +4,6 @@ use borrow.Author.Needs.{needs}
 use Rattle.scheduler.proofs.Tickets.one_if.Statement.{statement}
 use Rattle.scheduler.proofs.Tickets.one_if.Tie as tie
 
-array-write-one : tie.Need-array-write-one
-array-write-one c = search needs
-
 returns : tie.Need-returns
 unfolding tickets pad
 returns c = rw (c .if1 .taken)
@@ -16,4 +13,4 @@ unfolding tickets pad
 returns-2 c = rw (c .if1 .left)
 
 pub one-if-spec : {M : Type 1} → statement M
-one-if-spec = tie.close (tie.spec array-write-one returns returns-2)
+one-if-spec = tie.close (tie.spec (λ c. search needs) returns returns-2)
