@@ -34,7 +34,8 @@ began j k = isWaiting j && isRunning k
 
 -- one slot more of both
 begun-more : (i : ℕ) (js ks : List Job) → i < length js → i < length ks
-    → begun (take (suc i) js) (take (suc i) ks) ≡ begun (take i js) (take i ks) ++ oneIf (began (getD js i unused) (getD ks i unused)) (getD js i unused .ticket)
+    → begun (take (suc i) js) (take (suc i) ks) ≡ begun (take i js) (take i ks) ++ oneIf (began (getD js i unused) (getD ks i unused))
+    (getD js i unused .ticket)
 begun-more i [] ks a b = absurd (omega arith)
 begun-more i (j ∷ js) [] a b = absurd (omega arith)
 begun-more zero (j ∷ js) (k ∷ ks) a b = refl
@@ -100,7 +101,8 @@ begun-self (j ∷ js) = rw (never (j .state)) (begun-self js)
 pub refused-stored : (m : Model) (r : Refusal) → advancedBy (part (record { refusal = r; ticket = 0; ended = []; model = m })) (store m) ≡ outcome (refuse m r)
 unfolding advancedBy
 refused-stored m r =
-    ap (λ (ts : List ℕ). outcome (record { reply = record { refusal = r; ticket = 0; promise = 0; ended = []; started = ts; head = none }; model = m })) (begun-self (store m .jobs))
+    ap (λ (ts : List ℕ). outcome
+    (record { reply = record { refusal = r; ticket = 0; promise = 0; ended = []; started = ts; head = none }; model = m })) (begun-self (store m .jobs))
 
 pub advanced-stored : (m : Model) (clock : ℕ) (s : Select) (ks : List Job) → length (staying s (m .jobs)) ≡ length ks
     → advancedBy (part (leaving m clock s)) (store (withModelJobs (without m clock s) ks)) ≡ outcome (advanced m clock s ks)

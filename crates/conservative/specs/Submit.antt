@@ -68,11 +68,13 @@ module _ (m : Model) (n e : ℕ) where
   unfolding call
   submit-checked a = rw (refusal-is, a) (rw a)
 
-  pub submit-past : accepts (sharedRefusal m n e) ≡ true → horizon (m .settings) < planned m n e + holdTime (m .settings) e → call m (submit n e) ≡ refuse m refusal.PastHorizon
+  pub submit-past : accepts (sharedRefusal m n e) ≡ true → horizon (m .settings) < planned m n e + holdTime (m .settings) e
+      → call m (submit n e) ≡ refuse m refusal.PastHorizon
   unfolding call past verdict
   submit-past a h = rw (refusal-is, a, lt-ltb (horizon (m .settings)) (planned m n e + holdTime (m .settings) e) h)
 
-  pub submit-taken : accepts (sharedRefusal m n e) ≡ true → planned m n e + holdTime (m .settings) e ≤ horizon (m .settings) → call m (submit n e) ≡ submitted m n e (planned m n e)
+  pub submit-taken : accepts (sharedRefusal m n e) ≡ true → planned m n e + holdTime (m .settings) e ≤ horizon (m .settings)
+      → call m (submit n e) ≡ submitted m n e (planned m n e)
   unfolding call past verdict
   submit-taken a h = rw (refusal-is, a, le-ltb (horizon (m .settings)) (planned m n e + holdTime (m .settings) e) h)
 
@@ -86,9 +88,15 @@ module _ (d : Scheduler) (n e : ℕ) (h : Holds Valid d) where
   unfolding planned earliest
   planned-low =
       let xs = spans (m .settings) (m .jobs) in
-      omega (arith, least-to (fits (free (m .settings .nodes) xs) n (holdTime (m .settings) e)) (lastEnd xs - m .clock) (m .clock), last-le (horizon (m .settings)) xs (ends (m .jobs) (λ j i. h .holds .sound .each j i .ends)), h .holds .sound .clock-to)
+      omega (
+        arith,
+        least-to (fits (free (m .settings .nodes) xs) n (holdTime (m .settings) e)) (lastEnd xs - m .clock) (m .clock),
+        last-le (horizon (m .settings)) xs (ends (m .jobs) (λ j i. h .holds .sound .each j i .ends)),
+        h .holds .sound .clock-to,
+      )
     where
-      ends : (js : List Job) → ((j : Job) → In j js → until (m .settings) j ≤ horizon (m .settings)) → All (λ (x : Span). x .until ≤ horizon (m .settings)) (spans (m .settings) js)
+      ends : (js : List Job) → ((j : Job) → In j js → until (m .settings) j ≤ horizon (m .settings))
+          → All (λ (x : Span). x .until ≤ horizon (m .settings)) (spans (m .settings) js)
       ends [] f = tt
       ends (j ∷ js) f = (f j (here refl), ends js (λ k i. f k (there i)))
 
@@ -102,7 +110,13 @@ module _ (d : Scheduler) (n e : ℕ) (h : Holds Valid d) where
     room-held slot q = (omega (arith, fit-held .room), fit-held .ticket-left)
 
     pub askable : Askable d n (wallTime e)
-    askable = record { planned = holds-as Valid Planned d valid-planned h; nodes-to = fit-held .nodes-to; hold-from = wallTime-pos e (fit-held .estimate-from); hold-to = wallTime-le e }
+    askable = record {
+      planned = holds-as Valid Planned d valid-planned h;
+      nodes-to = fit-held .nodes-to;
+      hold-from =
+          wallTime-pos e (fit-held .estimate-from);
+      hold-to = wallTime-le e;
+    }
 
     pub start-held : startFor m n (wallTime e) ≡ planned m n e
     unfolding planned
@@ -110,9 +124,14 @@ module _ (d : Scheduler) (n e : ℕ) (h : Holds Valid d) where
 
     accepted-held : (slot s : ℕ) → slot ≡ length (m .jobs) → accepted d n e slot s ≡ outcome (submitted m n e s)
     unfolding accepted submitted view
-    accepted-held slot s q = λ i. record { answer = answer (submitted m n e s .reply); scheduler = enters d slot q (h .stored) (fit-held .room) (newJob m n e s) i }
+    accepted-held slot s q = λ i. record {
+      answer = answer (submitted m n e s .reply);
+      scheduler =
+          enters d slot q (h .stored) (fit-held .room) (newJob m n e s) i;
+    }
 
-    pub taken-held : (slot : ℕ) → slot ≡ length (m .jobs) → planned m n e + wallTime e ≤ horizon (m .settings) → accepted d n e slot (planned m n e) ≡ outcome (call m (submit n e))
+    pub taken-held : (slot : ℕ) → slot ≡ length (m .jobs) → planned m n e + wallTime e ≤ horizon (m .settings)
+        → accepted d n e slot (planned m n e) ≡ outcome (call m (submit n e))
     taken-held slot q l = accepted-held slot (planned m n e) q ∙ ap outcome (sym (submit-taken m n e a l))
 
     pub past-held : horizon (m .settings) < planned m n e + wallTime e → refusedOutcome d refusal.PastHorizon ≡ outcome (call m (submit n e))

@@ -153,5 +153,7 @@ module _ {now : ℕ} {d e : Scheduler} {list : List ℕ} {n i : ℕ} (v : Starts
   unfolding tickets
   starts-done h =
       let le : length xs ≤ i = omega arith in
-      let all = take-all i xs le in
-      (v .scheduler-is ∙ ap (withJobs d) (rw (all, drop-of-length-le xs le) (append-nil (map (turned now) xs))), rw (begun-turned now xs) (λ j. record { count = (rw all at (v .count-is)) j; list = (rw all at (v .list-is)) j }))
+      let all = take-all i xs le in (
+        v .scheduler-is ∙ ap (withJobs d) (rw (all, drop-of-length-le xs le) (append-nil (map (turned now) xs))),
+        rw (begun-turned now xs) (λ j. record { count = (rw all at (v .count-is)) j; list = (rw all at (v .list-is)) j }),
+      )

@@ -29,7 +29,8 @@ use Rattle.history.specs.Book.{running, fateAfter, lowest}
 use Rattle.history_proof.specs.Obligations.{shown, fateBy, remark, Tells, by, Kept, For, Lawful}
 use Rattle.history_proof.specs.Departures.{shown-with, lives, ends-lives, tells-leave, remark-same, tells-stay, tells-nothing, kept-by}
 use Rattle.conservative_rules.specs.Conservative.{planned, stateAt, newJob, submitted, begun, advanced, call}
-use Rattle.conservative_laws.specs.Validity.{Valid, Zip, zip-map, zip-left, Follows, stays, moves, follows-ticket, follows-start, follows-begins, Moved, CameOut, idle, joins, leaves, outcome, call-valid}
+use Rattle.conservative_laws.specs.Validity.{Valid, Zip, zip-map, zip-left, Follows, stays, moves, follows-ticket, follows-start}
+use Rattle.conservative_laws.specs.Validity.{follows-begins, Moved, CameOut, idle, joins, leaves, outcome, call-valid}
 
 -- the job u waits, and is planned to start by b
 pub record OnCourse (m : Model) (u b : ℕ) : Type 0 where
@@ -135,18 +136,21 @@ follows-waits : (now : ℕ) (j k : Job) → Follows now j k → isWaiting j ≡ 
 follows-waits now j k (stays e) w r = true-false (isWaiting j) w e
 follows-waits now j k (moves s e a b) w r = case (eqb s now) (λ q. true-false true refl (rw q at r)) (λ q. rw q)
 
-leaves-keeps : (m : Model) (c : ℕ) (s : Select) (ks : List Job) (u b : ℕ) → Valid m → Leaving m c s → Moved (m .settings) c (staying s (m .jobs)) ks → OnCourse m u b
+leaves-keeps : (m : Model) (c : ℕ) (s : Select) (ks : List Job) (u b : ℕ) → Valid m → Leaving m c s → Moved (m .settings) c (staying s (m .jobs)) ks
+    → OnCourse m u b
     → StartsBy u b (advanced m c s ks)
 unfolding advanced
 leaves-keeps m c s ks u b v l g o =
-    let z = zip-left (Told (Follows c) (begun js ks)) js ks (leaves-told m c s ks v g) (in-keep (λ (j : Job). not (picks s j)) (o .inside) (ap not (waits-stays m c s l (o .job) (o .waits)))) in
+    let z = zip-left (Told (Follows c) (begun js ks)) js ks (leaves-told m c s ks v g)
+    (in-keep (λ (j : Job). not (picks s j)) (o .inside) (ap not (waits-stays m c s l (o .job) (o .waits)))) in
     go (z .0) (z .1) (z .2 .0) (z .2 .1)
   where
     js : List Job
     js = staying s (m .jobs)
 
     go : (k : Job) → In k ks → Follows c (o .job) k → elem (o .job .ticket) (begun js ks) ≡ (isWaiting (o .job) && isRunning k)
-        → ((elem u (begun js ks) ≡ true) × (c ≤ b)) ⊎ ((elem u (begun js ks) ≡ false) × OnCourse (record { settings = m .settings; clock = c; next = m .next; jobs = ks }) u b)
+        → ((elem u (begun js ks) ≡ true) × (c ≤ b))
+        ⊎ ((elem u (begun js ks) ≡ false) × OnCourse (record { settings = m .settings; clock = c; next = m .next; jobs = ks }) u b)
     go k i f e =
         let e′ : elem u (begun js ks) ≡ isRunning k = rw (o .is-u, o .waits) at e in
         case (isRunning k)

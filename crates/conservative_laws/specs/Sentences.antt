@@ -35,10 +35,12 @@ use Rattle.jobs.specs.Soundness.{SoundJob}
 use Rattle.history.specs.Calls.{Call, submit, complete, tick, unchanged}
 use Rattle.history.specs.News.{newsOf}
 use Rattle.history.specs.Tickets.{nextAfter}
-use Rattle.conservative_rules.specs.Conservative.{span, spans, planned, newJob, withNew, points, maxPoints, submitRefusal, submitted, begun, advanced, moved, completed, turned, ticked, profileRefusal, call}
+use Rattle.conservative_rules.specs.Conservative.{span, spans, planned, newJob, withNew, points, maxPoints, submitRefusal, submitted, begun}
+use Rattle.conservative_rules.specs.Conservative.{advanced, moved, completed, turned, ticked, profileRefusal, call}
 use Rattle.conservative_rules.specs.Computed.{startOf, promiseOf}
 use Rattle.jobs.specs.Judgement.{judged-by, judged-refusal, judged-refused}
-use Rattle.conservative_laws.specs.Validity.{Valid, zip-left, Follows, follows-ticket, follows-start, follows-promise, CameOut, idle, joins, leaves, outcome, call-valid}
+use Rattle.conservative_laws.specs.Validity.{Valid, zip-left, Follows, follows-ticket, follows-start, follows-promise, CameOut, idle}
+use Rattle.conservative_laws.specs.Validity.{joins, leaves, outcome, call-valid}
 use Rattle.conservative_laws.specs.Obligations.{runs-waits, waits-stays}
 use Rattle.conservative_laws.specs.PassLoop.{loop, pass-as-loop}
 
@@ -82,12 +84,14 @@ free-as-written m t v l = omega (arith, used-as-written (m .settings) (m .clock)
 -- ## Submission
 
 -- "The planned start is the smallest minute, now or later, such that the stack's nodes are free in every minute of its held time."
-pub planned-is : (m : Model) (n e : ℕ) → n ≤ m .settings .nodes → Earliest (free (m .settings .nodes) (spans (m .settings) (m .jobs))) (m .clock) n (holdTime (m .settings) e) (planned m n e)
+pub planned-is : (m : Model) (n e : ℕ) → n ≤ m .settings .nodes
+    → Earliest (free (m .settings .nodes) (spans (m .settings) (m .jobs))) (m .clock) n (holdTime (m .settings) e) (planned m n e)
 unfolding planned
 planned-is m n e l = earliest-is (m .settings .nodes) (spans (m .settings) (m .jobs)) (m .clock) n (holdTime (m .settings) e) l
 
 -- the same of the free nodes as document 01 writes them
-pub planned-as-written : (m : Model) (n e : ℕ) → Valid m → n ≤ m .settings .nodes → Earliest (freeNodes m) (m .clock) n (holdTime (m .settings) e) (planned m n e)
+pub planned-as-written : (m : Model) (n e : ℕ) → Valid m → n ≤ m .settings .nodes
+    → Earliest (freeNodes m) (m .clock) n (holdTime (m .settings) e) (planned m n e)
 planned-as-written m n e v l =
     let E = planned-is m n e l in
     record {
@@ -160,7 +164,8 @@ pub record Placed (S : Settings) (now : ℕ) (others : List Job) (j k : Job) : T
     promise = j .promise;
   }
 
-pub moved-waiting : (S : Settings) (now : ℕ) (others : List Job) (j : Job) → isWaiting j ≡ true → j .nodes ≤ S .nodes → Placed S now others j (moved S now others j)
+pub moved-waiting : (S : Settings) (now : ℕ) (others : List Job) (j : Job) → isWaiting j ≡ true → j .nodes ≤ S .nodes
+    → Placed S now others j (moved S now others j)
 moved-waiting S now others j w l =
     rw w (record { smallest = earliest-is (S .nodes) (spans S others) now (j .nodes) (holdTime S (j .estimate)) l; job-is = refl })
 
@@ -224,7 +229,8 @@ pub record Ticked (m : Model) (r : Result) : Type 0 where
   pub clock-is : r .model .clock ≡ suc (m .clock)
   pub ended-is : r .reply .ended ≡ ticketsOf (keep (overAt (m .settings) (suc (m .clock))) (m .jobs))
   pub started-is : r .reply .started ≡ ticketsOf (keep (startsAt (suc (m .clock))) (m .jobs))
-  pub jobs-are : r .model .jobs ≡ map (λ (j : Job). cond (startsAt (suc (m .clock)) j) (withState Running j) j) (keep (λ (j : Job). not (overAt (m .settings) (suc (m .clock)) j)) (m .jobs))
+  pub jobs-are : r .model .jobs ≡ map (λ (j : Job). cond (startsAt (suc (m .clock)) j) (withState Running j) j)
+      (keep (λ (j : Job). not (overAt (m .settings) (suc (m .clock)) j)) (m .jobs))
 
 pub tick-taken : (m : Model) → accepts (call m tick .reply .refusal) ≡ true → Ticked m (call m tick)
 unfolding call ticked advanced
@@ -253,12 +259,14 @@ pub record Still (j k : Job) : Type 0 where
   pub start : k .start ≤ j .start
   pub promise : k .promise ≡ j .promise
 
-outcome-still : (m : Model) {c : Call} {r : Result} (j : Job) → CameOut m c r → In j (m .jobs) → isWaiting j ≡ true → (k : Job) × In k (r .model .jobs) × Still j k
+outcome-still : (m : Model) {c : Call} {r : Result} (j : Job) → CameOut m c r → In j (m .jobs) → isWaiting j ≡ true
+    → (k : Job) × In k (r .model .jobs) × Still j k
 unfolding submitted advanced
 outcome-still m j (idle c r n) i w = (j, i, record { ticket = refl; start = omega arith; promise = refl })
 outcome-still m j (joins n e f l) i w = (j, in-left _ i, record { ticket = refl; start = omega arith; promise = refl })
 outcome-still m j (leaves c clock s after l g p q) i w =
-    let z = zip-left (Follows clock) (staying s (m .jobs)) after (g .follow) (in-keep (λ (j : Job). not (picks s j)) i (ap not (waits-stays m clock s l j w))) in
+    let z = zip-left (Follows clock) (staying s (m .jobs)) after (g .follow)
+    (in-keep (λ (j : Job). not (picks s j)) i (ap not (waits-stays m clock s l j w))) in
     let k = z .0 in
     (k, z .1, record { ticket = follows-ticket clock j k (z .2); start = follows-start clock j k (z .2); promise = follows-promise clock j k (z .2) })
 
@@ -389,7 +397,8 @@ few-points m n e s l =
       length-append (m .jobs) (newJob m n e s ∷ []),
     )
 
-pub eight-never : (m : Model) (n e s : ℕ) → submitRefusal m n e s ≡ verdict (submitTests m n e ((ltb (horizon (m .settings)) (s + holdTime (m .settings) e), refusal.PastHorizon) ∷ []))
+pub eight-never : (m : Model) (n e s : ℕ) → submitRefusal m n e s ≡ verdict
+    (submitTests m n e ((ltb (horizon (m .settings)) (s + holdTime (m .settings) e), refusal.PastHorizon) ∷ []))
 unfolding submitRefusal verdict
 eight-never m n e s =
     case (leb limit.slots (length (m .jobs)))

@@ -37,7 +37,8 @@ use Rattle.jobs.specs.Judgement.{judged-by}
 use Rattle.jobs.specs.Soundness.{SoundJob, Sound, Fit, opening-sound, passed, submit-fit, sound-join, Leaving, early, in-time, sound-leave}
 use Rattle.history.specs.Calls.{Call, submit, complete, tick, unchanged}
 use Rattle.history.specs.News.{newsOf, clockAfter, nothing, refused-news, unchanged-news}
-use Rattle.conservative_rules.specs.Conservative.{span, spans, planned, stateAt, newJob, withNew, submitRefusal, submitted, placed, advanced, moved, pass, completed, turned, ticked, call}
+use Rattle.conservative_rules.specs.Conservative.{span, spans, planned, stateAt, newJob, withNew, submitRefusal, submitted, placed}
+use Rattle.conservative_rules.specs.Conservative.{advanced, moved, pass, completed, turned, ticked, call}
 
 pub record Valid (m : Model) : Type 0 where
   pub kind : m .settings .kind ≡ Conservative
@@ -339,11 +340,13 @@ opening-valid o k =
     (λ e. rw e (empty-valid (o .kind) (o .nodes) (o .minute) (o .ticket) k (rw e at (opening-sound o))))
     (λ e. rw e (empty-valid (o .kind) 1 0 1 k (rw e at (opening-sound o))))
 
-joins-valid : (m : Model) (n e : ℕ) → Valid m → Fit m n e → planned m n e + holdTime (m .settings) e ≤ horizon (m .settings) → Valid (withNew m n e (planned m n e))
+joins-valid : (m : Model) (n e : ℕ) → Valid m → Fit m n e → planned m n e + holdTime (m .settings) e ≤ horizon (m .settings)
+    → Valid (withNew m n e (planned m n e))
 unfolding planned
 joins-valid m n e v f l = record {
   kind = v .kind;
-  sound = sound-join m n e j (v .sound) f one refl (omega (arith, held-used S now (m .jobs ++ (j ∷ [])) each, sum-append held (m .jobs) (j ∷ []), room now (omega arith)));
+  sound = sound-join m n e j (v .sound) f one refl
+      (omega (arith, held-used S now (m .jobs ++ (j ∷ [])) each, sum-append held (m .jobs) (j ∷ []), room now (omega arith)));
   room = room;
   promised = λ k i. by-place (λ (x : Job). x .start ≤ x .promise) (v .promised) (omega arith) k i;
   ahead = λ k i. by-place (λ (x : Job). isWaiting x ≡ true → now < x .start) (v .ahead) (λ w. state-waits now s (E .later) w) k i;
@@ -365,7 +368,11 @@ joins-valid m n e v f l = record {
     E = earliest-is (S .nodes) (spans S (m .jobs)) now n (holdTime S e) (f .nodes-to)
 
     room : (t : ℕ) → now ≤ t → used t (spans S (m .jobs ++ (j ∷ []))) ≤ S .nodes
-    room t a = omega (arith, used-append S t (m .jobs) (j ∷ []), room-with (S .nodes) (spans S (m .jobs)) (span S j) now n (holdTime S e) s refl refl refl E (v .room) t a)
+    room t a = omega (
+      arith,
+      used-append S t (m .jobs) (j ∷ []),
+      room-with (S .nodes) (spans S (m .jobs)) (span S j) now n (holdTime S e) s refl refl refl E (v .room) t a,
+    )
 
     one : SoundJob S now j
     one = record {
@@ -411,7 +418,12 @@ leaves-valid m c s ks v l g = record {
   room = g .room;
   promised = λ k i.
       let b = beside k i in
-      omega (arith, v .promised (b .0) (keep-in (λ (j : Job). not (picks s j)) (m .jobs) (b .1) .0), follows-start c (b .0) k (b .2), follows-promise c (b .0) k (b .2));
+      omega (
+        arith,
+        v .promised (b .0) (keep-in (λ (j : Job). not (picks s j)) (m .jobs) (b .1) .0),
+        follows-start c (b .0) k (b .2),
+        follows-promise c (b .0) k (b .2),
+      );
   ahead = λ k i w. let b = beside k i in follows-ahead c (b .0) k (b .2) w;
 }
   where

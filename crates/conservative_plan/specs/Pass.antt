@@ -73,10 +73,12 @@ pub record Passing (S : Settings) (now : ℕ) (js₀ js : List Job) (i n : ℕ) 
   pub table : Table (free (S .nodes) (spans S js)) now n ms fs
   pub most : n ≤ 129 + 4 * i
 
-pub pass-begins : {d : Scheduler} {n : ℕ} {ms fs : List ℕ} → Slots (view d .settings) (d .clock) (d .jobs) → Tabulated d n ms fs → Passing (view d .settings) (d .clock) (d .jobs) (d .jobs) 0 n ms fs
+pub pass-begins : {d : Scheduler} {n : ℕ} {ms fs : List ℕ} → Slots (view d .settings) (d .clock) (d .jobs) → Tabulated d n ms fs
+    → Passing (view d .settings) (d .clock) (d .jobs) (d .jobs) 0 n ms fs
 pass-begins s t = record { low = omega arith; fits = s; same = refl; rest = refl; table = t .table; most = omega (arith, t .most) }
 
-module _ {S : Settings} {now : ℕ} {js₀ js : List Job} {i n : ℕ} {ms fs : List ℕ} (b : Before S now js₀) (v : Passing S now js₀ js i n ms fs) (l : i < slots) where
+module _ {S : Settings} {now : ℕ} {js₀ js : List Job} {i n : ℕ} {ms fs : List ℕ} (b : Before S now js₀) (v : Passing S now js₀ js i n ms fs)
+    (l : i < slots) where
   abbrev j : Job
   j = getD js i unused
 
@@ -130,7 +132,8 @@ module _ {S : Settings} {now : ℕ} {js₀ js : List Job} {i n : ℕ} {ms fs : L
   unfolding loop
   loop-turn = rw more at (v .rest)
 
-  pub turn-taken : (w : isWaiting j ≡ true) (r : Replanned) {ms′ fs′ : List ℕ} → ((q : Replans ms fs n j now) → TurnDone q r ms′ fs′) → Passing S now js₀ (set js i (r .job)) (i + 1) (r .count) ms′ fs′
+  pub turn-taken : (w : isWaiting j ≡ true) (r : Replanned) {ms′ fs′ : List ℕ} → ((q : Replans ms fs n j now) → TurnDone q r ms′ fs′)
+      → Passing S now js₀ (set js i (r .job)) (i + 1) (r .count) ms′ fs′
   unfolding replans
   turn-taken w r {ms′} {fs′} f =
       let q = replans w in
@@ -159,7 +162,8 @@ module _ {S : Settings} {now : ℕ} {js₀ js : List Job} {i n : ℕ} {ms fs : L
       }
 
 -- all turns are over
-pub pass-ends : {S : Settings} {now : ℕ} {js₀ js : List Job} {i n : ℕ} {ms fs : List ℕ} → Before S now js₀ → Passing S now js₀ js i n ms fs → slots ≤ i → js ≡ pass S now [] js₀
+pub pass-ends : {S : Settings} {now : ℕ} {js₀ js : List Job} {i n : ℕ} {ms fs : List ℕ} → Before S now js₀ → Passing S now js₀ js i n ms fs
+    → slots ≤ i → js ≡ pass S now [] js₀
 unfolding loop
 pass-ends {S} {now} {js₀} {js} {i} b v h =
     let none : slots - i ≡ 0 = omega arith in
@@ -185,14 +189,24 @@ unfolding pass
 pass-length S now done [] = refl
 pass-length S now done (j ∷ js) = ap suc (pass-length S now (moved S now (done ++ js) j ∷ done) js)
 
-pass-append : (S : Settings) (now k : ℕ) (done js : List Job) → All (λ (j : Job). j .nodes ≤ S .nodes) js → pass S now done (js ++ replicate k unused) ≡ pass S now done js ++ replicate k unused
+pass-append : (S : Settings) (now k : ℕ) (done js : List Job) → All (λ (j : Job). j .nodes ≤ S .nodes) js
+    → pass S now done (js ++ replicate k unused) ≡ pass S now done js ++ replicate k unused
 unfolding pass
 pass-append S now k done [] a = pass-same S now k done
 pass-append S now k done (j ∷ js) a =
-    let same : moved S now (done ++ (js ++ replicate k unused)) j ≡ moved S now (done ++ js) j = moved-same S now (done ++ (js ++ replicate k unused)) (done ++ js) j (a .0) (λ t l. omega (arith, used-append S t done (js ++ replicate k unused), used-append S t js (replicate k unused), used-append S t done js, used-none S t k)) in
+    let same : moved S now (done ++ (js ++ replicate k unused)) j ≡ moved S now (done ++ js) j =
+    moved-same S now (done ++ (js ++ replicate k unused)) (done ++ js) j (a .0)
+    (λ t l. omega (
+      arith,
+      used-append S t done (js ++ replicate k unused),
+      used-append S t js (replicate k unused),
+      used-append S t done js,
+      used-none S t k,
+    )) in
     rw same (ap (λ (l : List Job). moved S now (done ++ js) j ∷ l) (pass-append S now k (moved S now (done ++ js) j ∷ done) js (a .1)))
 
-pub pass-stored : (m : Model) → Replannable m → withJobs (store m) (pass (m .settings) (m .clock) [] (store m .jobs)) ≡ store (withModelJobs m (pass (m .settings) (m .clock) [] (m .jobs)))
+pub pass-stored : (m : Model) → Replannable m
+    → withJobs (store m) (pass (m .settings) (m .clock) [] (store m .jobs)) ≡ store (withModelJobs m (pass (m .settings) (m .clock) [] (m .jobs)))
 unfolding store pad
 pass-stored m r =
     let nodes = all-of (λ (j : Job). j .nodes ≤ m .settings .nodes) (m .jobs) (λ j i. r .planned .sound .each j i .nodes-to) in

@@ -71,8 +71,10 @@ planned-slots m p = record {
   nodes-to = p .sound .nodes-to;
   clock-to = p .sound .clock-to;
   all = length-pad slots unused (m .jobs) (p .sound .few);
-  ends = all-pad slots unused (λ (j : Job). until (m .settings) j ≤ horizon (m .settings)) (m .jobs) (omega arith) (all-of _ (m .jobs) (λ j i. p .sound .each j i .ends));
-  idle = all-pad slots unused (λ (j : Job). isLive j ≡ false → j .nodes ≡ 0) (m .jobs) (λ e. refl) (all-of _ (m .jobs) (λ j i e. true-false (isLive j) (p .sound .each j i .is-live) e));
+  ends = all-pad slots unused (λ (j : Job). until (m .settings) j ≤ horizon (m .settings)) (m .jobs) (omega arith)
+      (all-of _ (m .jobs) (λ j i. p .sound .each j i .ends));
+  idle = all-pad slots unused (λ (j : Job). isLive j ≡ false → j .nodes ≡ 0) (m .jobs) (λ e. refl)
+      (all-of _ (m .jobs) (λ j i e. true-false (isLive j) (p .sound .each j i .is-live) e));
   room = λ t l. omega (arith, used-slots (m .settings) t (m .jobs), p .room t l);
 }
 
@@ -92,7 +94,10 @@ pub record Laying (S : Settings) (now : ℕ) (js : List Job) (i n : ℕ) (ms fs 
   pub most : n ≤ 1 + 2 * i
 
 pub laying-begin : {S : Settings} {now : ℕ} {js : List Job} → Slots S now js → (ms fs : List ℕ) → Opened (S .nodes) now ms fs → Laying S now js 0 1 ms fs
-laying-begin {S} {now} s ms fs o = record { table = opened-table (free (S .nodes) []) (S .nodes) now ms fs o (s .clock-to) (λ t l. omega arith); most = omega arith }
+laying-begin {S} {now} s ms fs o = record {
+  table = opened-table (free (S .nodes) []) (S .nodes) now ms fs o (s .clock-to) (λ t l. omega arith);
+  most = omega arith;
+}
 
 module _ {S : Settings} {now : ℕ} {js : List Job} (s : Slots S now js) {i : ℕ} (low : i < slots) {n : ℕ} {ms fs : List ℕ} (v : Laying S now js i n ms fs) where
   abbrev j : Job
@@ -106,7 +111,12 @@ module _ {S : Settings} {now : ℕ} {js : List Job} (s : Slots S now js) {i : �
 
   -- one slot more
   used-more : (t : ℕ) → used t (spans S (take (i + 1) js)) ≡ takes t (span S j) + used t (spans S (take i js))
-  used-more t = rw (add-one, take-suc js i unused in₀, map-append (span S) (take i js) (j ∷ []), sum-append (takes t) (spans S (take i js)) (spans S (j ∷ []))) (omega arith)
+  used-more t = rw (
+    add-one,
+    take-suc js i unused in₀,
+    map-append (span S) (take i js) (j ∷ []),
+    sum-append (takes t) (spans S (take i js)) (spans S (j ∷ [])),
+  ) (omega arith)
 
   used-front : (t : ℕ) → used t (spans S (take (i + 1) js)) ≤ used t (spans S js)
   used-front t =
@@ -155,7 +165,8 @@ module _ {js : List Job} {i : ℕ} {hs : List ℕ} (h : HoldsTo js i hs) where
       go : (n : ℕ) → n < i + 1 → isLive (getD js n unused) ≡ true → (i ≤ n) ⊎ (n < i) → getD (set hs i w) n 0 ≡ wallTime (getD js n unused .estimate)
       go n a e (inl b) =
           let q : n ≡ i = omega arith in
-          ap (λ (k : ℕ). getD (set hs i w) k 0) q ∙ getD-set-same hs i w 0 (omega (arith, h .long)) ∙ ap (λ (k : ℕ). wallTime (getD js k unused .estimate)) (sym q)
+          ap (λ (k : ℕ). getD (set hs i w) k 0) q ∙ getD-set-same hs i w 0 (omega (arith, h .long))
+          ∙ ap (λ (k : ℕ). wallTime (getD js k unused .estimate)) (sym q)
       go n a e (inr b) = getD-set-other hs i n w 0 (λ q. omega arith) ∙ h .are n b e
 
   pub holds-skip : isLive (getD js i unused) ≡ false → HoldsTo js (i + 1) hs
@@ -182,7 +193,8 @@ pub record Tabulated (d : Scheduler) (n : ℕ) (ms fs : List ℕ) : Type 0 where
 
 pub laid-all : (d : Scheduler) {n : ℕ} {ms fs : List ℕ} → Holds Planned d → Laying (view d .settings) (d .clock) (d .jobs) slots n ms fs → Tabulated d n ms fs
 laid-all d {n} {ms} {fs} h v = record {
-  table = subst (λ (js : List Job). Table (free (view d .settings .nodes) (spans (view d .settings) js)) (d .clock) n ms fs) (take-all slots (d .jobs) (omega (arith, held-slots d h .all))) (v .table);
+  table = subst (λ (js : List Job). Table (free (view d .settings .nodes) (spans (view d .settings) js)) (d .clock) n ms fs)
+      (take-all slots (d .jobs) (omega (arith, held-slots d h .all))) (v .table);
   most = omega (arith, v .most);
 }
 
@@ -202,13 +214,20 @@ tabled d h t = record {
   fit = omega (arith, t .most);
 }
 
-pub tabled-points : (d : Scheduler) {n : ℕ} {ms fs : List ℕ} {p : Profile} → Holds Planned d → Tabulated d n ms fs → ((q : Tabled ms fs n) → p ≡ stored (profile (q .nodes) (q .spans) (q .now))) → p ≡ stored (points (view d))
+pub tabled-points : (d : Scheduler) {n : ℕ} {ms fs : List ℕ} {p : Profile} → Holds Planned d → Tabulated d n ms fs
+    → ((q : Tabled ms fs n) → p ≡ stored (profile (q .nodes) (q .spans) (q .now))) → p ≡ stored (points (view d))
 unfolding tabled view
 tabled-points d h t f =
     f (tabled d h t)
-    ∙ ap stored (profile-same (view d .settings .nodes) (spans (view d .settings) (d .jobs)) (spans (view d .settings) (view d .jobs)) (d .clock) (λ t l. used-held d h t))
+    ∙ ap stored (profile-same (view d .settings .nodes) (spans (view d .settings) (d .jobs)) (spans (view d .settings) (view d .jobs)) (d .clock)
+    (λ t l. used-held d h t))
 
 -- the profile fits its array
 pub points-fit : (d : Scheduler) → Holds Valid d → length (points (view d)) ≤ 129
 points-fit d h =
-    omega (arith, profile-length (view d .settings .nodes) (spans (view d .settings) (view d .jobs)) (view d .clock), h .holds .sound .few, length-map (view d .jobs) (span (view d .settings)))
+    omega (
+      arith,
+      profile-length (view d .settings .nodes) (spans (view d .settings) (view d .jobs)) (view d .clock),
+      h .holds .sound .few,
+      length-map (view d .jobs) (span (view d .settings)),
+    )

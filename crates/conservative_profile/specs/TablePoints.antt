@@ -137,10 +137,21 @@ module _ {ms fs : List ℕ} {n : ℕ} {points : List Point} {count last i : ℕ}
 
   pub putting-yes : (l : i < n) → differs count last (getD fs i 0) ≡ true → count < places
       → Putting ms fs n (set points count (pointAt ms fs i)) (count + 1) (getD fs i 0) (i + 1)
-  putting-yes l e r = record { to = omega arith; out = emit noPoint (k .out) (pointAt ms fs i); written = write-yes (k .written) (pointAt ms fs i) e r; done = λ q. done-more q l (k .done q) }
+  putting-yes l e r = record {
+    to = omega arith;
+    out = emit noPoint (k .out) (pointAt ms fs i);
+    written =
+        write-yes (k .written) (pointAt ms fs i) e r;
+    done = λ q. done-more q l (k .done q);
+  }
 
   pub putting-no : (l : i < n) → differs count last (getD fs i 0) ≡ false → Putting ms fs n points count last (i + 1)
-  putting-no l e = record { to = omega arith; out = emit noPoint (k .out) (pointAt ms fs i); written = write-no (k .written) (pointAt ms fs i) e; done = λ q. done-more q l (k .done q) }
+  putting-no l e = record {
+    to = omega arith;
+    out = emit noPoint (k .out) (pointAt ms fs i);
+    written = write-no (k .written) (pointAt ms fs i) e;
+    done = λ q. done-more q l (k .done q);
+  }
 
   pub putting-end : n ≤ i → (q : Tabled ms fs n) → record { count = count; points = points } ≡ stored (profile (q .nodes) (q .spans) (q .now))
   unfolding stored

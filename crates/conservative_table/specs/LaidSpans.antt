@@ -85,7 +85,8 @@ module _ {ms fs : List ℕ} {n : ℕ} {x : Span} {release : Bool} (l : Lays ms f
       out t a (inr u) = takes-before t x u
 
   -- its begin has got a place
-  module _ {from : ℕ} (from-is : from ≡ max (getD ms 0 0) (x .from)) (some : from < x .until) {a : Row} {ms₁ fs₁ : List ℕ} (s : Split ms fs n from a ms₁ fs₁) where
+  module _ {from : ℕ} (from-is : from ≡ max (getD ms 0 0) (x .from)) (some : from < x .until) {a : Row} {ms₁ fs₁ : List ℕ}
+      (s : Split ms fs n from a ms₁ fs₁) where
     pub lays-at : LaysAt ms₁ fs₁ a x release
     lays-at = record {
       f = l .f;
@@ -136,7 +137,8 @@ module _ {ms fs : List ℕ} {a : Row} {x : Span} {release : Bool} (l : LaysAt ms
       takes-early v w = takes-before t x (omega (arith, from-now, e (omega arith), table-rise table₂ (i + 1) (a .at) (omega arith) w, begins))
 
       takes-inside : a .at ≤ i → i < b .at → takes t x ≡ x .nodes
-      takes-inside v w = takes-in t x (omega (arith, table-rise table₂ (a .at) i v h, begins)) (omega (arith, e (omega (arith, u .inside)), table-rise table₂ (i + 1) (b .at) (omega arith) (u .inside), u .minute))
+      takes-inside v w = takes-in t x (omega (arith, table-rise table₂ (a .at) i v h, begins))
+          (omega (arith, e (omega (arith, u .inside)), table-rise table₂ (i + 1) (b .at) (omega arith) (u .inside), u .minute))
 
       takes-late : b .at ≤ i → takes t x ≡ 0
       takes-late v = takes-after t x (omega (arith, table-rise table₂ (b .at) i v h, u .minute))
@@ -181,9 +183,12 @@ module _ {ms fs : List ℕ} {a : Row} {x : Span} {release : Bool} (l : LaysAt ms
       kept = u .kept (l .f) (l .now) (l .table);
     }
       where
-        go : (i t : ℕ) → i < b .count → getD ms₂ i 0 ≤ t → (i + 1 < b .count → t < getD ms₂ (i + 1) 0) → (a .at ≤ i) ⊎ (i < a .at) → (b .at ≤ i) ⊎ (i < b .at) → l .g t ≡ getD fs₃ i 0
-        go i t h d e (inr v) z = none release (takes t x) (l .change t (from-now i t h d e)) (takes-early i t h d e v (omega (arith, order, u .inside))) ∙ old i t h d e ∙ sym (w .before i v)
-        go i t h d e (inl v) (inl z) = none release (takes t x) (l .change t (from-now i t h d e)) (takes-late i t h d e z) ∙ old i t h d e ∙ sym (w .after i v z)
+        go : (i t : ℕ) → i < b .count → getD ms₂ i 0 ≤ t → (i + 1 < b .count → t < getD ms₂ (i + 1) 0) → (a .at ≤ i) ⊎ (i < a .at)
+            → (b .at ≤ i) ⊎ (i < b .at) → l .g t ≡ getD fs₃ i 0
+        go i t h d e (inr v) z = none release (takes t x) (l .change t (from-now i t h d e))
+            (takes-early i t h d e v (omega (arith, order, u .inside))) ∙ old i t h d e ∙ sym (w .before i v)
+        go i t h d e (inl v) (inl z) = none release (takes t x) (l .change t (from-now i t h d e)) (takes-late i t h d e z) ∙ old i t h d e
+            ∙ sym (w .after i v z)
         go i t h d e (inl v) (inr z) =
             l .change t (from-now i t h d e)
             ∙ ap (λ (k : ℕ). changed release k (l .f t)) (takes-inside i t h d e v z)

@@ -28,7 +28,8 @@ pub record Opened (nodes now : ℕ) (ms fs : List ℕ) : Type 0 where
   pub minute : getD ms 0 0 ≡ now
   pub left : getD fs 0 0 ≡ nodes
 
-pub opened-table : (f : ℕ → ℕ) (nodes now : ℕ) (ms fs : List ℕ) → Opened nodes now ms fs → now ≤ horizon → ((t : ℕ) → now ≤ t → f t ≡ nodes) → Table f now 1 ms fs
+pub opened-table : (f : ℕ → ℕ) (nodes now : ℕ) (ms fs : List ℕ) → Opened nodes now ms fs → now ≤ horizon → ((t : ℕ) → now ≤ t → f t ≡ nodes)
+    → Table f now 1 ms fs
 opened-table f nodes now ms fs o h e = record {
   minutes-long = o .minutes-long;
   free-long = o .free-long;
@@ -36,7 +37,8 @@ opened-table f nodes now ms fs o h e = record {
   first = o .minute;
   low = λ i l. let z : i ≡ 0 = omega arith in omega (arith, o .minute, ap (λ (k : ℕ). getD ms k 0) z);
   rise = λ i l. absurd (omega arith);
-  value = λ i t l a b. let z : i ≡ 0 = omega arith in e t (omega (arith, o .minute, ap (λ (k : ℕ). getD ms k 0) z)) ∙ sym (o .left) ∙ ap (λ (k : ℕ). getD fs k 0) (sym z);
+  value = λ i t l a b. let z : i ≡ 0 = omega arith in e t (omega (arith, o .minute, ap (λ (k : ℕ). getD ms k 0) z)) ∙ sym (o .left)
+      ∙ ap (λ (k : ℕ). getD fs k 0) (sym z);
 }
 
 -- minutes rise over any stretch
@@ -116,14 +118,22 @@ module _ {ms fs : List ℕ} {n t k : ℕ} (p : Place ms n t k) where
                   omega (arith, ap (λ (m : ℕ). getD ms′ m 0) e, a .here, a .after i u (omega arith), ap (λ (m : ℕ). getD ms m 0) e, p .next (omega arith))
               up (inr w) =
                   let e : i - 1 + 1 ≡ i = omega arith in
-                  omega (arith, a .after (i - 1) (omega arith) (omega arith), ap (λ (m : ℕ). getD ms′ m 0) e, a .after i u (omega arith), q .rise (i - 1) (omega arith), ap (λ (m : ℕ). getD ms m 0) e)
+                  omega (
+                    arith,
+                    a .after (i - 1) (omega arith) (omega arith),
+                    ap (λ (m : ℕ). getD ms′ m 0) e,
+                    a .after i u (omega arith),
+                    q .rise (i - 1) (omega arith),
+                    ap (λ (m : ℕ). getD ms m 0) e,
+                  )
 
       value : (i r : ℕ) → i < n + 1 → getD ms′ i 0 ≤ r → (i + 1 < n + 1 → r < getD ms′ (i + 1) 0) → f r ≡ getD fs′ i 0
       value i r l u v = go (le-or k i) (le-or k (i + 1))
         where
           go : (k ≤ i) ⊎ (i < k) → (k ≤ i + 1) ⊎ (i + 1 < k) → f r ≡ getD fs′ i 0
           go w (inr z) =
-              q .value i r (omega (arith, p .low)) (omega (arith, a .before i (omega arith))) (λ h. omega (arith, a .before (i + 1) z, v (omega (arith, p .low))))
+              q .value i r (omega (arith, p .low)) (omega (arith, a .before i (omega arith)))
+              (λ h. omega (arith, a .before (i + 1) z, v (omega (arith, p .low))))
               ∙ sym (b .before i (omega arith))
           go (inr w) (inl z) =
               let e : i + 1 ≡ k = omega arith in
@@ -153,10 +163,20 @@ module _ {ms fs : List ℕ} {n t k : ℕ} (p : Place ms n t k) where
           go : (k ≤ i) ⊎ (i < k) → (i ≤ k) ⊎ (k < i) → getD ms′ i 0 ≤ horizon
           go (inr u) v = omega (arith, a .before i u, q .low i (omega (arith, p .low)))
           go (inl u) (inl v) = let e : i ≡ k = omega arith in omega (arith, ap (λ (m : ℕ). getD ms′ m 0) e, a .here)
-          go (inl u) (inr v) = let e : i - 1 + 1 ≡ i = omega arith in omega (arith, a .after (i - 1) (omega arith) (omega arith), ap (λ (m : ℕ). getD ms′ m 0) e, q .low (i - 1) (omega arith))
+          go (inl u) (inr v) = let e : i - 1 + 1 ≡ i = omega arith in
+              omega (arith, a .after (i - 1) (omega arith) (omega arith), ap (λ (m : ℕ). getD ms′ m 0) e, q .low (i - 1) (omega arith))
 
       table : t ≤ horizon → Table f now (n + 1) ms′ fs′
-      table h = record { minutes-long = a .long ∙ q .minutes-long; free-long = b .long ∙ q .free-long; some = omega arith; first = a .before 0 (omega (arith, p .some)) ∙ q .first; low = low h; rise = rise; value = value }
+      table h = record {
+        minutes-long = a .long ∙ q .minutes-long;
+        free-long = b .long ∙ q .free-long;
+        some = omega arith;
+        first =
+            a .before 0 (omega (arith, p .some)) ∙ q .first;
+        low = low h;
+        rise = rise;
+        value = value;
+      }
 
       kept : (j : ℕ) → j < n → getD ms j 0 ≤ t → getD ms′ j 0 ≡ getD ms j 0
       kept j l u = go (le-or k j)

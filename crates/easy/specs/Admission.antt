@@ -77,6 +77,7 @@ module _ (d : Scheduler) (s : Submission) (h : Holds Valid d) where
       fits = submit-fit m (s .nodes) (s .estimate) ((ltb horizon (latestEnd m (s .estimate)), refusal.PastHorizon) ∷ []) (rw w at k) .0
 
       pub admitted : (low : ℕ) → low ≡ length (m .jobs)
-          → record { refusal = why; ticket = d .next; ended = noTickets; scheduler = withNext (withJobs d (set (d .jobs) low job)) (d .next + 1) } ≡ part (own m (request.Submit s))
+          → record { refusal = why; ticket = d .next; ended = noTickets; scheduler = withNext (withJobs d (set (d .jobs) low job)) (d .next + 1) } ≡
+          part (own m (request.Submit s))
       unfolding view
       admitted low e = rw (← w, k, enters d low e (h .stored) (fits .room) job, accepts-none why k)

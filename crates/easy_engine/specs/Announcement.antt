@@ -44,10 +44,12 @@ module _ (b m : Model) where
     forecast-by = rw (e, head-is-by (head b) h l)
 
     pub forecast-same : ticketIn (head b) ≡ h .ticket → forecast b m ≡ none
-    forecast-same q = forecast-by ∙ ap (λ (t : Bool). cond t none (some (record { ticket = h .ticket; minute = shadow m (h .nodes) }))) (eq-eqb (ticketIn (head b)) (h .ticket) q)
+    forecast-same q = forecast-by ∙ ap (λ (t : Bool). cond t none (some (record { ticket = h .ticket; minute = shadow m (h .nodes) })))
+        (eq-eqb (ticketIn (head b)) (h .ticket) q)
 
     pub forecast-new : (ticketIn (head b) ≡ h .ticket → ⊥) → forecast b m ≡ some (record { ticket = h .ticket; minute = shadow m (h .nodes) })
-    forecast-new q = forecast-by ∙ ap (λ (t : Bool). cond t none (some (record { ticket = h .ticket; minute = shadow m (h .nodes) }))) (ne-eqb (ticketIn (head b)) (h .ticket) q)
+    forecast-new q = forecast-by ∙ ap (λ (t : Bool). cond t none (some (record { ticket = h .ticket; minute = shadow m (h .nodes) })))
+        (ne-eqb (ticketIn (head b)) (h .ticket) q)
 
 -- the head is a job of the model
 pub head-in : (m : Model) (h : Job) → head m ≡ some h → In h (m .jobs)
@@ -83,7 +85,8 @@ module _ (d : Scheduler) (h : Holds Ready d) {spare before : ℕ} (f : spare ≡
       (none-start (view d) (queue (view d .jobs)) (keep-all isWaiting (queue (view d .jobs)) (λ j i. keep-in isWaiting (view d .jobs) i .1)) (h .holds .sound)
       (ap (λ (n : ℕ). first (asksTo n) (queue (view d .jobs))) (sym f) ∙ r .none-fits))
 
-  pub quiet-answers : (ticket : ℕ) (order places : List ℕ) → before ≡ headBefore ticket (head (view d)) → Answers d places ticket order (record { started = 0; head = 0; forecast = 0 })
+  pub quiet-answers : (ticket : ℕ) (order places : List ℕ) → before ≡ headBefore ticket (head (view d))
+      → Answers d places ticket order (record { started = 0; head = 0; forecast = 0 })
   quiet-answers ticket order places e = record {
     applies = record {
       asc = h .holds .sound .asc;

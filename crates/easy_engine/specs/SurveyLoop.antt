@@ -27,7 +27,8 @@ use Rattle.jobs.specs.Slots.{slots-are}
 use Rattle.easy_rules.specs.Easy.{queue, free}
 use Rattle.easy_laws.specs.Settling.{idle}
 use Rattle.easy_laws.specs.Validity.{Ready}
-use Rattle.easy_engine.specs.Survey.{Column, Blank, nodesOf, startOf, estimateOf, endOf, asks, running, WaitingColumns, Surveyed, SlotColumn, Passed, StartsInTime}
+use Rattle.easy_engine.specs.Survey.{Column, Blank, nodesOf, startOf, estimateOf, endOf, asks, running, WaitingColumns, Surveyed}
+use Rattle.easy_engine.specs.Survey.{SlotColumn, Passed, StartsInTime}
 use Rattle.easy_engine.specs.Columns.{column-push}
 
 -- a list of zeros
@@ -69,7 +70,8 @@ module _ {d : Scheduler} {r w spare : ℕ} {heldₗ starts terms asked estimates
 
   -- it waits
   module _ (e : isWaiting x ≡ true) where
-    pub waits-next : Passed d (take (i + 1) xs) r (w + 1) spare heldₗ starts terms (set asked w (x .nodes)) (set estimates w (x .estimate)) (set tickets w (x .ticket)) (set places w i)
+    pub waits-next : Passed d (take (i + 1) xs) r (w + 1) spare heldₗ starts terms (set asked w (x .nodes)) (set estimates w (x .estimate))
+        (set tickets w (x .ticket)) (set places w i)
     waits-next =
         let q : queue (take (i + 1) xs) ≡ queue (take i xs) ++ (x ∷ []) = keep-take-yes unused isWaiting xs i inside e in
         let k : running (take (i + 1) xs) ≡ running (take i xs) = keep-take-no unused isRunning xs i inside (idle x e) in
@@ -82,9 +84,12 @@ module _ {d : Scheduler} {r w spare : ℕ} {heldₗ starts terms asked estimates
           terms-are = subst (λ (js : List Job). Column estimateOf js terms) (sym k) (v .terms-are);
           spare-is = omega (arith, v .spare-is, sum-first held xs i inside);
           waiting-is = ap length q ∙ length-append (queue (take i xs)) (x ∷ []) ∙ ap (λ (n : ℕ). n + 1) (v .waiting-is);
-          asked-is = subst (λ (js : List Job). Column nodesOf js (set asked w (x .nodes))) (sym q) (column-push nodesOf (queue (take i xs)) asked (v .asked-is) x w (x .nodes) (v .waiting-is) w′ refl);
-          estimates-are = subst (λ (js : List Job). Column estimateOf js (set estimates w (x .estimate))) (sym q) (column-push estimateOf (queue (take i xs)) estimates (v .estimates-are) x w (x .estimate) (v .waiting-is) w′ refl);
-          tickets-are = subst (λ (js : List Job). Column ticketOf js (set tickets w (x .ticket))) (sym q) (column-push ticketOf (queue (take i xs)) tickets (v .tickets-are) x w (x .ticket) (v .waiting-is) w′ refl);
+          asked-is = subst (λ (js : List Job). Column nodesOf js (set asked w (x .nodes))) (sym q)
+              (column-push nodesOf (queue (take i xs)) asked (v .asked-is) x w (x .nodes) (v .waiting-is) w′ refl);
+          estimates-are = subst (λ (js : List Job). Column estimateOf js (set estimates w (x .estimate))) (sym q)
+              (column-push estimateOf (queue (take i xs)) estimates (v .estimates-are) x w (x .estimate) (v .waiting-is) w′ refl);
+          tickets-are = subst (λ (js : List Job). Column ticketOf js (set tickets w (x .ticket))) (sym q)
+              (column-push ticketOf (queue (take i xs)) tickets (v .tickets-are) x w (x .ticket) (v .waiting-is) w′ refl);
           slots-are = subst (λ (js : List Job). SlotColumn xs js (set places w i)) (sym q) (more (v .slots-are));
         }
       where
@@ -115,7 +120,8 @@ module _ {d : Scheduler} {r w spare : ℕ} {heldₗ starts terms asked estimates
         let a : nodesHeld xs ≡ nodesHeld (view d .jobs) = ap nodesHeld (slots-are d h) ∙ nodesHeld-stored (view d) in
         omega (arith, v .spare-is, sum-first held xs i inside, sum-within held xs (i + 1), h .holds .capacity)
 
-    pub runs-next : Passed d (take (i + 1) xs) (r + 1) w (spare - x .nodes) (set heldₗ r (x .nodes)) (set starts r (x .start)) (set terms r (x .estimate)) asked estimates tickets places
+    pub runs-next : Passed d (take (i + 1) xs) (r + 1) w (spare - x .nodes) (set heldₗ r (x .nodes)) (set starts r (x .start))
+        (set terms r (x .estimate)) asked estimates tickets places
     runs-next =
         let k : running (take (i + 1) xs) ≡ running (take i xs) ++ (x ∷ []) = keep-take-yes unused isRunning xs i inside e in
         let q : queue (take (i + 1) xs) ≡ queue (take i xs) = keep-take-no unused isWaiting xs i inside f in
@@ -123,9 +129,12 @@ module _ {d : Scheduler} {r w spare : ℕ} {heldₗ starts terms asked estimates
         let r′ = few-so-far .0 in
         record {
           running-is = ap length k ∙ length-append (running (take i xs)) (x ∷ []) ∙ ap (λ (n : ℕ). n + 1) (v .running-is);
-          held-is = subst (λ (js : List Job). Column nodesOf js (set heldₗ r (x .nodes))) (sym k) (column-push nodesOf (running (take i xs)) heldₗ (v .held-is) x r (x .nodes) (v .running-is) r′ refl);
-          starts-are = subst (λ (js : List Job). Column startOf js (set starts r (x .start))) (sym k) (column-push startOf (running (take i xs)) starts (v .starts-are) x r (x .start) (v .running-is) r′ refl);
-          terms-are = subst (λ (js : List Job). Column estimateOf js (set terms r (x .estimate))) (sym k) (column-push estimateOf (running (take i xs)) terms (v .terms-are) x r (x .estimate) (v .running-is) r′ refl);
+          held-is = subst (λ (js : List Job). Column nodesOf js (set heldₗ r (x .nodes))) (sym k)
+              (column-push nodesOf (running (take i xs)) heldₗ (v .held-is) x r (x .nodes) (v .running-is) r′ refl);
+          starts-are = subst (λ (js : List Job). Column startOf js (set starts r (x .start))) (sym k)
+              (column-push startOf (running (take i xs)) starts (v .starts-are) x r (x .start) (v .running-is) r′ refl);
+          terms-are = subst (λ (js : List Job). Column estimateOf js (set terms r (x .estimate))) (sym k)
+              (column-push estimateOf (running (take i xs)) terms (v .terms-are) x r (x .estimate) (v .running-is) r′ refl);
           spare-is = omega (arith, v .spare-is, sum-first held xs i inside, room-for);
           waiting-is = ap length q ∙ v .waiting-is;
           asked-is = subst (λ (js : List Job). Column nodesOf js asked) (sym q) (v .asked-is);

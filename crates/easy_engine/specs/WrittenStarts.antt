@@ -71,7 +71,8 @@ ticket-still ts m i =
 pub begins-first : {d : Scheduler} {ts started : List ℕ} → d ≡ store (view d) → Blank started → Begins d ts d started 0
 begins-first s b = record { scheduler-is = s; started-is = b }
 
-module _ {d : Scheduler} {ts order places : List ℕ} {count : ℕ} (a : Applies d ts order places count) (e : Scheduler) (started : List ℕ) (k : ℕ) (b : Begins d ts e started k) where
+module _ {d : Scheduler} {ts order places : List ℕ} {count : ℕ} (a : Applies d ts order places count) (e : Scheduler) (started : List ℕ) (k : ℕ)
+    (b : Begins d ts e started k) where
   -- all are
   pub begins-done : count ≤ k → (e ≡ store (begins ts (view d))) × (started ≡ pad slots 0 ts)
   begins-done l =
@@ -107,7 +108,8 @@ module _ {d : Scheduler} {ts order places : List ℕ} {count : ℕ} (a : Applies
     unfolding store
     clock-is = ap (λ (x : Scheduler). x .clock) (a .stored) ∙ sym (begins-clock (take k ts) (view d))
 
-    pub begins-next : Begins d ts (withJobs e (set (e .jobs) at (begun (d .clock) (getD (e .jobs) at unused)))) (set started k (getD (e .jobs) at unused .ticket)) (k + 1)
+    pub begins-next : Begins d ts (withJobs e (set (e .jobs) at (begun (d .clock) (getD (e .jobs) at unused))))
+        (set started k (getD (e .jobs) at unused .ticket)) (k + 1)
     begins-next = record {
       scheduler-is =
           ap (λ (x : Job). withJobs e (set (e .jobs) at (begun (d .clock) x))) job-is
@@ -167,11 +169,13 @@ module _ (d : Scheduler) (h : Holds Ready d) where
 
     pub slot-ticket : getD js (getD places i 0) unused .ticket ≡ getD (ticketsOf (queue js)) i 0
     slot-ticket =
-        ap ticketOf (sym (job-stored (view d) (getD places i 0) unused slot-low) ∙ ap (λ (xs : List Job). getD xs (getD places i 0) unused) (sym (slots-are d sound)) ∙ slot-job)
+        ap ticketOf (sym (job-stored (view d) (getD places i 0) unused slot-low)
+        ∙ ap (λ (xs : List Job). getD xs (getD places i 0) unused) (sym (slots-are d sound)) ∙ slot-job)
         ∙ sym (List·getD-map ticketOf (queue js) i unused)
 
   -- what a settling of the survey asks to be written
-  module _ {r w spare : ℕ} {heldₗ starts terms asked estimates tickets places : List ℕ} (v : Passed d js r w spare heldₗ starts terms asked estimates tickets places)
+  module _ {r w spare : ℕ} {heldₗ starts terms asked estimates tickets places : List ℕ}
+      (v : Passed d js r w spare heldₗ starts terms asked estimates tickets places)
       {clock : ℕ} {order : List ℕ} {s : Settled} {held′ ends′ asked′ order′ : List ℕ}
       (p : Settlement (view d) (queue js) estimates r w clock 0 order s held′ ends′ asked′ order′) (o : length order ≡ slots) where
     pub few : length (p .places) ≤ slots
@@ -188,7 +192,8 @@ module _ (d : Scheduler) (h : Holds Ready d) where
     pub number : length (p .places) ≡ s .count
     number = omega (arith, p .count-is)
 
-    pub ticket-of : (ks : List ℕ) (k : ℕ) → k < length ks → getD (ticketsOf (queue js)) (getD ks k 0) 0 ≡ getD (map (λ (i : ℕ). getD (ticketsOf (queue js)) i 0) ks) k 0
+    pub ticket-of : (ks : List ℕ) (k : ℕ) → k < length ks
+        → getD (ticketsOf (queue js)) (getD ks k 0) 0 ≡ getD (map (λ (i : ℕ). getD (ticketsOf (queue js)) i 0) ks) k 0
     ticket-of [] k l = absurd (omega arith)
     ticket-of (i ∷ ks) zero l = refl
     ticket-of (i ∷ ks) (suc k) l = ticket-of ks k (omega arith)

@@ -13,7 +13,8 @@ use lib.Dec.{leb, ltb, eqb}
 use lib.ListN.{length}
 use borrow.Author.Tests.{leb-true, leb-false, lt-ltb, le-ltb, eqb-true, ne-eqb}
 use Rattle.lists.specs.Tests.{case, true-false, on, on-le, both, either}
-use Rattle.lists.specs.Lists.{keep, first, elem, sum, In, here, in-nil, in-cons, in-map, in-left, in-right, keep-in, in-keep, first-in, keep-append, keep-cong, keep-keep, sum-append, sum-keep, sum-le, sum-zero, length-keep}
+use Rattle.lists.specs.Lists.{keep, first, elem, sum, In, here, in-nil, in-cons, in-map, in-left, in-right, keep-in, in-keep, first-in}
+use Rattle.lists.specs.Lists.{keep-append, keep-cong, keep-keep, sum-append, sum-keep, sum-le, sum-zero, length-keep}
 use Rattle.scheduler.specs.declared.Job.{Job}
 use Rattle.scheduler.specs.declared.Select.{Select}
 use Rattle.scheduler.specs.Jobs.{isWaiting, isRunning, held, picks}
@@ -23,7 +24,8 @@ use Rattle.scheduler.specs.Model.{Model, joined, without}
 use Rattle.jobs.specs.Order.{Asc, asc-in, asc-keep}
 use Rattle.jobs.specs.Soundness.{Sound, Leaving, leaving-runs, leaving-clock}
 use Rattle.easy_rules.specs.Easy.{queue, free, freed, avail, shadow, extra, qualifies, pick, choice, mark, begin, newJob, rank}
-use Rattle.easy_laws.specs.Settling.{shadow-from, shadow-to, shadow-min, shadow-holds, avail-now, none-starts, How, as-head, passing, Chosen, chosen, each-begin, Settles, rest, start, idle, mark-same, sum-mark, queue-mark}
+use Rattle.easy_laws.specs.Settling.{shadow-from, shadow-to, shadow-min, shadow-holds, avail-now, none-starts, How, as-head, passing}
+use Rattle.easy_laws.specs.Settling.{Chosen, chosen, each-begin, Settles, rest, start, idle, mark-same, sum-mark, queue-mark}
 
 -- the job with ticket u waits
 pub record Waits (m : Model) (u : ℕ) : Type 0 where
@@ -96,7 +98,12 @@ module _ (m : Model) (h : Job) (later : List Job) (e : queue (m .jobs) ≡ h ∷
       one : (j : Job) → In j (m .jobs) → before (h .ticket) j ≡ 0
       one j i =
           case (isWaiting j)
-          (λ w. rw (w, le-ltb (j .ticket) (h .ticket) (⊎-elim (λ (z : j ≡ h). omega (arith, ap ticketOf z)) (λ (k : In j later). omega (arith, head-lowest a j k)) (in-cons (subst (λ (q : List Job). In j q) e (in-keep isWaiting i w))))))
+          (λ w. rw (
+            w,
+            le-ltb (j .ticket) (h .ticket)
+                (⊎-elim (λ (z : j ≡ h). omega (arith, ap ticketOf z)) (λ (k : In j later). omega (arith, head-lowest a j k))
+                (in-cons (subst (λ (q : List Job). In j q) e (in-keep isWaiting i w)))),
+          ))
           (λ w. rw w)
 
   -- the head is on course for its shadow
@@ -116,7 +123,13 @@ module _ (m : Model) (h : Job) (later : List Job) (e : queue (m .jobs) ≡ h ∷
   pub rest-shadow : Sound m → choice m ≡ none → m .clock < shadow m (h .nodes)
   rest-shadow s r =
       case (leb (shadow m (h .nodes)) (m .clock))
-      (λ l. absurd (omega (arith, shadow-holds m (h .nodes) s (s .each h (head-in .0) .nodes-to), avail-now m (shadow m (h .nodes)) s (leb-true (shadow m (h .nodes)) (m .clock) l), head-lacks r)))
+      (λ l. absurd
+      (omega (
+        arith,
+        shadow-holds m (h .nodes) s (s .each h (head-in .0) .nodes-to),
+        avail-now m (shadow m (h .nodes)) s (leb-true (shadow m (h .nodes)) (m .clock) l),
+        head-lacks r,
+      )))
       (λ l. leb-false (shadow m (h .nodes)) (m .clock) l)
 
 -- A job on course has time: b is not past, and at rest it is yet to come.
@@ -134,7 +147,8 @@ module _ (m : Model) (u b : ℕ) (o : OnCourse m u b) where
 -- ## A start keeps it
 
 module _ (m : Model) (j : Job) (s : Sound m) (c : Chosen m j) where
-  avail-begin : (t : ℕ) → avail (begin (j .ticket) m) t ≡ free m - j .nodes + (sum (freed (m .settings) t) (m .jobs) + on (leb (m .clock + holdTime (m .settings) (j .estimate)) t) (j .nodes))
+  avail-begin : (t : ℕ) → avail (begin (j .ticket) m) t ≡ free m - j .nodes +
+      (sum (freed (m .settings) t) (m .jobs) + on (leb (m .clock + holdTime (m .settings) (j .estimate)) t) (j .nodes))
   avail-begin t =
       let a = sum-mark held (m .clock) 1 (m .jobs) (s .asc) (c .isin) in
       let b = sum-mark (freed (m .settings) t) (m .clock) 1 (m .jobs) (s .asc) (c .isin) in
@@ -160,7 +174,8 @@ module _ (m : Model) (j : Job) (s : Sound m) (c : Chosen m j) where
         let w = o .waits in
         record {
           job = w .job;
-          isin = subst (λ (k : Job). In k (begin (j .ticket) m .jobs)) (mark-same (m .clock) (j .ticket) (w .job) (λ e. n (sym e ∙ w .named))) (in-map (mark (m .clock) (j .ticket)) (w .isin));
+          isin = subst (λ (k : Job). In k (begin (j .ticket) m .jobs)) (mark-same (m .clock) (j .ticket) (w .job) (λ e. n (sym e ∙ w .named)))
+              (in-map (mark (m .clock) (j .ticket)) (w .isin));
           waits = w .waits;
           named = w .named;
         }
@@ -177,14 +192,21 @@ module _ (m : Model) (j : Job) (s : Sound m) (c : Chosen m j) where
 
     -- a later job passes: the head stays head, and its shadow comes no later
     by-passing : (h : Job) (later : List Job) → queue (m .jobs) ≡ h ∷ later → In j later → qualifies m h j ≡ true
-        → (k : Job) (q : List Job) → queue (begin (j .ticket) m .jobs) ≡ k ∷ q → shadow (begin (j .ticket) m) (k .nodes) + ahead u (begin (j .ticket) m .jobs) * unit (m .settings) ≤ b
+        → (k : Job) (q : List Job) → queue (begin (j .ticket) m .jobs) ≡ k ∷ q
+        → shadow (begin (j .ticket) m) (k .nodes) + ahead u (begin (j .ticket) m .jobs) * unit (m .settings) ≤ b
     by-passing h later e i f k q e′ =
         let d : eqb (h .ticket) (j .ticket) ≡ false = ne-eqb (h .ticket) (j .ticket) (λ z. omega (arith, head-lowest m h later e (s .asc) j i)) in
-        let p : h ∷ keep (λ (x : Job). not (eqb (x .ticket) (j .ticket))) later ≡ k ∷ q = sym (rw (e, d) at (queue-mark (m .clock) (j .ticket) (m .jobs))) ∙ e′ in
+        let p : h ∷ keep (λ (x : Job). not (eqb (x .ticket) (j .ticket))) later ≡ k ∷ q =
+        sym (rw (e, d) at (queue-mark (m .clock) (j .ticket) (m .jobs))) ∙ e′ in
         let z : h ≡ k = cc in
         let a = sum-mark (before u) (m .clock) 1 (m .jobs) (s .asc) (c .isin) in
-        let r = shadow-min (begin (j .ticket) m) (h .nodes) (shadow m (h .nodes)) (passing-holds h (s .each h (head-in m h later e .0) .nodes-to) f) (shadow-from m (h .nodes)) in
-        rw (← z) (omega (arith, mul-le-mul-right {m = ahead u (begin (j .ticket) m .jobs)} {n = ahead u (m .jobs)} (unit (m .settings)) (omega arith), o .by h later e))
+        let r = shadow-min (begin (j .ticket) m) (h .nodes) (shadow m (h .nodes)) (passing-holds h (s .each h (head-in m h later e .0) .nodes-to) f)
+        (shadow-from m (h .nodes)) in
+        rw (← z) (omega (
+          arith,
+          mul-le-mul-right {m = ahead u (begin (j .ticket) m .jobs)} {n = ahead u (m .jobs)} (unit (m .settings)) (omega arith),
+          o .by h later e,
+        ))
 
     pub begin-keeps : OnCourse (begin (j .ticket) m) u b
     begin-keeps = record { waits = waits-begin; by = go (queue (m .jobs)) refl (c .way) }
@@ -220,7 +242,12 @@ eased m m′ u b s r x o =
           (omega (arith, x .nodes (shadow m n), shadow-holds m n s (s .each (h .job) (head-in m (h .job) (h .later) (h .first) .0) .nodes-to)))
           (omega (arith, x .soon, rest-shadow m (h .job) (h .later) (h .first) s r)) in
           let f = x .fewer u (omega (arith, s .below (w .job) (w .isin), w .named)) in
-          rw (← z) (omega (arith, ap (λ (S : Settings). ahead u (m′ .jobs) * unit S) (x .settings), mul-le-mul-right {m = ahead u (m′ .jobs)} {n = ahead u (m .jobs)} (unit (m .settings)) f, o .by (h .job) (h .later) (h .first)));
+          rw (← z) (omega (
+            arith,
+            ap (λ (S : Settings). ahead u (m′ .jobs) * unit S) (x .settings),
+            mul-le-mul-right {m = ahead u (m′ .jobs)} {n = ahead u (m .jobs)} (unit (m .settings)) f,
+            o .by (h .job) (h .later) (h .first),
+          ));
     }
 
 -- running jobs leave
@@ -267,7 +294,8 @@ module _ (m : Model) (n e : ℕ) where
     last = newJob (m .next) n e ∷ [];
     queued = keep-append isWaiting (m .jobs) (newJob (m .next) n e ∷ []);
     nodes = λ t. omega (arith, sum-append held (m .jobs) (newJob (m .next) n e ∷ []), sum-append (freed (m .settings) t) (m .jobs) (newJob (m .next) n e ∷ []));
-    fewer = λ u l. let z : before u (newJob (m .next) n e) ≡ 0 = rw (le-ltb (m .next) u (omega arith)) in omega (arith, sum-append (before u) (m .jobs) (newJob (m .next) n e ∷ []));
+    fewer = λ u l. let z : before u (newJob (m .next) n e) ≡ 0 = rw (le-ltb (m .next) u (omega arith)) in
+        omega (arith, sum-append (before u) (m .jobs) (newJob (m .next) n e ∷ []));
     stay = λ j i w. in-left (newJob (m .next) n e ∷ []) i;
   }
 
@@ -280,7 +308,12 @@ module _ (m : Model) (n e : ℕ) where
         let a = sum-append (before (m .next)) (m .jobs) (newJob (m .next) n e ∷ []) in
         let d = sum-le (before (m .next)) (λ (j : Job). on (isWaiting j) 1) (m .jobs) (λ j i. less j) in
         let f : ahead (m .next) (joined m (newJob (m .next) n e) .jobs) ≤ length (queue (m .jobs)) = omega (arith, length-keep isWaiting (m .jobs)) in
-        omega (arith, mul-le-mul-right {m = ahead (m .next) (joined m (newJob (m .next) n e) .jobs)} {n = length (queue (m .jobs))} (unit (m .settings)) f, shadow-to (joined m (newJob (m .next) n e)) (h .nodes));
+        omega (
+          arith,
+          mul-le-mul-right {m = ahead (m .next) (joined m (newJob (m .next) n e) .jobs)} {n = length (queue (m .jobs))}
+              (unit (m .settings)) f,
+          shadow-to (joined m (newJob (m .next) n e)) (h .nodes),
+        );
   }
     where
       less : (j : Job) → before (m .next) j ≤ on (isWaiting j) 1

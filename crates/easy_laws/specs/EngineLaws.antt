@@ -105,10 +105,16 @@ pub shadow-by-ends : (m : Model) (n t : ℕ) → Sound m → n ≤ m .settings .
     → ((j : Job) → In j (m .jobs) → isRunning j ≡ true → until (m .settings) j < t → avail m (until (m .settings) j) < n) → t ≡ shadow m n
 shadow-by-ends m n t s l f c e h = shadow-is m n t s l c e (λ k a b. by k a b (latest-is (m .settings) k (m .clock) (m .jobs)))
   where
-    by : (k : ℕ) → m .clock ≤ k → k < t → (latest (m .settings) k (m .clock) (m .jobs) ≤ m .clock) ⊎ EndsAt (m .settings) (latest (m .settings) k (m .clock) (m .jobs)) (m .jobs) → avail m k < n
+    by : (k : ℕ) → m .clock ≤ k → k < t → (latest (m .settings) k (m .clock) (m .jobs) ≤ m .clock)
+        ⊎ EndsAt (m .settings) (latest (m .settings) k (m .clock) (m .jobs)) (m .jobs) → avail m k < n
     by k a b (inl p) = omega (arith, avail-latest m k (m .clock) a, avail-now m (latest (m .settings) k (m .clock) (m .jobs)) s p)
     by k a b (inr p) =
-        omega (arith, h (p .job) (p .isin) (p .runs) (omega (arith, latest-by (m .settings) k (m .clock) (m .jobs) a, p .ends)), ap (avail m) (p .ends), avail-latest m k (m .clock) a)
+        omega (
+          arith,
+          h (p .job) (p .isin) (p .runs) (omega (arith, latest-by (m .settings) k (m .clock) (m .jobs) a, p .ends)),
+          ap (avail m) (p .ends),
+          avail-latest m k (m .clock) a,
+        )
 
 -- The search: from a unit after now, go over the jobs and keep the earliest end at which the nodes suffice.
 abbrev pub sooner : Model → ℕ → ℕ → Job → ℕ
@@ -125,7 +131,12 @@ module _ (m : Model) (n : ℕ) where
   sooner-by : (best : ℕ) (j : Job) → sooner m n best j ≤ best
   sooner-by best j =
       case (test best j)
-      (λ e. rw e (omega (arith, ltb-true (until (m .settings) j) best (both (isRunning j) (ltb (until (m .settings) j) best) (both (isRunning j && ltb (until (m .settings) j) best) (leb n (avail m (until (m .settings) j))) e .0) .1))))
+      (λ e. rw e (omega (
+        arith,
+        ltb-true (until (m .settings) j) best
+            (both (isRunning j) (ltb (until (m .settings) j) best)
+            (both (isRunning j && ltb (until (m .settings) j) best) (leb n (avail m (until (m .settings) j))) e .0) .1),
+      )))
       (λ e. rw e (omega arith))
 
   earliest-by : (best : ℕ) (js : List Job) → earliest m n best js ≤ best
@@ -142,7 +153,8 @@ module _ (m : Model) (n : ℕ) where
       by : (best ≤ until (m .settings) j) ⊎ (until (m .settings) j < best) → earliest m n (sooner m n best x) xs ≤ until (m .settings) j
       by (inl k) = omega (arith, earliest-by (sooner m n best x) xs, sooner-by best x)
       by (inr k) =
-          let e : sooner m n best x ≡ until (m .settings) j = rw (← z, r, lt-ltb (until (m .settings) j) best k, le-leb n (avail m (until (m .settings) j)) l) in
+          let e : sooner m n best x ≡ until (m .settings) j =
+          rw (← z, r, lt-ltb (until (m .settings) j) best k, le-leb n (avail m (until (m .settings) j)) l) in
           omega (arith, earliest-by (sooner m n best x) xs)
   earliest-min best (there {x = x} i) r l = earliest-min (sooner m n best x) i r l
 
@@ -212,10 +224,15 @@ module _ (m : Model) where
 
 -- ## A start is one store
 
-mark-set : (now lo : ℕ) (js : List Job) (i : ℕ) (z : Job) → Asc lo js → i < length js → map (mark now (getD js i z .ticket)) js ≡ set js i (begun now (getD js i z))
+mark-set : (now lo : ℕ) (js : List Job) (i : ℕ) (z : Job) → Asc lo js → i < length js
+    → map (mark now (getD js i z .ticket)) js ≡ set js i (begun now (getD js i z))
 mark-set now lo [] i z a h = absurd (omega arith)
 mark-set now lo (x ∷ xs) zero z a h =
-    rw (mark-begun now (x .ticket) x refl, map-same (mark now (x .ticket)) xs (λ k i. mark-same now (x .ticket) k (λ e. omega (arith, asc-in (suc (x .ticket)) xs (a .1) i))))
+    rw (
+      mark-begun now (x .ticket) x refl,
+      map-same (mark now (x .ticket)) xs
+          (λ k i. mark-same now (x .ticket) k (λ e. omega (arith, asc-in (suc (x .ticket)) xs (a .1) i))),
+    )
 mark-set now lo (x ∷ xs) (suc i) z a h =
     let l = asc-in (suc (x .ticket)) xs (a .1) (in-getD xs i z (omega arith)) in
     rw (mark-same now (getD xs i z .ticket) x (λ e. omega arith), mark-set now (suc (x .ticket)) xs i z (a .1) (omega arith))
@@ -228,7 +245,8 @@ module _ (m : Model) (i : ℕ) (z : Job) (h : i < length (m .jobs)) where
   unfolding store pad
   job-stored = List·getD-append (m .jobs) (replicate (limit.slots - length (m .jobs)) unused) z i h
 
-  pub begin-stored : Asc 1 (m .jobs) → withJobs (store m) (set (store m .jobs) i (begun (m .clock) (getD (m .jobs) i z))) ≡ store (begin (getD (m .jobs) i z .ticket) m)
+  pub begin-stored : Asc 1 (m .jobs) → withJobs (store m) (set (store m .jobs) i (begun (m .clock) (getD (m .jobs) i z))) ≡ store
+      (begin (getD (m .jobs) i z .ticket) m)
   begin-stored a = put-stored m i (begun (m .clock) (getD (m .jobs) i z)) h ∙ ap store (sym (begin-set a))
 
 -- ## Settling, without its fuel

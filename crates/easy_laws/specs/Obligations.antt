@@ -27,12 +27,14 @@ use Rattle.jobs.specs.Soundness.{Sound, Leaving, early, in-time, leaving-runs, 
 use Rattle.history.specs.Calls.{Call}
 use Rattle.history.specs.News.{Newcomer, News, newsOf, clockAfter}
 use Rattle.history.specs.Book.{waiting}
-use Rattle.history_proof.specs.Obligations.{JobShown, shown, fateBy, isLive, remark, shownAfter, newly, comers, Tells, boundAt, lowestWaiting, by, Kept, For, Lawful}
+use Rattle.history_proof.specs.Obligations.{JobShown, shown, fateBy, isLive, remark, shownAfter, newly, comers, Tells, boundAt}
+use Rattle.history_proof.specs.Obligations.{lowestWaiting, by, Kept, For, Lawful}
 use Rattle.history_proof.specs.Departures.{lives, none-leaves, ends-lives, remark-same, tells-by, tells-leave, tells-nothing, kept-by}
 use Rattle.easy_rules.specs.Easy.{queue, head, shadow, headIs, forecast, newJob, call}
 use Rattle.easy_laws.specs.Settling.{marks, settles-clock, settles-settings, settles-jobs}
 use Rattle.easy_laws.specs.Course.{OnCourse, Head, head-in, head-lowest, head-course, course-rest, settles-waited, eased, join-course}
-use Rattle.easy_laws.specs.Validity.{Valid, OwnPart, submits, completes, ticks, moved-ready, moved-eases, settles-keeps, joiner, CallAccepted, taken-came, Unchanged, quiet-news, called, call-valid}
+use Rattle.easy_laws.specs.Validity.{Valid, OwnPart, submits, completes, ticks, moved-ready, moved-eases, settles-keeps, joiner}
+use Rattle.easy_laws.specs.Validity.{CallAccepted, taken-came, Unchanged, quiet-news, called, call-valid}
 
 -- ## The clock and the settings
 
@@ -247,7 +249,8 @@ easy-lawful = record {
       (λ (q : Unchanged m c (call m c)). quiet-comes m c (call m c) v q o i);
   forecasts = λ m c f v e. either m c v
       (λ (t : CallAccepted m c (call m c)). forecast-kept m c (call m c) v f t (call-valid m c v) e)
-      (λ (q : Unchanged m c (call m c)). absurd (let x : none ≡ some f = ap (λ (o : Result). o .reply .head) (sym (q .same)) ∙ e in let z : _≡_ {A = ℕ} 0 1 = cc in omega arith));
+      (λ (q : Unchanged m c (call m c)). absurd (let x : none ≡ some f = ap (λ (o : Result). o .reply .head) (sym (q .same)) ∙ e in
+      let z : _≡_ {A = ℕ} 0 1 = cc in omega arith));
   hears = λ k m c h v e n. either m c v
       (λ (t : CallAccepted m c (call m c)). head-hears m c (call m c) v h t (call-valid m c v) e n)
       (λ (q : Unchanged m c (call m c)). absurd (n (ap (λ (o : Result). lowestWaiting (o .model)) (sym (q .same)) ∙ e)));

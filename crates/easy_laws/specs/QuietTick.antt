@@ -65,7 +65,8 @@ module _ (m : Model) (v : Valid m) (l : suc (m .clock) ≤ horizon (m .settings)
     shadow-stays =
         let s = v .ready .sound in
         let n = s .each h (head-in m h rest q .0) .nodes-to in
-        shadow-is (later m) (h .nodes) (shadow m (h .nodes)) later-sound n (rest-shadow m h rest q s (v .rests)) (shadow-holds m (h .nodes) s n) (λ k a b. lacks k (omega arith) b)
+        shadow-is (later m) (h .nodes) (shadow m (h .nodes)) later-sound n (rest-shadow m h rest q s (v .rests)) (shadow-holds m (h .nodes) s n)
+        (λ k a b. lacks k (omega arith) b)
       where
         lacks : (k : ℕ) → m .clock ≤ k → k < shadow m (h .nodes) → avail m k < h .nodes
         lacks k a b =
@@ -86,7 +87,8 @@ module _ (m : Model) (v : Valid m) (l : suc (m .clock) ≤ horizon (m .settings)
             let p = both (leb (j .nodes) (free m)) _ (rw (← shadow-stays) at t) in
             rw (p .0)
             (⊎-elim
-            (λ (i : one (suc (m .clock)) ≡ true). rw (le-leb (m .clock + holdTime (m .settings) (j .estimate)) (shadow m (h .nodes)) (omega (arith, leb-true _ (shadow m (h .nodes)) i))))
+            (λ (i : one (suc (m .clock)) ≡ true). rw (le-leb (m .clock + holdTime (m .settings) (j .estimate)) (shadow m (h .nodes))
+            (omega (arith, leb-true _ (shadow m (h .nodes)) i))))
             (λ i. case (one (m .clock)) (λ y. rw y) (λ y. rw y i))
             (either (one (suc (m .clock))) _ (p .1)))
 

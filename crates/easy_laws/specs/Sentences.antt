@@ -32,10 +32,14 @@ use Rattle.jobs.specs.Soundness.{Sound, Fit}
 use Rattle.history.specs.Calls.{Call, submit, complete, tick, unchanged}
 use Rattle.history.specs.News.{Newcomer, News, newsOf}
 use Rattle.history.specs.Tickets.{nextAfter}
-use Rattle.easy_rules.specs.Easy.{queue, head, free, avail, shadow, extra, qualifies, pick, choice, begin, Settling, onChoice, settled, headIs, forecast, finished, newJob, submitRefusal, advanced, call}
-use Rattle.easy_laws.specs.Settling.{shadow-from, shadow-min, shadow-holds, none-starts, How, how, Chosen, chosen, sum-mark, queue-mark, one-fewer, asc-begin, each-begin, idle, marks, Settles, rest, start, settles, settles-jobs, settles-next}
+use Rattle.easy_rules.specs.Easy.{queue, head, free, avail, shadow, extra, qualifies, pick, choice, begin, Settling, onChoice, settled}
+use Rattle.easy_rules.specs.Easy.{headIs, forecast, finished, newJob, submitRefusal, advanced, call}
+use Rattle.easy_laws.specs.Settling.{shadow-from, shadow-min, shadow-holds, none-starts, How, how, Chosen, chosen, sum-mark}
+use Rattle.easy_laws.specs.Settling.{queue-mark, one-fewer, asc-begin, each-begin, idle, marks, Settles, rest, start, settles}
+use Rattle.easy_laws.specs.Settling.{settles-jobs, settles-next}
 use Rattle.easy_laws.specs.Course.{Waits, head-lowest, settles-waited}
-use Rattle.easy_laws.specs.Validity.{Valid, latestEnd, OwnPart, submits, completes, ticks, joiner, CallAccepted, taken-came, Unchanged, quiet-news, called, call-valid}
+use Rattle.easy_laws.specs.Validity.{Valid, latestEnd, OwnPart, submits, completes, ticks, joiner, CallAccepted, taken-came}
+use Rattle.easy_laws.specs.Validity.{Unchanged, quiet-news, called, call-valid}
 
 -- ## The shadow
 
@@ -114,12 +118,14 @@ bySteps m =
 fits-pick : (m : Model) (q : List Job) (j : Job) → headFits m q ≡ some j → pick m q ≡ some j
 unfolding pick
 fits-pick m [] j e = e
-fits-pick m (h ∷ later) j e = case (leb (h .nodes) (free m)) (λ l. rw l (rw l at e)) (λ l. absurd (let w : none ≡ some j = rw l at e in let z : _≡_ {A = ℕ} 0 1 = cc in omega arith))
+fits-pick m (h ∷ later) j e = case (leb (h .nodes) (free m)) (λ l. rw l (rw l at e))
+    (λ l. absurd (let w : none ≡ some j = rw l at e in let z : _≡_ {A = ℕ} 0 1 = cc in omega arith))
 
 later-pick : (m : Model) (q : List Job) → headFits m q ≡ none → pick m q ≡ laterOne m q
 unfolding pick
 later-pick m [] e = refl
-later-pick m (h ∷ later) e = case (leb (h .nodes) (free m)) (λ l. absurd (let w : some h ≡ none = rw l at e in let z : _≡_ {A = ℕ} 0 1 = cc in omega arith)) (λ l. rw l)
+later-pick m (h ∷ later) e = case (leb (h .nodes) (free m))
+    (λ l. absurd (let w : some h ≡ none = rw l at e in let z : _≡_ {A = ℕ} 0 1 = cc in omega arith)) (λ l. rw l)
 
 -- a job passed forward leaves the head without its nodes
 still-lacks : (m : Model) (j : Job) → Asc 1 (m .jobs) → headFits m (queue (m .jobs)) ≡ none → laterOne m (queue (m .jobs)) ≡ some j
@@ -137,7 +143,8 @@ still-lacks m j a e f = by (queue (m .jobs)) refl (later-pick m (queue (m .jobs)
         rw (queue-mark (m .clock) (j .ticket) (m .jobs), x, d, lt-leb (h .nodes) (free (begin (j .ticket) m)) (omega arith))
       where
         lacks : headFits m (h ∷ later) ≡ none → free m < h .nodes
-        lacks y = case (leb (h .nodes) (free m)) (λ k. absurd (let w : some h ≡ none = rw k at y in let z : _≡_ {A = ℕ} 0 1 = cc in omega arith)) (λ k. leb-false (h .nodes) (free m) k)
+        lacks y = case (leb (h .nodes) (free m)) (λ k. absurd (let w : some h ≡ none = rw k at y in let z : _≡_ {A = ℕ} 0 1 = cc in omega arith))
+            (λ k. leb-false (h .nodes) (free m) k)
 
 nobody : (m : Model) (f : Model → List Job → Option Job) → f m [] ≡ none → length (queue (m .jobs)) ≤ 0 → f m (queue (m .jobs)) ≡ none
 nobody m f e l = by (queue (m .jobs)) l
@@ -155,7 +162,8 @@ three-settles (suc n) m a e l =
     (λ j f c. three-settles n (begin (j .ticket) m) (asc-begin (j .ticket) m a) (still-lacks m j a e f) (omega (arith, one-fewer m j a c)))
   where
     by : (o : Option Job) → laterOne m (queue (m .jobs)) ≡ o
-        → ((j : Job) → laterOne m (queue (m .jobs)) ≡ some j → Chosen m j → Settles (begin (j .ticket) m) (repeat laterOne n (begin (j .ticket) m) .model) (repeat laterOne n (begin (j .ticket) m) .started))
+        → ((j : Job) → laterOne m (queue (m .jobs)) ≡ some j → Chosen m j
+        → Settles (begin (j .ticket) m) (repeat laterOne n (begin (j .ticket) m) .model) (repeat laterOne n (begin (j .ticket) m) .started))
         → Settles m (repeat laterOne (suc n) m .model) (repeat laterOne (suc n) m .started)
     by none f g = rw (f, repeat) (rest (later-pick m (queue (m .jobs)) e ∙ f))
     by (some j) f g = let c = later-pick m (queue (m .jobs)) e ∙ f in rw (f, repeat) (start j c (g j f (chosen m j c)))
@@ -168,10 +176,12 @@ steps-settle : (n : ℕ) (m : Model) → Asc 1 (m .jobs) → length (queue (m .j
     → Settles m (then (repeat headFits n m) .model) (then (repeat headFits n m) .started)
 unfolding repeat
 steps-settle zero m a l = three-settles (length (queue (m .jobs))) m a (nobody m headFits refl l) (omega arith)
-steps-settle (suc n) m a l = by (headFits m (queue (m .jobs))) refl (λ j c. steps-settle n (begin (j .ticket) m) (asc-begin (j .ticket) m a) (omega (arith, one-fewer m j a c)))
+steps-settle (suc n) m a l = by (headFits m (queue (m .jobs))) refl
+    (λ j c. steps-settle n (begin (j .ticket) m) (asc-begin (j .ticket) m a) (omega (arith, one-fewer m j a c)))
   where
     by : (o : Option Job) → headFits m (queue (m .jobs)) ≡ o
-        → ((j : Job) → Chosen m j → Settles (begin (j .ticket) m) (then (repeat headFits n (begin (j .ticket) m)) .model) (then (repeat headFits n (begin (j .ticket) m)) .started))
+        → ((j : Job) → Chosen m j → Settles (begin (j .ticket) m) (then (repeat headFits n (begin (j .ticket) m)) .model)
+        (then (repeat headFits n (begin (j .ticket) m)) .started))
         → Settles m (then (repeat headFits (suc n) m) .model) (then (repeat headFits (suc n) m) .started)
     by none f g = rw (f, repeat) (three-settles (length (queue (m .jobs))) m a f (omega arith))
     by (some j) f g = let c = fits-pick m (queue (m .jobs)) j f in rw (f, repeat) (start j c (g j (chosen m j c)))
@@ -185,7 +195,8 @@ settles-same (rest {m = m} e) t = by t e
     by (start j f s) e = absurd (let z : _≡_ {A = ℕ} 0 1 = cc in omega arith)
 settles-same {a = a} (start {m = m} {ts = ts} j e s) t = by t e (λ b us u. settles-same s u)
   where
-    by : {n b : Model} {us : List ℕ} → Settles n b us → choice n ≡ some j → ((b : Model) (us : List ℕ) → Settles (begin (j .ticket) n) b us → (a ≡ b) × (ts ≡ us))
+    by : {n b : Model} {us : List ℕ} → Settles n b us → choice n ≡ some j
+        → ((b : Model) (us : List ℕ) → Settles (begin (j .ticket) n) b us → (a ≡ b) × (ts ≡ us))
         → (a ≡ b) × (j .ticket ∷ ts ≡ us)
     by (rest f) e g = absurd (let z : _≡_ {A = ℕ} 0 1 = cc in omega arith)
     by (start {m = n} {m′ = b} {ts = us} k f s) e g =
@@ -262,13 +273,18 @@ submit-because m n e =
     rw b (case (leb (slots (m .settings)) (length (m .jobs))) (λ c. rw c (leb-true (slots (m .settings)) (length (m .jobs)) c)) (λ c.
     rw c (case (ltb lastTicket (m .next)) (λ d. rw d (ltb-true lastTicket (m .next) d)) (λ d.
     rw d (case (ltb (horizon (m .settings)) (latestEnd m e)) (λ f. rw f (ltb-true (horizon (m .settings)) (latestEnd m e) f)) (λ f.
-    rw f (fit (inside 1 (m .settings .nodes) n a) (inside 1 (longest (m .settings)) e b) (leb-false (slots (m .settings)) (length (m .jobs)) c) (ltb-false lastTicket (m .next) d), ltb-false (horizon (m .settings)) (latestEnd m e) f))))))))))
+    rw f (
+      fit (inside 1 (m .settings .nodes) n a) (inside 1 (longest (m .settings)) e b) (leb-false (slots (m .settings)) (length (m .jobs)) c)
+          (ltb-false lastTicket (m .next) d),
+      ltb-false (horizon (m .settings)) (latestEnd m e) f,
+    ))))))))))
   where
     fit : (1 ≤ n) × (n ≤ m .settings .nodes) → (1 ≤ e) × (e ≤ longest (m .settings)) → length (m .jobs) < slots (m .settings) → m .next ≤ lastTicket → Fit m n e
     fit a b c d = record { nodes-from = a .0; nodes-to = a .1; estimate-from = b .0; estimate-to = b .1; room = c; ticket-left = d }
 
     beyond : (low high x : ℕ) → outside low high x ≡ true → (x < low) ⊎ (high < x)
-    beyond low high x q = ⊎-elim (λ (z : ltb x low ≡ true). inl (ltb-true x low z)) (λ (z : ltb high x ≡ true). inr (ltb-true high x z)) (either (ltb x low) (ltb high x) q)
+    beyond low high x q = ⊎-elim (λ (z : ltb x low ≡ true). inl (ltb-true x low z)) (λ (z : ltb high x ≡ true). inr (ltb-true high x z))
+        (either (ltb x low) (ltb high x) q)
 
     inside : (low high x : ℕ) → outside low high x ≡ false → (low ≤ x) × (x ≤ high)
     inside low high x q = let r = neither (ltb x low) (ltb high x) q in (ltb-false x low (r .0), ltb-false high x (r .1))
@@ -336,9 +352,12 @@ finished-forecasts m mid t ts = forecasts m (settled mid .model)
 -- Of every call, refused ones too.
 pub call-forecasts : (m : Model) (c : Call) → Announces m (call m c)
 unfolding call advanced
-call-forecasts m (submit n e) = judged-by (Announces m) m (submitRefusal m n e) (finished m (joined m (newJob (m .next) n e)) (m .next) []) (λ a. finished-forecasts m _ _ _) (λ a. same-heads m)
-call-forecasts m (complete t) = judged-by (Announces m) m (completeRefusal m t) (advanced m (m .clock) (select.RunningTicket t)) (λ a. finished-forecasts m _ _ _) (λ a. same-heads m)
-call-forecasts m tick = judged-by (Announces m) m (tickRefusal m) (advanced m (suc (m .clock)) (select.EndingAt (suc (m .clock)))) (λ a. finished-forecasts m _ _ _) (λ a. same-heads m)
+call-forecasts m (submit n e) = judged-by (Announces m) m (submitRefusal m n e) (finished m (joined m (newJob (m .next) n e)) (m .next) [])
+    (λ a. finished-forecasts m _ _ _) (λ a. same-heads m)
+call-forecasts m (complete t) = judged-by (Announces m) m (completeRefusal m t) (advanced m (m .clock) (select.RunningTicket t))
+    (λ a. finished-forecasts m _ _ _) (λ a. same-heads m)
+call-forecasts m tick = judged-by (Announces m) m (tickRefusal m) (advanced m (suc (m .clock)) (select.EndingAt (suc (m .clock))))
+    (λ a. finished-forecasts m _ _ _) (λ a. same-heads m)
 call-forecasts m (unchanged r) = same-heads m
 
 -- ## Ends
@@ -368,7 +387,8 @@ complete-ends m t s a =
     none-after lo [] a l = refl
     none-after lo (j ∷ js) a l =
         let z : eqb (j .ticket) t ≡ false = ne-eqb (j .ticket) t (λ q. omega arith) in
-        case (isRunning j) (λ x. rw (x, z) (none-after (suc (j .ticket)) js (a .1) (omega arith))) (λ x. rw x (none-after (suc (j .ticket)) js (a .1) (omega arith)))
+        case (isRunning j) (λ x. rw (x, z) (none-after (suc (j .ticket)) js (a .1) (omega arith)))
+        (λ x. rw x (none-after (suc (j .ticket)) js (a .1) (omega arith)))
 
     alone : (lo : ℕ) (js : List Job) → Asc lo js → any (runsAs t) js ≡ true → ticketsOf (keep (runsAs t) js) ≡ t ∷ []
     alone lo [] a e = true-false false e refl
@@ -420,7 +440,8 @@ Distinct (t ∷ ts) = (elem t ts ≡ false) × Distinct ts
 
 settles-distinct : {m m′ : Model} {ts : List ℕ} → Settles m m′ ts → Distinct ts
 settles-distinct (rest e) = tt
-settles-distinct (start {m = m} {ts = ts} j e s) = (case (elem (j .ticket) ts) (λ x. absurd (runs (settles-waited (j .ticket) s x))) (λ x. x), settles-distinct s)
+settles-distinct (start {m = m} {ts = ts} j e s) =
+    (case (elem (j .ticket) ts) (λ x. absurd (runs (settles-waited (j .ticket) s x))) (λ x. x), settles-distinct s)
   where
     runs : Waits (begin (j .ticket) m) (j .ticket) → ⊥
     runs w =
@@ -444,7 +465,8 @@ call-starts m c v =
       runs = λ u e. settles-runs u (t .trace) e;
       once = settles-distinct (t .trace);
     })
-    (λ (q : Unchanged m c (call m c)). subst (λ (o : Result). Starts m c o) (sym (q .same)) (record { waited = λ u e. true-false false e refl; runs = λ u e w. true-false false e refl; once = tt }))
+    (λ (q : Unchanged m c (call m c)). subst (λ (o : Result). Starts m c o) (sym (q .same))
+    (record { waited = λ u e. true-false false e refl; runs = λ u e w. true-false false e refl; once = tt }))
     (called m c v)
 
 -- ## Tickets
@@ -466,4 +488,5 @@ call-next m c v =
 -- an accepted submission answers the next ticket
 pub submit-ticket : (m : Model) (n e : ℕ) → accepts (call m (submit n e) .reply .refusal) ≡ true → call m (submit n e) .reply .ticket ≡ m .next
 unfolding call finished
-submit-ticket m n e a = ap (λ (o : Result). o .reply .ticket) (judged-accepted m (submitRefusal m n e) (finished m (joined m (newJob (m .next) n e)) (m .next) []) a .1)
+submit-ticket m n e a = ap (λ (o : Result). o .reply .ticket)
+    (judged-accepted m (submitRefusal m n e) (finished m (joined m (newJob (m .next) n e)) (m .next) []) a .1)

@@ -63,14 +63,19 @@ avail-all m s =
     ended : (j : Job) → SoundJob (m .settings) (m .clock) j → freed (m .settings) (m .clock + unit (m .settings)) j ≡ held j
     ended j f =
         case (isRunning j)
-        (λ r. rw (ended-by (m .settings) (m .clock + unit (m .settings)) j r (omega (arith, f .runs r, hold-short (m .settings) (j .estimate) (f .estimate-to))), r))
+        (λ r. rw (
+          ended-by (m .settings) (m .clock + unit (m .settings)) j r
+              (omega (arith, f .runs r, hold-short (m .settings) (j .estimate) (f .estimate-to))),
+          r,
+        ))
         (λ r. rw r)
 
 pub shadow-holds : (m : Model) (n : ℕ) → Sound m → n ≤ m .settings .nodes → n ≤ avail m (shadow m n)
 unfolding shadow
 shadow-holds m n s l =
     leb-true n (avail m (shadow m n))
-    (least-holds (λ (t : ℕ). leb n (avail m t)) (unit (m .settings)) (m .clock) (le-leb n (avail m (m .clock + unit (m .settings))) (omega (arith, avail-all m s))))
+    (least-holds (λ (t : ℕ). leb n (avail m t)) (unit (m .settings)) (m .clock)
+    (le-leb n (avail m (m .clock + unit (m .settings))) (omega (arith, avail-all m s))))
 
 -- no running job has ended by now, so that nothing but the free nodes is there now
 pub avail-now : (m : Model) (t : ℕ) → Sound m → t ≤ m .clock → avail m t ≡ free m
@@ -82,7 +87,8 @@ avail-now m t s l = omega (arith, sum-zero (freed (m .settings) t) (m .jobs) (λ
 -- ## The job that starts next
 
 -- where none can start, the head does not fit and no later job qualifies
-pub none-starts : (m : Model) (h : Job) (later : List Job) → pick m (h ∷ later) ≡ none → (free m < h .nodes) × ((j : Job) → In j later → qualifies m h j ≡ false)
+pub none-starts : (m : Model) (h : Job) (later : List Job) → pick m (h ∷ later) ≡ none
+    → (free m < h .nodes) × ((j : Job) → In j later → qualifies m h j ≡ false)
 unfolding pick
 none-starts m h later e =
     case (leb (h .nodes) (free m))
@@ -153,13 +159,15 @@ pub asc-begin : (t : ℕ) (m : Model) → Asc 1 (m .jobs) → Asc 1 (begin t m .
 asc-begin t m a = asc-same 1 (m .jobs) (begin t m .jobs) (tickets-mark (m .clock) t (m .jobs)) a
 
 -- starting one job changes a sum by that job alone
-pub sum-mark : (f : Job → ℕ) (now lo : ℕ) (js : List Job) {j : Job} → Asc lo js → In j js → sum f (map (mark now (j .ticket)) js) + f j ≡ sum f js + f (begun now j)
+pub sum-mark : (f : Job → ℕ) (now lo : ℕ) (js : List Job) {j : Job} → Asc lo js → In j js
+    → sum f (map (mark now (j .ticket)) js) + f j ≡ sum f js + f (begun now j)
 sum-mark f now lo js {j} a i = by lo a i
   where
     by : (lo : ℕ) {js : List Job} → Asc lo js → In j js → sum f (map (mark now (j .ticket)) js) + f j ≡ sum f js + f (begun now j)
     by lo a (here {x = x} {xs = xs} e) =
         let q : x .ticket ≡ j .ticket = ap ticketOf (sym e) in
-        let r : map (mark now (j .ticket)) xs ≡ xs = map-same (mark now (j .ticket)) xs (λ k i. mark-same now (j .ticket) k (λ z. omega (arith, asc-in (suc (x .ticket)) xs (a .1) i))) in
+        let r : map (mark now (j .ticket)) xs ≡ xs =
+        map-same (mark now (j .ticket)) xs (λ k i. mark-same now (j .ticket) k (λ z. omega (arith, asc-in (suc (x .ticket)) xs (a .1) i))) in
         rw (mark-begun now (j .ticket) x q, r) (omega (arith, ap f e, ap (λ (k : Job). f (begun now k)) e))
     by lo a (there {x = x} {xs = xs} i) =
         rw (mark-same now (j .ticket) x (λ z. omega (arith, asc-in (suc (x .ticket)) xs (a .1) i))) (omega (arith, by (suc (x .ticket)) (a .1) i))
@@ -199,7 +207,8 @@ sound-begin m j s c room = record {
   few = omega (arith, s .few, length-map (m .jobs) (mark (m .clock) (j .ticket)));
   asc = asc-begin (j .ticket) m (s .asc);
   below = each-begin (λ (k : Job). k .ticket < m .next) (j .ticket) m (λ k i e. s .below k i) (λ k i e. s .below k i);
-  each = each-begin (SoundJob (m .settings) (m .clock)) (j .ticket) m (λ k i e. s .each k i) (λ k i e. started k i (asc-one 1 (m .jobs) k j (s .asc) i (c .isin) e));
+  each = each-begin (SoundJob (m .settings) (m .clock)) (j .ticket) m (λ k i e. s .each k i)
+      (λ k i e. started k i (asc-one 1 (m .jobs) k j (s .asc) i (c .isin) e));
   capacity =
       let t = sum-mark held (m .clock) 1 (m .jobs) (s .asc) (c .isin) in
       let z : held j ≡ 0 = rw (idle j (c .waits)) in
@@ -236,7 +245,9 @@ unfolding settle
 settles-by zero m a l = rest (none-left m (queue (m .jobs)) l)
 settles-by (suc n) m a l = by (choice m) refl (λ j c. settles-by n (begin (j .ticket) m) (asc-begin (j .ticket) m a) (omega (arith, one-fewer m j a c)))
   where
-    by : (o : Option Job) → choice m ≡ o → ((j : Job) → Chosen m j → Settles (begin (j .ticket) m) (settle n (begin (j .ticket) m) .model) (settle n (begin (j .ticket) m) .started)) → Settles m (settle (suc n) m .model) (settle (suc n) m .started)
+    by : (o : Option Job) → choice m ≡ o → ((j : Job) → Chosen m j
+        → Settles (begin (j .ticket) m) (settle n (begin (j .ticket) m) .model) (settle n (begin (j .ticket) m) .started))
+        → Settles m (settle (suc n) m .model) (settle (suc n) m .started)
     by none e f = rw (e, settle) (rest e)
     by (some j) e f = rw (e, settle) (start j e (f j (chosen m j e)))
 

@@ -97,7 +97,8 @@ settles-keeps u b (rest e) r o = inr (refl, o)
 settles-keeps u b (start {m = m} j e s) r o =
     case (eqb u (j .ticket))
     (λ q. inl (rw q, omega (arith, settles-clock s, course-clock m u b o)))
-    (λ q. rw q (settles-keeps u b s (begin-ready m j r (chosen m j e)) (begin-keeps m j (r .sound) (chosen m j e) u b (λ z. eqb-false u (j .ticket) q (sym z)) o)))
+    (λ q. rw q (settles-keeps u b s (begin-ready m j r (chosen m j e))
+    (begin-keeps m j (r .sound) (chosen m j e) u b (λ z. eqb-false u (j .ticket) q (sym z)) o)))
 
 -- ## What a call does before it settles
 
@@ -105,7 +106,8 @@ pub data OwnPart (m : Model) : Call → Model → ℕ → List ℕ → Type 0 wh
   submits : (n e : ℕ) → Fit m n e → latestEnd m e ≤ horizon (m .settings) → OwnPart m (submit n e) (joined m (newJob (m .next) n e)) (m .next) []
   completes : (t : ℕ) → any (picks (select.RunningTicket t)) (m .jobs) ≡ true
       → OwnPart m (complete t) (without m (m .clock) (select.RunningTicket t)) 0 (ticketsOf (keep (picks (select.RunningTicket t)) (m .jobs)))
-  ticks : suc (m .clock) ≤ horizon (m .settings) → OwnPart m tick (without m (suc (m .clock)) (select.EndingAt (suc (m .clock)))) 0 (ticketsOf (keep (picks (select.EndingAt (suc (m .clock)))) (m .jobs)))
+  ticks : suc (m .clock) ≤ horizon (m .settings)
+      → OwnPart m tick (without m (suc (m .clock)) (select.EndingAt (suc (m .clock)))) 0 (ticketsOf (keep (picks (select.EndingAt (suc (m .clock)))) (m .jobs)))
 
 module _ (m : Model) (v : Valid m) where
   leave-ready : (c : ℕ) (p : Select) → Leaving m c p → Ready (without m c p)
@@ -205,7 +207,8 @@ finished-taken : (m : Model) (c : Call) (mid : Model) (t : ℕ) (ts : List ℕ) 
 unfolding finished
 finished-taken m c mid t ts x r = record { mid = mid; moved = x; trace = settles mid (r .sound); accepted = refl; promise = refl; head = refl }
 
-judge : (m : Model) (c : Call) (r : Refusal) (o : Result) → (accepts r ≡ true → CallAccepted m c o) → CallAccepted m c (judged m r o) ⊎ Unchanged m c (judged m r o)
+judge : (m : Model) (c : Call) (r : Refusal) (o : Result) → (accepts r ≡ true → CallAccepted m c o)
+    → CallAccepted m c (judged m r o) ⊎ Unchanged m c (judged m r o)
 judge m c r o f = case (accepts r) (λ e. rw e (inl (f e))) (λ e. rw e (inr (record { why = r; same = refl; silent = refused-news c r e })))
 
 -- what is accepted moves the model

@@ -52,7 +52,8 @@ module _ {k : Kind} {Valid : Model → Type 0} {OnCourse : Model → ℕ → ℕ
 
   same-events : (m : Model) (cs : List Call) → Valid m → events call m cs ≡ events (rulesOf k) m cs
   same-events m [] v = refl
-  same-events m (c ∷ cs) v = rw (by-rules m c v) (ap (λ (es : List Event). record { call = c; reply = rulesOf k m c .reply } ∷ es) (same-events (rulesOf k m c .model) cs (L .valid m c v)))
+  same-events m (c ∷ cs) v = rw (by-rules m c v)
+      (ap (λ (es : List Event). record { call = c; reply = rulesOf k m c .reply } ∷ es) (same-events (rulesOf k m c .model) cs (L .valid m c v)))
 
   -- from any book that agrees with a valid model
   pub from-seed : (m : Model) (b : Book) (cs : List Call) → Valid m → Agrees k OnCourse m b → Guarantee k (m .settings .nodes) (bookFrom m b (events call m cs))

@@ -55,11 +55,16 @@ finished-fits b m t ended h g = record { ended = h; started = omega (arith, sett
 
 advanced-fits : (m : Model) (clock : ℕ) (s : Select) (after : List Job) → length (m .jobs) ≤ 64 → FitsAnswer (conservative.advanced m clock s after)
 unfolding conservative.advanced
-advanced-fits m clock s after h = record { ended = left-few s (m .jobs) h; started = omega (arith, begun-few (staying s (m .jobs)) after, length-keep-le (λ (j : Job). not (picks s j)) (m .jobs)) }
+advanced-fits m clock s after h = record {
+  ended = left-few s (m .jobs) h;
+  started =
+      omega (arith, begun-few (staying s (m .jobs)) after, length-keep-le (λ (j : Job). not (picks s j)) (m .jobs));
+}
 
 leaving-fits : (m : Model) (clock : ℕ) (s : Select) → length (m .jobs) ≤ 64 → FitsAnswer (easy.advanced m clock s)
 unfolding easy.advanced
-leaving-fits m clock s h = finished-fits m (without m clock s) 0 _ (left-few s (m .jobs) h) (omega (arith, length-keep-le (λ (j : Job). not (picks s j)) (m .jobs)))
+leaving-fits m clock s h = finished-fits m (without m clock s) 0 _ (left-few s (m .jobs) h)
+    (omega (arith, length-keep-le (λ (j : Job). not (picks s j)) (m .jobs)))
 
 refused-fits : (m : Model) (r : Refusal) → FitsAnswer (refuse m r)
 refused-fits m r = record { ended = omega arith; started = omega arith }
@@ -79,7 +84,8 @@ fits-by Conservative m (submit n e) h =
     judged-by FitsAnswer m (conservative.submitRefusal m n e s) (conservative.submitted m n e s)
     (λ a. record { ended = omega arith; started = case (eqb s (m .clock)) (λ q. rw q (omega arith)) (λ q. rw q (omega arith)) })
     (λ a. refused-fits m _)
-fits-by Conservative m (complete t) h = judged-by FitsAnswer m (completeRefusal m t) (conservative.completed m t) (λ a. advanced-fits m _ _ _ h) (λ a. refused-fits m _)
+fits-by Conservative m (complete t) h = judged-by FitsAnswer m (completeRefusal m t) (conservative.completed m t) (λ a. advanced-fits m _ _ _ h)
+    (λ a. refused-fits m _)
 fits-by Conservative m tick h = judged-by FitsAnswer m (tickRefusal m) (conservative.ticked m) (λ a. advanced-fits m _ _ _ h) (λ a. refused-fits m _)
 fits-by Conservative m (unchanged r) h = refused-fits m _
 fits-by Easy m (submit n e) h =
@@ -87,8 +93,10 @@ fits-by Easy m (submit n e) h =
     judged-by FitsAnswer m (easy.submitRefusal m n e) (easy.finished m (joined m j) (m .next) [])
     (λ a. finished-fits m (joined m j) (m .next) [] (omega arith) (omega (arith, submit-fit m n e _ a .0 .room, length-append (m .jobs) (j ∷ []))))
     (λ a. refused-fits m _)
-fits-by Easy m (complete t) h = judged-by FitsAnswer m (completeRefusal m t) (easy.advanced m (m .clock) (select.RunningTicket t)) (λ a. leaving-fits m _ (select.RunningTicket t) h) (λ a. refused-fits m _)
-fits-by Easy m tick h = judged-by FitsAnswer m (tickRefusal m) (easy.advanced m (suc (m .clock)) (select.EndingAt (suc (m .clock)))) (λ a. leaving-fits m _ (select.EndingAt (suc (m .clock))) h) (λ a. refused-fits m _)
+fits-by Easy m (complete t) h = judged-by FitsAnswer m (completeRefusal m t) (easy.advanced m (m .clock) (select.RunningTicket t))
+    (λ a. leaving-fits m _ (select.RunningTicket t) h) (λ a. refused-fits m _)
+fits-by Easy m tick h = judged-by FitsAnswer m (tickRefusal m) (easy.advanced m (suc (m .clock)) (select.EndingAt (suc (m .clock))))
+    (λ a. leaving-fits m _ (select.EndingAt (suc (m .clock))) h) (λ a. refused-fits m _)
 fits-by Easy m (unchanged r) h = refused-fits m _
 
 pub call-fits : (m : Model) (c : Call) → length (m .jobs) ≤ 64 → FitsAnswer (call m c)

@@ -78,8 +78,10 @@ unfolding
     rules.finished
 ended-by Conservative m c v = conservative.answers-rise m c v .0
 ended-by Easy m (submit n e) v = judged-by Ascends m (rules.submitRefusal m n e) _ (λ a. tt) (λ a. tt)
-ended-by Easy m (complete t) v = judged-by Ascends m (completeRefusal m t) (rules.advanced m (m .clock) (select.RunningTicket t)) (λ a. leaves m (select.RunningTicket t) (v .ready .sound)) (λ a. tt)
-ended-by Easy m tick v = judged-by Ascends m (tickRefusal m) (rules.advanced m (suc (m .clock)) (select.EndingAt (suc (m .clock)))) (λ a. leaves m (select.EndingAt (suc (m .clock))) (v .ready .sound)) (λ a. tt)
+ended-by Easy m (complete t) v = judged-by Ascends m (completeRefusal m t) (rules.advanced m (m .clock) (select.RunningTicket t))
+    (λ a. leaves m (select.RunningTicket t) (v .ready .sound)) (λ a. tt)
+ended-by Easy m tick v = judged-by Ascends m (tickRefusal m) (rules.advanced m (suc (m .clock)) (select.EndingAt (suc (m .clock))))
+    (λ a. leaves m (select.EndingAt (suc (m .clock))) (v .ready .sound)) (λ a. tt)
 ended-by Easy m (unchanged w) v = tt
 
 pub ended-rise : (m : Model) (c : Call) → Valid m → Rising 1 (call m c .reply .ended)

@@ -47,15 +47,21 @@ module _ (m : Model) (v : Valid m) where
   desk-view : view (read (mirror (store m))) ≡ m
   desk-view = ap view (read-mirror (store m)) ∙ valid-view m v
 
-  made-is : {c : Call} {a : Answer} {e : Desk} → HostMade (mirror (store m)) c a e → (e ≡ mirror (store (call m c .model))) × (a ≡ mirrorAnswer (answer (call m c .reply)))
-  made-is (onLent {c} l) = (l .leaves ∙ ap (λ (x : Model). mirror (store (call x c .model))) desk-view, l .answers ∙ ap (λ (x : Model). mirrorAnswer (answer (call x c .reply))) desk-view)
+  made-is : {c : Call} {a : Answer} {e : Desk} → HostMade (mirror (store m)) c a e
+      → (e ≡ mirror (store (call m c .model))) × (a ≡ mirrorAnswer (answer (call m c .reply)))
+  made-is (onLent {c} l) = (
+    l .leaves ∙ ap (λ (x : Model). mirror (store (call x c .model))) desk-view,
+    l .answers
+        ∙ ap (λ (x : Model). mirrorAnswer (answer (call x c .reply))) desk-view,
+  )
   made-is (profileOnLent {lent} {after} {s} w) =
       rw (unchanged-refuses m (profileRefusal (view (read (mirror (store m)))) (length lent))) (refl, ap (λ (x : Shown). refusedBy (x .refusal)) (w .answers))
 
 -- From the desk that an opening hands back, a refused one too: desk and answers are those of the list of calls, and the book of the calls
 -- made and the answers received has the guarantees (document 01: "demand 3").
 pub host-keeps : (o : Opening) (cs : List Call) (xs : List Answer) (e : Desk) → MadeAll HostMade (opens o .desk) cs xs e
-    → (e ≡ mirror (store (after call (opening o) cs))) × (xs ≡ map (λ (x : Event). mirrorAnswer (answerOf x)) (events call (opening o) cs)) × Guarantee (o .kind) (opening o .settings .nodes) (bookOf (opening o) (eventsOf cs (map hostReply xs)))
+    → (e ≡ mirror (store (after call (opening o) cs))) × (xs ≡ map (λ (x : Event). mirrorAnswer (answerOf x)) (events call (opening o) cs))
+    × Guarantee (o .kind) (opening o .settings .nodes) (bookOf (opening o) (eventsOf cs (map hostReply xs)))
 unfolding opened
 host-keeps o cs xs e l =
     made-keeps HostMade (λ m. mirror (store m)) (λ r. mirrorAnswer (answer r)) hostReply (λ m c a d v. made-is m v)

@@ -81,5 +81,6 @@ handed-states d h = subst (λ (e : Desk). All (λ (r : Record). r .state ≤ 2) 
 pub read-premise : (d : Desk) (s : Scheduler) → s ≡ read d → Handed d → Premise s
 read-premise d s e h = subst Premise (sym e) (h .premise)
 
-pub call-given : (d : Desk) (c : Call) (s : Scheduler) (o : scheduler-outcome.Outcome) (r : Outcome) → s ≡ read d → o ≡ outcome (call (view s) c) → r ≡ mirrorOutcome o → r ≡ gives d c
+pub call-given : (d : Desk) (c : Call) (s : Scheduler) (o : scheduler-outcome.Outcome) (r : Outcome) → s ≡ read d → o ≡ outcome (call (view s) c)
+    → r ≡ mirrorOutcome o → r ≡ gives d c
 call-given d c s o r e f g = g ∙ ap mirrorOutcome (f ∙ ap (λ (x : Scheduler). outcome (call (view x) c)) e)

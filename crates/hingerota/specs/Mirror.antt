@@ -75,7 +75,15 @@ state-back Waiting = refl
 state-back Running = refl
 
 pub job-back : (j : Job) → readRecord (mirrorJob j) ≡ j
-job-back j = λ i. record { ticket = j .ticket; nodes = j .nodes; estimate = j .estimate; state = state-back (j .state) i; start = j .start; promise = j .promise }
+job-back j = λ i. record {
+  ticket = j .ticket;
+  nodes = j .nodes;
+  estimate = j .estimate;
+  state = state-back (j .state) i;
+  start = j .start;
+  promise =
+      j .promise;
+}
 
 jobs-back : (js : List Job) → map readRecord (map mirrorJob js) ≡ js
 jobs-back [] = refl

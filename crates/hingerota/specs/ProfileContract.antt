@@ -63,7 +63,8 @@ shownIn d room = mirrorProfile (profileOutcome (view (read d)) room)
 abbrev pub pointAt : ProfileOutcome → ℕ → Point
 pointAt p i = mirrorPoint (getD (p .points) i noPoint)
 
-pub profile-given : (d : Desk) (room : ℕ) (s : Scheduler) (p : calls-profile.ProfileOutcome) (r : ProfileOutcome) → s ≡ read d → p ≡ profileOutcome (view s) room → r ≡ mirrorProfile p → r ≡ shownIn d room
+pub profile-given : (d : Desk) (room : ℕ) (s : Scheduler) (p : calls-profile.ProfileOutcome) (r : ProfileOutcome) → s ≡ read d
+    → p ≡ profileOutcome (view s) room → r ≡ mirrorProfile p → r ≡ shownIn d room
 profile-given d room s p r e f g = g ∙ ap mirrorProfile (f ∙ ap (λ (x : Scheduler). profileOutcome (view x) room) e)
 
 -- ## Written into the list
@@ -97,4 +98,5 @@ pub shown-fits : (d : Desk) (room : ℕ) (p : ProfileOutcome) → p ≡ shownIn 
 shown-fits d room p e = subst (λ (q : ProfileOutcome). q .count ≤ room) (sym e) (given-fits (read d) room (profileOutcome (view (read d)) room) refl)
 
 pub shown-few : (d : Desk) (room : ℕ) (p : ProfileOutcome) → Handed d → p ≡ shownIn d room → p .count ≤ places
-shown-few d room p h e = subst (λ (q : ProfileOutcome). q .count ≤ places) (sym e) (given-few (read d) room (profileOutcome (view (read d)) room) (h .premise) refl)
+shown-few d room p h e = subst (λ (q : ProfileOutcome). q .count ≤ places) (sym e)
+    (given-few (read d) room (profileOutcome (view (read d)) room) (h .premise) refl)

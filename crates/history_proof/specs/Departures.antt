@@ -19,7 +19,8 @@ use Rattle.history.specs.News.{Newcomer, News, nothing}
 use Rattle.history.specs.Book.{Fate, fateAfter}
 use Rattle.history_proof.specs.Obligations.{JobShown, shown, fateBy, live, isLive, remark, shownAfter, newly, comers, Tells, Aim, Kept}
 
-pub shown-with : (x : JobShown) (f : Fate) → f ≡ x .fate → _≡_ {A = JobShown} (record { ticket = x .ticket; nodes = x .nodes; promise = x .promise; fate = f }) x
+pub shown-with : (x : JobShown) (f : Fate) → f ≡ x .fate
+    → _≡_ {A = JobShown} (record { ticket = x .ticket; nodes = x .nodes; promise = x .promise; fate = f }) x
 shown-with x f e = λ i. record { ticket = x .ticket; nodes = x .nodes; promise = x .promise; fate = e i }
 
 module _ (c : ℕ) (e : News) where

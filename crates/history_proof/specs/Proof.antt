@@ -23,10 +23,13 @@ use Rattle.scheduler.specs.Model.{Model}
 use Rattle.scheduler.specs.Answers.{Forecast}
 use Rattle.history.specs.Calls.{Call, Rules, after, events}
 use Rattle.history.specs.News.{Newcomer, News, clockAfter}
-use Rattle.history.specs.Book.{Fate, waiting, running, ended, Entry, Book, waits, start, isWaiting, rank, entry, fateAfter, marked, lowest, entryTicket, headOf, is, given, hearing, heard, enter, enterAll}
+use Rattle.history.specs.Book.{Fate, waiting, running, ended, Entry, Book, waits, start, isWaiting, rank, entry, fateAfter, marked, lowest}
+use Rattle.history.specs.Book.{entryTicket, headOf, is, given, hearing, heard, enter, enterAll}
 use Rattle.history.specs.Guarantee.{StartedBy, Guarantee}
-use Rattle.history_proof.specs.Seen.{seen, isLiveEntry, keep-seen, marked-seen, Heard, same, first-time, heard-by, heard-seen, drop-ended, queue, queue-seen, came-seen, same-queue, same-nodes}
-use Rattle.history_proof.specs.Obligations.{JobShown, shown, isLive, remark, comers, deadline, boundAt, lowestWaiting, said, Aim, by, For, Meets, Kept, Keeps, Lawful}
+use Rattle.history_proof.specs.Seen.{seen, isLiveEntry, keep-seen, marked-seen, Heard, same, first-time, heard-by, heard-seen}
+use Rattle.history_proof.specs.Seen.{drop-ended, queue, queue-seen, came-seen, same-queue, same-nodes}
+use Rattle.history_proof.specs.Obligations.{JobShown, shown, isLive, remark, comers, deadline, boundAt, lowestWaiting, said, Aim, by}
+use Rattle.history_proof.specs.Obligations.{For, Meets, Kept, Keeps, Lawful}
 
 -- ## Agreement
 
@@ -276,7 +279,8 @@ module _ {k : Kind} {R : Rules} {Valid : Model → Type 0} {OnCourse : Model →
       within = omega (arith, same-nodes (m .jobs) (b .entries) (a .jobs-are), L .capacity m v);
     }
       where
-        by-kind : (κ : Kind) → k ≡ κ → (x : Entry) → OnTime OnCourse m (x .ticket) (x .fate) (deadlineOf k x) → OnTime OnCourse m (x .ticket) (x .fate) (deadlineOf κ x)
+        by-kind : (κ : Kind) → k ≡ κ → (x : Entry) → OnTime OnCourse m (x .ticket) (x .fate) (deadlineOf k x)
+            → OnTime OnCourse m (x .ticket) (x .fate) (deadlineOf κ x)
         by-kind κ q x o = subst (λ (j : Kind). OnTime OnCourse m (x .ticket) (x .fate) (deadlineOf j x)) q o
 
   -- from any book that agrees with a valid model, after every list of calls

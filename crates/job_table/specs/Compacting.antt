@@ -133,7 +133,10 @@ pub clears-first : (from : ℕ) (d : Scheduler) → length (d .jobs) ≡ 64 → 
 clears-first from d len l = record {
   above = omega arith;
   low = l;
-  scheduler-is = ap (withJobs d) (sym (ap (λ (js : List Job). js ++ drop from (d .jobs)) (pad-whole (take from (d .jobs)) from (length-take-le from (d .jobs) (omega arith))) ∙ take-append-drop from (d .jobs)));
+  scheduler-is =
+      ap (withJobs d)
+      (sym (ap (λ (js : List Job). js ++ drop from (d .jobs)) (pad-whole (take from (d .jobs)) from (length-take-le from (d .jobs) (omega arith)))
+      ∙ take-append-drop from (d .jobs)));
 }
 
 module _ {from : ℕ} {d e : Scheduler} {i : ℕ} (v : Clears from d e i) (len : length (d .jobs) ≡ 64) where
@@ -168,9 +171,18 @@ module _ {from : ℕ} {d e : Scheduler} {i : ℕ} (v : Clears from d e i) (len :
 module _ {s : Select} {d e : Scheduler} {list : List ℕ} {kept gone i : ℕ} (v : Compacts s d e list kept gone i) (len : length (d .jobs) ≡ 64) where
   pub compacts-length : length (e .jobs) ≡ 64
   compacts-length =
-      omega (arith, ap (λ (y : Scheduler). length (y .jobs)) (v .scheduler-is), length-append (staying s (take i (d .jobs))) (drop kept (d .jobs)), length-drop kept (d .jobs), v .kept-is, v .parts, v .low)
+      omega (
+        arith,
+        ap (λ (y : Scheduler). length (y .jobs)) (v .scheduler-is),
+        length-append (staying s (take i (d .jobs))) (drop kept (d .jobs)),
+        length-drop kept (d .jobs),
+        v .kept-is,
+        v .parts,
+        v .low,
+      )
 
-  pub compacted : {f : Scheduler} {k : ℕ} → Clears kept e f k → 64 ≤ i → 64 ≤ k → record { tickets = record { count = gone; list = list }; scheduler = f } ≡ removed d s
+  pub compacted : {f : Scheduler} {k : ℕ} → Clears kept e f k → 64 ≤ i → 64 ≤ k
+      → record { tickets = record { count = gone; list = list }; scheduler = f } ≡ removed d s
   unfolding removed tickets
   compacted {f} u a b =
       let all : take i (d .jobs) ≡ d .jobs = take-all i (d .jobs) (omega arith) in

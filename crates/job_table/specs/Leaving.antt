@@ -84,7 +84,8 @@ module _ (t : ℕ) where
 
   alone : (lo k n : ℕ) (js : List Job) → Asc lo js → positionFrom (runsAs t) k js ≡ some (k + n) → Alone n js
   alone lo k n [] a e = absurd (let z : _≡_ {A = ℕ} 0 1 = cc in omega arith)
-  alone lo k zero (j ∷ js) a e = case (runsAs t j) (λ y. found y) (λ y. absurd (let s = position-says unused (runsAs t) js (k + 1) (k + 0) (rw y at e) in omega (arith, s .at-is)))
+  alone lo k zero (j ∷ js) a e = case (runsAs t j) (λ y. found y)
+      (λ y. absurd (let s = position-says unused (runsAs t) js (k + 1) (k + 0) (rw y at e) in omega (arith, s .at-is)))
     where
       found : runsAs t j ≡ true → Alone zero (j ∷ js)
       found y =
@@ -200,7 +201,8 @@ module _ {at : ℕ} {d e : Scheduler} {i : ℕ} (v : Shifts at d e i) (len : len
 
 any-none : (p : Job → Bool) (k : ℕ) (js : List Job) → positionFrom p k js ≡ none → any p js ≡ false
 any-none p k [] e = refl
-any-none p k (j ∷ js) e = case (p j) (λ q. absurd (let w : some k ≡ none = rw q at e in let z : _≡_ {A = ℕ} 0 1 = cc in omega arith)) (λ q. rw q (any-none p (k + 1) js (rw q at e)))
+any-none p k (j ∷ js) e = case (p j) (λ q. absurd (let w : some k ≡ none = rw q at e in let z : _≡_ {A = ℕ} 0 1 = cc in omega arith))
+    (λ q. rw q (any-none p (k + 1) js (rw q at e)))
 
 any-some : (p : Job → Bool) (k i : ℕ) (js : List Job) → positionFrom p k js ≡ some i → any p js ≡ true
 any-some p k i [] e = absurd (let z : _≡_ {A = ℕ} 0 1 = cc in omega arith)
@@ -251,16 +253,32 @@ module _ (d : Scheduler) (h : Holds Sound d) where
   which = select.EndingAt minute
 
   abbrev pub expired : Part
-  expired = record { refusal = pastHorizon minute; ticket = 0; ended = removed d which .tickets; scheduler = withClock (removed d which .scheduler) (cappedClock minute) }
+  expired = record {
+    refusal = pastHorizon minute;
+    ticket = 0;
+    ended = removed d which .tickets;
+    scheduler =
+        withClock (removed d which .scheduler) (cappedClock minute);
+  }
 
-  removed-is : removed d which ≡ record { tickets = tickets (ticketsOf (keep (picks which) (view d .jobs))); scheduler = store (withModelJobs (view d) (staying which (view d .jobs))) }
+  removed-is : removed d which ≡ record {
+    tickets = tickets (ticketsOf (keep (picks which) (view d .jobs)));
+    scheduler =
+        store (withModelJobs (view d) (staying which (view d .jobs)));
+  }
   removed-is = ap (λ (x : Scheduler). removed x which) (h .stored) ∙ removed-stored (view d) which (h .holds .few)
 
   abbrev of : Removed → Part
   of r = record { refusal = pastHorizon minute; ticket = 0; ended = r .tickets; scheduler = withClock (r .scheduler) (cappedClock minute) }
 
   abbrev ends : List ℕ → List Job → ℕ → Part
-  ends ts js c = record { refusal = pastHorizon minute; ticket = 0; ended = tickets ts; scheduler = store (record { settings = view d .settings; clock = c; next = view d .next; jobs = js }) }
+  ends ts js c = record {
+    refusal = pastHorizon minute;
+    ticket = 0;
+    ended = tickets ts;
+    scheduler =
+        store (record { settings = view d .settings; clock = c; next = view d .next; jobs = js });
+  }
 
   -- past the last minute nobody ends
   nobody : horizon < minute → (j : Job) → In j (view d .jobs) → picks which j ≡ false
@@ -270,7 +288,12 @@ module _ (d : Scheduler) (h : Holds Sound d) where
   unfolding store view tickRefusal verdict
   expired-is = ap of removed-is ∙ by (le-or minute horizon)
     where
-      by : (minute ≤ horizon) ⊎ (horizon < minute) → of (record { tickets = tickets (ticketsOf (keep (picks which) (view d .jobs))); scheduler = store (withModelJobs (view d) (staying which (view d .jobs))) }) ≡ part (ticking (view d))
+      by : (minute ≤ horizon) ⊎ (horizon < minute)
+          → of (record {
+            tickets = tickets (ticketsOf (keep (picks which) (view d .jobs)));
+            scheduler =
+                store (withModelJobs (view d) (staying which (view d .jobs)));
+          }) ≡ part (ticking (view d))
       by (inl l) = rw (le-ltb horizon minute l, add-one (d .clock), le-ltb horizon (suc (d .clock)) (omega arith))
       by (inr l) =
           let c : horizon ≡ d .clock = omega (arith, h .holds .clock-to) in
@@ -281,12 +304,18 @@ module _ (d : Scheduler) (h : Holds Sound d) where
           ∙ rw (lt-ltb horizon minute l, lt-ltb horizon (suc (d .clock)) (omega arith), c)
 
 pub expires : (d : Scheduler) → Holds Sound d → {e f : Scheduler} {list : List ℕ} {kept gone i k c : ℕ}
-    → Compacts (select.EndingAt (d .clock + 1)) (withClock d c) e list kept gone i → length (d .jobs) ≡ 64 → Clears kept e f k → 64 ≤ i → 64 ≤ k → c ≡ cappedClock (d .clock + 1)
+    → Compacts (select.EndingAt (d .clock + 1)) (withClock d c) e list kept gone i → length (d .jobs) ≡ 64 → Clears kept e f k → 64 ≤ i → 64 ≤ k
+    → c ≡ cappedClock (d .clock + 1)
     → record { refusal = pastHorizon (d .clock + 1); ticket = 0; ended = record { count = gone; list = list }; scheduler = f } ≡ part (ticking (view d))
 unfolding removed
 expires d h v len u a b z =
     ap given (compacted v len u a b)
-    ∙ ap (λ (n : ℕ). record { refusal = pastHorizon (d .clock + 1); ticket = 0; ended = removed d (select.EndingAt (d .clock + 1)) .tickets; scheduler = withClock (removed d (select.EndingAt (d .clock + 1)) .scheduler) n }) z
+    ∙ ap (λ (n : ℕ). record {
+      refusal = pastHorizon (d .clock + 1);
+      ticket = 0;
+      ended = removed d (select.EndingAt (d .clock + 1)) .tickets;
+      scheduler = withClock (removed d (select.EndingAt (d .clock + 1)) .scheduler) n;
+    }) z
     ∙ expired-is d h
   where
     given : Removed → Part

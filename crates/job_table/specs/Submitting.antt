@@ -51,7 +51,8 @@ module _ (d : Scheduler) (slot : ℕ) (e : slot ≡ length (view d .jobs)) where
   known = record { nodes-is = refl; live-is = e; next-is = refl }
 
   -- the job stands last, and the next ticket is one more
-  pub enters : d ≡ store (view d) → length (view d .jobs) < slots → (job : Job) → withNext (withJobs d (set (d .jobs) slot job)) (d .next + 1) ≡ store (joined (view d) job)
+  pub enters : d ≡ store (view d) → length (view d .jobs) < slots → (job : Job)
+      → withNext (withJobs d (set (d .jobs) slot job)) (d .next + 1) ≡ store (joined (view d) job)
   unfolding store view
   enters s room job =
       ap (λ (n : ℕ). withNext (withJobs d (set (d .jobs) n job)) (d .next + 1)) e

@@ -23,7 +23,8 @@ accepts-none refusal.Malformed e = true-false false e refl
 accepts-none refusal.TooShort e = true-false false e refl
 
 -- what holds of an outcome where no test refuses it, and of the refusal where one does, holds of the call
-pub judged-by : (P : Result → Type 0) (m : Model) (r : Refusal) (o : Result) → (accepts r ≡ true → P o) → (accepts r ≡ false → P (refuse m r)) → P (judged m r o)
+pub judged-by : (P : Result → Type 0) (m : Model) (r : Refusal) (o : Result) → (accepts r ≡ true → P o) → (accepts r ≡ false → P (refuse m r))
+    → P (judged m r o)
 judged-by P m r o f g = case (accepts r) (λ e. rw e (f e)) (λ e. rw e (g e))
 
 -- a call that is not refused is its outcome
@@ -37,4 +38,5 @@ module _ (m : Model) (r : Refusal) (o : Result) (n : o .reply .refusal ≡ refus
 
   pub judged-refused : accepts (judged m r o .reply .refusal) ≡ false → judged m r o ≡ refuse m (judged m r o .reply .refusal)
   judged-refused =
-      judged-by (λ (x : Result). accepts (x .reply .refusal) ≡ false → x ≡ refuse m (x .reply .refusal)) m r o (λ e a. true-false true refl (rw n at a)) (λ e a. refl)
+      judged-by (λ (x : Result). accepts (x .reply .refusal) ≡ false → x ≡ refuse m (x .reply .refusal)) m r o
+      (λ e a. true-false true refl (rw n at a)) (λ e a. refl)

@@ -66,7 +66,8 @@ pub elem-job : (t : ℕ) (js : List Job) → elem t (ticketsOf js) ≡ true → 
 elem-job t [] e = true-false false e refl
 elem-job t (x ∷ xs) e = go (either (eqb t (x .ticket)) (elem t (ticketsOf xs)) e) (λ k. elem-job t xs k)
   where
-    go : (eqb t (x .ticket) ≡ true) ⊎ (elem t (ticketsOf xs) ≡ true) → (elem t (ticketsOf xs) ≡ true → (j : Job) × In j xs × (j .ticket ≡ t)) → (j : Job) × In j (x ∷ xs) × (j .ticket ≡ t)
+    go : (eqb t (x .ticket) ≡ true) ⊎ (elem t (ticketsOf xs) ≡ true) → (elem t (ticketsOf xs) ≡ true → (j : Job) × In j xs × (j .ticket ≡ t))
+        → (j : Job) × In j (x ∷ xs) × (j .ticket ≡ t)
     go (inl p) f = (x, here refl, sym (eqb-true t (x .ticket) p))
     go (inr q) f = let r = f q in (r .0, there (r .1), r .2)
 

@@ -33,11 +33,13 @@ module _ (d : Scheduler) (h : Holds Sound d) where
 
   all-low : (m : Model) → Sound m → All (λ (j : Job). j .start ≤ horizon) (store m .jobs)
   unfolding store
-  all-low m s = all-pad slots unused (λ (j : Job). j .start ≤ horizon) (m .jobs) (omega arith) (all-of (λ (j : Job). j .start ≤ horizon) (m .jobs) (λ j i. omega (arith, s .each j i .ends)))
+  all-low m s = all-pad slots unused (λ (j : Job). j .start ≤ horizon) (m .jobs) (omega arith)
+      (all-of (λ (j : Job). j .start ≤ horizon) (m .jobs) (λ j i. omega (arith, s .each j i .ends)))
 
   -- no start passes the last minute
   pub slots-low : (i : ℕ) → i < length (d .jobs) → getD (d .jobs) i unused .start ≤ horizon
-  slots-low i l = all-at (λ (j : Job). j .start ≤ horizon) (d .jobs) i unused (subst (All (λ (j : Job). j .start ≤ horizon)) (sym slots-are) (all-low (view d) (h .holds))) l
+  slots-low i l = all-at (λ (j : Job). j .start ≤ horizon) (d .jobs) i unused
+      (subst (All (λ (j : Job). j .start ≤ horizon)) (sym slots-are) (all-low (view d) (h .holds))) l
 
   abbrev L : List Job
   L = view d .jobs
@@ -47,7 +49,8 @@ module _ (d : Scheduler) (h : Holds Sound d) where
   unfolding store pad
   live-low i w =
       case (leb (length L) i)
-      (λ e. true-false (isLive (getD (d .jobs) i unused)) w (ap isLive (ap (λ (xs : List Job). getD xs i unused) slots-are ∙ past L (slots - length L) i (leb-true (length L) i e))))
+      (λ e. true-false (isLive (getD (d .jobs) i unused)) w
+      (ap isLive (ap (λ (xs : List Job). getD xs i unused) slots-are ∙ past L (slots - length L) i (leb-true (length L) i e))))
       (λ e. leb-false (length L) i e)
 
   -- a slot that is not live stands past them
@@ -57,7 +60,8 @@ module _ (d : Scheduler) (h : Holds Sound d) where
       case (leb (length L) i) (λ q. leb-true (length L) i q) (λ q.
       let l : i < length L = leb-false (length L) i q in
       true-false (isLive (getD (d .jobs) i unused))
-      (ap isLive (ap (λ (js : List Job). getD js i unused) slots-are ∙ List·getD-append L (replicate (slots - length L) unused) unused i l) ∙ h .holds .each (getD L i unused) (in-getD L i unused l) .is-live)
+      (ap isLive (ap (λ (js : List Job). getD js i unused) slots-are ∙ List·getD-append L (replicate (slots - length L) unused) unused i l)
+      ∙ h .holds .each (getD L i unused) (in-getD L i unused l) .is-live)
       e)
 
   -- the live jobs stand first

@@ -79,7 +79,8 @@ opening-sound o =
     refused : Sound (empty (o .kind) 1 0 1)
     refused = sound-empty (o .kind) 1 0 1 (omega arith) (omega arith) (omega arith) (omega arith) (omega arith)
 
-    taken : outside 1 maxNodes (o .nodes) ≡ false → (ltb limit.horizon (o .minute) || outside 1 lastTicket (o .ticket)) ≡ false → Sound (empty (o .kind) (o .nodes) (o .minute) (o .ticket))
+    taken : outside 1 maxNodes (o .nodes) ≡ false → (ltb limit.horizon (o .minute) || outside 1 lastTicket (o .ticket)) ≡ false
+        → Sound (empty (o .kind) (o .nodes) (o .minute) (o .ticket))
     taken p q =
         let a = neither (ltb (o .nodes) 1) (ltb maxNodes (o .nodes)) p in
         let b = neither (ltb limit.horizon (o .minute)) (outside 1 lastTicket (o .ticket)) q in
@@ -99,12 +100,14 @@ pub record Fit (m : Model) (n e : ℕ) : Type 0 where
   pub ticket-left : m .next ≤ lastTicket
 
 -- a test that is passed leaves the tests after it
-pub passed : (b : Bool) (r : Refusal) (ts : List (Bool × Refusal)) → accepts r ≡ false → accepts (verdict ((b, r) ∷ ts)) ≡ true → (b ≡ false) × (accepts (verdict ts) ≡ true)
+pub passed : (b : Bool) (r : Refusal) (ts : List (Bool × Refusal)) → accepts r ≡ false → accepts (verdict ((b, r) ∷ ts)) ≡ true
+    → (b ≡ false) × (accepts (verdict ts) ≡ true)
 unfolding verdict
 passed true r ts n e = true-false (accepts r) e n
 passed false r ts n e = (refl, e)
 
-pub submit-fit : (m : Model) (n e : ℕ) (more : List (Bool × Refusal)) → accepts (verdict (submitTests m n e more)) ≡ true → Fit m n e × (accepts (verdict more) ≡ true)
+pub submit-fit : (m : Model) (n e : ℕ) (more : List (Bool × Refusal)) → accepts (verdict (submitTests m n e more)) ≡ true
+    → Fit m n e × (accepts (verdict more) ≡ true)
 submit-fit m n e more h =
     let a = passed (outside 1 (m .settings .nodes) n) refusal.NodesOutOfRange _ refl h in
     let b = passed (outside 1 (longest (m .settings)) e) refusal.MinutesOutOfRange _ refl (a .1) in
@@ -123,7 +126,8 @@ submit-fit m n e more h =
       d .1,
     )
 
-pub sound-join : (m : Model) (n e : ℕ) (j : Job) → Sound m → Fit m n e → SoundJob (m .settings) (m .clock) j → j .ticket ≡ m .next → nodesHeld (m .jobs) + held j ≤ m .settings .nodes → Sound (joined m j)
+pub sound-join : (m : Model) (n e : ℕ) (j : Job) → Sound m → Fit m n e → SoundJob (m .settings) (m .clock) j → j .ticket ≡ m .next
+    → nodesHeld (m .jobs) + held j ≤ m .settings .nodes → Sound (joined m j)
 sound-join m n e j s f sj t c = record {
   nodes-from = s .nodes-from;
   nodes-to = s .nodes-to;
@@ -173,7 +177,8 @@ leaving-clock m c s (early t) = omega arith
 leaving-clock m c s (in-time h) = omega arith
 
 -- a running job that stays has not ended
-pub leaving-time : (m : Model) (c : ℕ) (s : Select) → Leaving m c s → (j : Job) → isRunning j ≡ true → m .clock < until (m .settings) j → picks s j ≡ false → c < until (m .settings) j
+pub leaving-time : (m : Model) (c : ℕ) (s : Select) → Leaving m c s → (j : Job) → isRunning j ≡ true → m .clock < until (m .settings) j
+    → picks s j ≡ false → c < until (m .settings) j
 leaving-time m c s l j r u e = go l e
   where
     go : {c : ℕ} {s : Select} → Leaving m c s → picks s j ≡ false → c < until (m .settings) j

@@ -47,8 +47,13 @@ module _ (m : Model) (v : Valid m) where
   unchanged-is r = rw (unchanged-refuses m r) (refl, refl)
 
   made-is : {c : Call} {a : Answer} {e : Scheduler} → Made (store m) c a e → (e ≡ store (call m c .model)) × (a ≡ answer (call m c .reply))
-  made-is (byValue {c} q) = let p = q ∙ ap (λ (x : Model). outcome (call x c)) (valid-view m v) in (ap (λ (o : Outcome). o .scheduler) p, ap (λ (o : Outcome). o .answer) p)
-  made-is (onLent {c} l) = (l .leaves ∙ ap (λ (x : Model). store (call x c .model)) (valid-view m v), l .answers ∙ ap (λ (x : Model). answer (call x c .reply)) (valid-view m v))
+  made-is (byValue {c} q) = let p = q ∙ ap (λ (x : Model). outcome (call x c)) (valid-view m v) in
+      (ap (λ (o : Outcome). o .scheduler) p, ap (λ (o : Outcome). o .answer) p)
+  made-is (onLent {c} l) = (
+    l .leaves ∙ ap (λ (x : Model). store (call x c .model)) (valid-view m v),
+    l .answers
+        ∙ ap (λ (x : Model). answer (call x c .reply)) (valid-view m v),
+  )
   made-is (profileByValue room {p} e) = unchanged-is (p .answer .refusal)
   made-is (profileOnLent {lent} {after} {s} w) = unchanged-is (s .refusal)
   made-is (waitRefused {r} minutes e n) = unchanged-is r
@@ -56,6 +61,7 @@ module _ (m : Model) (v : Valid m) where
 -- From the scheduler that an opening hands back, a refused one too: scheduler and answers are those of the list of calls, and the book of
 -- the calls made and the answers received has the guarantees (document 01: "demand 3").
 pub mixed-keeps : (o : Opening) (cs : List Call) (xs : List Answer) (e : Scheduler) → MadeAll Made (opened o .scheduler) cs xs e
-    → (e ≡ store (after call (opening o) cs)) × (xs ≡ map answerOf (events call (opening o) cs)) × Guarantee (o .kind) (opening o .settings .nodes) (bookOf (opening o) (eventsOf cs (map replyOf xs)))
+    → (e ≡ store (after call (opening o) cs)) × (xs ≡ map answerOf (events call (opening o) cs))
+    × Guarantee (o .kind) (opening o .settings .nodes) (bookOf (opening o) (eventsOf cs (map replyOf xs)))
 unfolding opened
 mixed-keeps o cs xs e l = made-keeps Made store answer replyOf (λ m c a d v. made-is m v) reply-back o l

@@ -1,14 +1,17 @@
 -- A lent slice of structs, whose first elements are written:
 --     pub fn f(points: &mut [R], x: X, ..) -> N { let s = g(points.len(), x, ..); let mut i = 0; while i < s.n { points[i] = at(s, i); i += 1; } s.answer }
--- `g(room: usize, x: X, ..) -> S` and `at(s: S, i: usize) -> R` are by value. S is a struct whose field 0 is the count, a usize, and whose field 1 is the answer; the others are what `at` reads. A g that refuses says the count 0.
+-- `g(room: usize, x: X, ..) -> S` and `at(s: S, i: usize) -> R` are by value. S is a struct whose field 0 is the count, a usize, and whose
+-- field 1 is the answer; the others are what `at` reads. A g that refuses says the count 0.
 -- With a struct d besides, that is lent by `&` and that g takes by value, `g(*d, points.len())`, it is `fills-ds` (`Fills_ds.antt`).
--- It walks the MIR of that body once, for every R, D, N, S and X of plain data and for contracts of at most one `requires { ⌜ ⌝ }` and of one `ensures { λ r. ⌜ ⌝ }` each:
+-- It walks the MIR of that body once, for every R, D, N, S and X of plain data and for contracts of at most one `requires { ⌜ ⌝ }` and of
+-- one `ensures { λ r. ⌜ ⌝ }` each:
 --     t, u, w              whether f, g and `at` have a `requires`
 --     Pre n x ..           what f requires, n being the slice's length. g requires the same at its room. Where f has none, `free` shows it
 --     Ret n x .. s         what g ensures of its result s
 --     At s i, elem s i     what `at` requires, and the element that it ensures: `r ≡ elem s i`
 --     Ens ys x .. a zs     what f ensures: ys is the list on entry, a the answer, and zs the list at exit
---     fit, at-pre, shows   the count is at most the room; `at` may be called below the count; and Ens holds at `filled (count s) (elem s) ys`: the elements, and the rest of ys
+-- fit, at-pre, shows the count is at most the room; `at` may be called below the count; and Ens holds at `filled (count s) (elem s) ys`:
+-- the elements, and the rest of ys
 --     small                `tt`: the size of an R is a usize
 -- R is of more than one byte: of one byte, the MIR computes no offset. It says nothing of the crate, and can be copied as it stands.
 -- Assumes nothing.
@@ -44,7 +47,8 @@ pub record Sheet (N : Flat) : Type 2 where
   pub tells : Tells sheet (Is sheet) (λ s. vstruct (vcons (vint w64 (count s)) (vcons (N .val (answer s)) (rest s))) ∷ [])
   pub is-answer : (s : sheet .Denot) (vs : List Val) → Is sheet s vs → Is (rowOf N) (answer s) (N .val (answer s) ∷ [])
   pub count-fits : (s : sheet .Denot) (vs : List Val) → Is sheet s vs → count s < 2 ^ 64
-  pub typed : {M : Type 1} (𝓤 : URA M) (H : Heap 𝓤) (A : Atoms 𝓤) (W : Given 𝓤 H A) (s : sheet .Denot) (v : Val) → Is sheet s (v ∷ []) → T (hasTy (tyStruct name (tcons (tyInt w64) (tcons (N .ty) others))) v) × WT v
+  pub typed : {M : Type 1} (𝓤 : URA M) (H : Heap 𝓤) (A : Atoms 𝓤) (W : Given 𝓤 H A) (s : sheet .Denot) (v : Val) → Is sheet s (v ∷ [])
+      → T (hasTy (tyStruct name (tcons (tyInt w64) (tcons (N .ty) others))) v) × WT v
   pub makes : {M : Type 1} (𝓤 : URA M) (H : Heap 𝓤) (A : Atoms 𝓤) (W : Given 𝓤 H A) → Makes 𝓤 H A sheet (Is sheet)
 
 -- ---- what is written: the first n elements are f 0, f 1, .., and the rest are as they were

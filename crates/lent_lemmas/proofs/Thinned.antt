@@ -35,7 +35,8 @@ use denote.Triple.Clauses.{Ended, Clauses, closing, ensured, lasts}
 use denote.Triple.Walked.{says, Stays, stay-ref, walkOf, goes-ref, ends-at, walked}
 use denote.Exit.{yes}
 use Rattle.lent_lemmas.proofs.Thin.{Flat, rowOf, FlatLaws, Two, two-ty, asks, asked, tells-it}
-use Rattle.lent_lemmas.proofs.Params.{Param, after, then-locals, copies, slots, keeps, stays, go, Values, spells, Known, tell, lasting, fitting, on, known-on, machine, owning, keeping, owned-all, kept-all}
+use Rattle.lent_lemmas.proofs.Params.{Param, after, then-locals, copies, slots, keeps, stays, go, Values, spells, Known, tell}
+use Rattle.lent_lemmas.proofs.Params.{lasting, fitting, on, known-on, machine, owning, keeping, owned-all, kept-all}
 use Rattle.lent_lemmas.proofs.Body.{Walk, Theorem, enters}
 
 module _ {D : Declared} {L : LL.Laws D} {N : Flat} (LN : FlatLaws N) (S : Two N D L) (Ps : List Param) (f : Name) (t u : Bool)

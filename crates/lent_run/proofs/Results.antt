@@ -33,7 +33,8 @@ outcome-built = record {
 }
 
 -- an array of points as a field: each element's relation is at its tuple
-as-field : (ys : List Point) (us : List Val) → shadow (each Point (R.the-row .own) ys us) → shadow (each (R.the-field .row .Denot) (R.the-field .row .own) (map (R.the-field .into) ys) us)
+as-field : (ys : List Point) (us : List Val) → shadow (each Point (R.the-row .own) ys us)
+    → shadow (each (R.the-field .row .Denot) (R.the-field .row .own) (map (R.the-field .into) ys) us)
 as-field [] [] s = s
 as-field [] (u ∷ us) s = s
 as-field (y ∷ ys) [] s = s
@@ -42,10 +43,12 @@ as-field (y ∷ ys) (u ∷ us) s = (s .0, as-field ys us (s .1))
 is-field : (m : ℕ) (ys : List Point) (vy : Val) → Is (Array R.the-row m) ys (vy ∷ []) → Is (Array (R.the-field .row) m) (map (R.the-field .into) ys) (vy ∷ [])
 is-field m ys vy is = (is .0, ((is .1 .0 .0, length-map ys (R.the-field .into) ∙ is .1 .0 .1), as-field ys (is .0) (is .1 .1)))
 
-pub none-made : (a : Shown) (va : Val) (ys : List Point) (vy : Val) → Is (rowOf shown) a (va ∷ []) → Is (Array R.the-row 0) ys (vy ∷ []) → Is N.the-row (record { answer = a; points = ys }) (vstruct (vcons va (vcons vy vnil)) ∷ [])
+pub none-made : (a : Shown) (va : Val) (ys : List Point) (vy : Val) → Is (rowOf shown) a (va ∷ []) → Is (Array R.the-row 0) ys (vy ∷ [])
+    → Is N.the-row (record { answer = a; points = ys }) (vstruct (vcons va (vcons vy vnil)) ∷ [])
 none-made a va ys vy isa isy = ((va ∷ [], (vy ∷ [], tt)), (refl, (isa, (is-field 0 ys vy isy, tt))))
 
-pub four-made : (a : Shown) (va : Val) (ys : List Point) (vy : Val) → Is (rowOf shown) a (va ∷ []) → Is (Array R.the-row 4) ys (vy ∷ []) → Is F.the-row (record { answer = a; points = ys }) (vstruct (vcons va (vcons vy vnil)) ∷ [])
+pub four-made : (a : Shown) (va : Val) (ys : List Point) (vy : Val) → Is (rowOf shown) a (va ∷ []) → Is (Array R.the-row 4) ys (vy ∷ [])
+    → Is F.the-row (record { answer = a; points = ys }) (vstruct (vcons va (vcons vy vnil)) ∷ [])
 four-made a va ys vy isa isy = ((va ∷ [], (vy ∷ [], tt)), (refl, (isa, (is-field 4 ys vy isy, tt))))
 
 abbrev pub none-holds : HoldsArray shown R.the-type 0

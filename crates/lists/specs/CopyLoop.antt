@@ -17,7 +17,8 @@ module _ {A B : Type 0} (f : A → B) (z : A) (b : B) (n : ℕ) (xs : List A) wh
   pub copied-more : (i : ℕ) (y : B) → length xs ≡ n → i < n → y ≡ f (getD xs i z) → set (copied i) i y ≡ copied (i + 1)
   copied-more i y len h e =
       let k : length (map f (take i xs)) ≡ i = length-map (take i xs) f ∙ length-take-le i xs (omega arith) in
-      let more : map f (take (i + 1) xs) ≡ map f (take i xs) ++ (f (getD xs i z) ∷ []) = rw (add-one, take-suc xs i z (omega arith)) (map-append f (take i xs) (getD xs i z ∷ [])) in
+      let more : map f (take (i + 1) xs) ≡ map f (take i xs) ++ (f (getD xs i z) ∷ []) =
+      rw (add-one, take-suc xs i z (omega arith)) (map-append f (take i xs) (getD xs i z ∷ [])) in
       rw (more, e) (pad-push n b (map f (take i xs)) (f (getD xs i z)) i k h)
 
   pub copied-all : (i : ℕ) → length xs ≡ n → n ≤ i → copied i ≡ map f xs

@@ -47,22 +47,26 @@ module _ {A : Type 0} (z : A) where
     position-end h = rw (drop-of-length-le xs h)
 
   -- selections
-  pub keep-take-yes : (p : A → Bool) (xs : List A) (i : ℕ) → i < length xs → p (getD xs i z) ≡ true → keep p (take (i + 1) xs) ≡ keep p (take i xs) ++ (getD xs i z ∷ [])
+  pub keep-take-yes : (p : A → Bool) (xs : List A) (i : ℕ) → i < length xs → p (getD xs i z) ≡ true
+      → keep p (take (i + 1) xs) ≡ keep p (take i xs) ++ (getD xs i z ∷ [])
   keep-take-yes p xs i h t = rw (add-one, take-suc xs i z h, keep-append, t)
 
   pub keep-take-no : (p : A → Bool) (xs : List A) (i : ℕ) → i < length xs → p (getD xs i z) ≡ false → keep p (take (i + 1) xs) ≡ keep p (take i xs)
   keep-take-no p xs i h t = rw (add-one, take-suc xs i z h, keep-append, t) (append-nil (keep p (take i xs)))
 
   -- a loop that puts f of each element in its place
-  mapped-more : (f : A → A) (xs : List A) (i : ℕ) → i < length xs → map f (take i xs) ++ (f (getD xs i z) ∷ drop (i + 1) xs) ≡ map f (take (i + 1) xs) ++ drop (i + 1) xs
+  mapped-more : (f : A → A) (xs : List A) (i : ℕ) → i < length xs
+      → map f (take i xs) ++ (f (getD xs i z) ∷ drop (i + 1) xs) ≡ map f (take (i + 1) xs) ++ drop (i + 1) xs
   mapped-more f xs i h = rw (add-one, take-suc xs i z h, map-append f (take i xs) (getD xs i z ∷ []), append-assoc)
 
-  pub mapped-set : (f : A → A) (xs : List A) (i : ℕ) (y : A) → i < length xs → y ≡ f (getD xs i z) → set (map f (take i xs) ++ drop i xs) i y ≡ map f (take (i + 1) xs) ++ drop (i + 1) xs
+  pub mapped-set : (f : A → A) (xs : List A) (i : ℕ) (y : A) → i < length xs → y ≡ f (getD xs i z)
+      → set (map f (take i xs) ++ drop i xs) i y ≡ map f (take (i + 1) xs) ++ drop (i + 1) xs
   mapped-set f xs i y h e =
       let n : length (map f (take i xs)) ≡ i = length-map (take i xs) f ∙ length-take-le i xs (omega arith) in
       rw (drop-cons xs i z h, set-at (map f (take i xs)) (getD xs i z) (drop (suc i) xs) y i n, e, ← add-one i) (mapped-more f xs i h)
 
-  pub mapped-skip : (f : A → A) (xs : List A) (i : ℕ) → i < length xs → f (getD xs i z) ≡ getD xs i z → map f (take i xs) ++ drop i xs ≡ map f (take (i + 1) xs) ++ drop (i + 1) xs
+  pub mapped-skip : (f : A → A) (xs : List A) (i : ℕ) → i < length xs → f (getD xs i z) ≡ getD xs i z
+      → map f (take i xs) ++ drop i xs ≡ map f (take (i + 1) xs) ++ drop (i + 1) xs
   mapped-skip f xs i h e =
       ap (λ (l : List A). map f (take i xs) ++ l) (drop-cons xs i z h ∙ ap (λ (n : ℕ). getD xs i z ∷ drop n xs) (sym (add-one i)))
       ∙ ap (λ (x : A). map f (take i xs) ++ (x ∷ drop (i + 1) xs)) (sym e)

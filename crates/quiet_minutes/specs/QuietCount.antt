@@ -60,7 +60,8 @@ asked-none d most k l u = record { to = omega arith; few = l; within = λ h. in-
         go (inl a) = absurd (omega (arith, u a))
         go (inr a) = omega arith
 
-pub asked-more : (d : Scheduler) (most k r i : ℕ) → length (d .jobs) ≡ slots → i < slots → Asked d most k i → r ≤ k → QuietFor (d .clock) r (getD (d .jobs) i unused) → Asked d most r (i + 1)
+pub asked-more : (d : Scheduler) (most k r i : ℕ) → length (d .jobs) ≡ slots → i < slots → Asked d most k i → r ≤ k
+    → QuietFor (d .clock) r (getD (d .jobs) i unused) → Asked d most r (i + 1)
 asked-more d most k r i len l a s q = record {
   to = omega arith;
   few = omega (arith, a .few);
@@ -77,5 +78,6 @@ unfolding view
 asked-all d most k i len l a = record {
   few = a .few;
   within = a .within;
-  quiet = λ j x. all-in (QuietFor (d .clock) k) (subst (All (QuietFor (d .clock) k)) (take-all i (d .jobs) (omega arith)) (a .quiet)) (keep-in isLive (d .jobs) x .0);
+  quiet = λ j x. all-in (QuietFor (d .clock) k) (subst (All (QuietFor (d .clock) k)) (take-all i (d .jobs) (omega arith)) (a .quiet))
+      (keep-in isLive (d .jobs) x .0);
 }

@@ -45,7 +45,8 @@ module _ (m : Model) (v : Valid m) (l : suc (m .clock) ≤ horizon) (q : (j : Jo
   by-kind Easy w = easy.quiet-tick m w l (none-any (picks (select.EndingAt (suc (m .clock)))) (m .jobs) stays)
 
   pub quiet-tick : call m tick ≡ record { reply = refusing refusal.None; model = passed m 1 }
-  quiet-tick = by-kind (m .settings .kind) v ∙ (λ i. record { reply = refusing refusal.None; model = record { settings = m .settings; clock = next i; next = m .next; jobs = m .jobs } })
+  quiet-tick = by-kind (m .settings .kind) v
+      ∙ (λ i. record { reply = refusing refusal.None; model = record { settings = m .settings; clock = next i; next = m .next; jobs = m .jobs } })
     where
       next : suc (m .clock) ≡ m .clock + 1
       next = omega arith

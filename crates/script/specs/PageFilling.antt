@@ -58,12 +58,14 @@ filling-none s p page r = record {
 }
 
 -- the bytes up to the end of what was written are those before it and what was written
-wrote-take : {most : ℕ} {page bytes after : List ℕ} {at end : ℕ} → Wrote most page at bytes after end → at + most ≤ length page → take end after ≡ take at page ++ bytes
+wrote-take : {most : ℕ} {page bytes after : List ℕ} {at end : ℕ} → Wrote most page at bytes after end → at + most ≤ length page
+    → take end after ≡ take at page ++ bytes
 wrote-take {most} {page} {bytes} {after} {at} {end} w h =
     let low : at ≤ length page = omega arith in
     (λ i. take (w .place i) (w .left i))
     ∙ ap (take (at + length bytes)) (sets-eq bytes page at (omega (arith, w .few)))
-    ∙ take-at (take at page ++ bytes) (drop (at + length bytes) page) (at + length bytes) (length-append (take at page) bytes ∙ ap (λ (n : ℕ). n + length bytes) (length-take-le at page low))
+    ∙ take-at (take at page ++ bytes) (drop (at + length bytes) page) (at + length bytes)
+    (length-append (take at page) bytes ∙ ap (λ (n : ℕ). n + length bytes) (length-take-le at page low))
 
 -- a script that goes on has something to play
 goes-by : (g : Stage) (s : List ℕ) (p : Play) → goesOn g ≡ true → 0 < weightBy g s p
@@ -124,8 +126,10 @@ module _ {s : List ℕ} {first p : Play} {size at : ℕ} {page : List ℕ} (f : 
   filled-over e = filled-by (λ g. omega (arith, over-none (p .stage) s p e, goes-by (first .stage) s first g))
 
 -- of a script that is being played
-pub filled-as : {s : List ℕ} {p : Play} {page : List ℕ} {r : Played} → p .stage ≡ Playing → Filled s (going (p .at) (p .steps) (p .scheduler)) page r → Filled s p page r
-filled-as {s} {p} {page} {r} e f = subst (λ (q : Play). Filled s q page r) (λ i. record { stage = sym e i; at = p .at; steps = p .steps; scheduler = p .scheduler }) f
+pub filled-as : {s : List ℕ} {p : Play} {page : List ℕ} {r : Played} → p .stage ≡ Playing → Filled s (going (p .at) (p .steps) (p .scheduler)) page r
+    → Filled s p page r
+filled-as {s} {p} {page} {r} e f = subst (λ (q : Play). Filled s q page r)
+    (λ i. record { stage = sym e i; at = p .at; steps = p .steps; scheduler = p .scheduler }) f
 
 -- one turn alone
 pub filled-once : {s : List ℕ} {p : Play} {page after : List ℕ} {r : Played}

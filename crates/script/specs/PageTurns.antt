@@ -96,7 +96,8 @@ module _ (s : List ℕ) (p : Play) where
     first-none h = rw (le-ltb longestScript (length s) short, le-leb (length s) (p .at) h)
 
     module _ (some-left : p .at < length s) (l : Line) (e : l ≡ lineAt s (p .at)) where
-      pub first-closed : l .closed ≡ true → (f : FirstLine) → opens f ≡ openingIn (take (l .end - p .at) (drop (p .at) s)) → openingPiece p (l .end + 1) (opens f) ≡ firstPiece s p
+      pub first-closed : l .closed ≡ true → (f : FirstLine) → opens f ≡ openingIn (take (l .end - p .at) (drop (p .at) s))
+          → openingPiece p (l .end + 1) (opens f) ≡ firstPiece s p
       unfolding firstPiece
       first-closed c f h =
           let d : lineAt s (p .at) .closed ≡ true = sym (ap (λ (x : Line). x .closed) e) ∙ c in
@@ -134,7 +135,8 @@ module _ (s : List ℕ) (at : ℕ) where
   comes-over h = record { piece-is = λ d. rw (le-leb (length s) at h) }
 
   module _ (some-left : at < length s) (l : Line) (e : l ≡ lineAt s at) where
-    pub comes-closed : l .closed ≡ true → (a : Asked) → asks a ≡ commandIn (take (l .end - at) (drop at s)) → Comes s at 0 (record { turn = turn.Asks a; at = l .end + 1; steps = 0 })
+    pub comes-closed : l .closed ≡ true → (a : Asked) → asks a ≡ commandIn (take (l .end - at) (drop at s))
+        → Comes s at 0 (record { turn = turn.Asks a; at = l .end + 1; steps = 0 })
     unfolding laterPiece
     comes-closed c a g =
         let x : lineAt s at .closed ≡ true = sym (ap (λ (y : Line). y .closed) e) ∙ c in
@@ -160,7 +162,8 @@ module _ (d : Scheduler) (c : Call) (r : Outcome) (e : r ≡ outcome (call (view
       store
   call-piece next steps =
       ap (λ (x : Outcome). piece (answerText (d .kind) (x .scheduler .clock) (x .answer)) (going next steps (x .scheduler))) e
-      ∙ ap (λ t. piece t (going next steps (outcome (call (view d) c) .scheduler))) (answer-text (d .kind) (call (view d) c .model .clock) (call (view d) c .reply))
+      ∙ ap (λ t. piece t (going next steps (outcome (call (view d) c) .scheduler)))
+      (answer-text (d .kind) (call (view d) c .model .clock) (call (view d) c .reply))
 
   pub call-few : Premise d → (r .answer .ended .count ≤ 64) × (r .answer .started .count ≤ 64)
   unfolding tickets
@@ -203,5 +206,6 @@ module _ (s : List ℕ) (at steps : ℕ) (d : Scheduler) (n : Next) (comes : Com
           → Turned here page out after (record { end = end; play = going (n .at) (n .steps) d })
       refused-turned h v =
           let b : accepts (waitRefusal (view d) minutes) ≡ false = sym (ap accepts g) ∙ h in
-          let refused : piece (noRow (code (waitRefusal (view d) minutes))) (going (n .at) (n .steps) d) ≡ commandPiece (n .at) (n .steps) d (some (wait minutes)) = rw b in
+          let refused : piece (noRow (code (waitRefusal (view d) minutes))) (going (n .at) (n .steps) d) ≡ commandPiece (n .at) (n .steps) d
+          (some (wait minutes)) = rw b in
           turned-as (ap (λ (x : Refusal). piece (noRow (code x)) (going (n .at) (n .steps) d)) g ∙ refused ∙ asked-piece _ f) (turned _ v)

@@ -15,7 +15,8 @@ use Rattle.guarantees.specs.Rules.{call}
 use Rattle.guarantees.specs.Premise.{Premise, Valid, premise-sound}
 use Rattle.guarantees.specs.Chain.{handed}
 use Rattle.quiet_minutes.specs.DueMinutes.{Quiet}
-use Rattle.quiet_minutes.specs.QuietTicks.{passed, quiet-tick, tick-valid, quiet-next, quiet-rest, passed-none, passed-more, passedOver, passed-premise, passed-handed}
+use Rattle.quiet_minutes.specs.QuietTicks.{passed, quiet-tick, tick-valid, quiet-next, quiet-rest, passed-none, passed-more, passedOver}
+use Rattle.quiet_minutes.specs.QuietTicks.{passed-premise, passed-handed}
 use Rattle.quiet_minutes.specs.QuietCount.{Ahead}
 use Rattle.script_rules.specs.Lines.{linesOf}
 use Rattle.script_rules.specs.Writing.{textOf, taken, rowsOf}
@@ -44,10 +45,12 @@ nothing-told k t = refl
 
 module _ (s : List ℕ) (at : ℕ) where
   -- one quiet minute
-  one-less : (m : Model) (n : ℕ) → call m tick ≡ record { reply = refusing refusal.None; model = passed m 1 } → fromHere s at (suc n) m ≡ fromHere s at n (passed m 1)
+  one-less : (m : Model) (n : ℕ) → call m tick ≡ record { reply = refusing refusal.None; model = passed m 1 }
+      → fromHere s at (suc n) m ≡ fromHere s at n (passed m 1)
   unfolding printedAll
   one-less m n e =
-      ap (λ (t : List ℕ). (t ++ printedAll (call m tick .model) (replicate n tick)) ++ played (after call (call m tick .model) (replicate n tick)) (linesOf (drop at s)))
+      ap (λ (t : List ℕ). (t ++ printedAll (call m tick .model) (replicate n tick)) ++ played (after call (call m tick .model) (replicate n tick))
+      (linesOf (drop at s)))
       (ap (λ (r : Result). textOf (m .settings .kind) (r .model .clock) (r .reply)) e ∙ nothing-told (m .settings .kind) (m .clock + 1))
       ∙ ap (λ (r : Result). fromHere s at n (r .model)) e
 
@@ -76,7 +79,8 @@ module _ (p : Play) (h : Premise (p .scheduler)) {k : ℕ} (a : Ahead (p .schedu
   left-same First s = refl
   left-same Playing s =
       let e : k + (p .steps - k) ≡ p .steps = omega (arith, a .few) in
-      sym (quiet-left s (p .at) k (p .steps - k) (view (p .scheduler)) (h .holds) in-time (a .quiet)) ∙ ap (λ (i : ℕ). fromHere s (p .at) i (view (p .scheduler))) e
+      sym (quiet-left s (p .at) k (p .steps - k) (view (p .scheduler)) (h .holds) in-time (a .quiet))
+      ∙ ap (λ (i : ℕ). fromHere s (p .at) i (view (p .scheduler))) e
   left-same Over s = refl
 
   pub passes-quiet : PassesOver p passedBy

@@ -74,7 +74,8 @@ module _ (s : List ℕ) (at : ℕ) where
       rw e (lines-closed t (omega (arith, size, k)) ∙ (λ i. record { bytes = sym line-bytes i; closed = true } ∷ linesOf (rest i))))
       (λ e.
       let k = ltb-false (at + n) (length s) e in
-      rw e (lines-unclosed t (omega (arith, size)) (omega (arith, size, k)) ∙ (λ i. record { bytes = sym line-bytes i; closed = false } ∷ sym (lines-done s (at + n) k) i)))
+      rw e (lines-unclosed t (omega (arith, size)) (omega (arith, size, k))
+      ∙ (λ i. record { bytes = sym line-bytes i; closed = false } ∷ sym (lines-done s (at + n) k) i)))
 
 -- ## Each piece is the first part of what is left
 
@@ -99,7 +100,8 @@ module _ (s : List ℕ) where
         ≡ commandPiece at 0 d q .text ++ left s (commandPiece at 0 d q .play)
     unfolding printedAll
     by-command none = refl
-    by-command (some (ask c)) = ap (λ t. t ++ played (call (view d) c .model) (linesOf (drop at s))) (append-nil (printed (view d) c)) ∙ ap (λ t. printed (view d) c ++ t) (by-call 0 c)
+    by-command (some (ask c)) = ap (λ t. t ++ played (call (view d) c .model) (linesOf (drop at s))) (append-nil (printed (view d) c))
+        ∙ ap (λ t. printed (view d) c ++ t) (by-call 0 c)
     by-command (some (wait n)) =
         case (accepts (waitRefusal (view d) n))
         (λ e. rw e)
@@ -136,12 +138,14 @@ module _ (s : List ℕ) where
   by-steps zero p h =
       case (leb (length s) (p .at))
       (λ q. rw q (ap (played (view (p .scheduler))) (lines-done s (p .at) (leb-true (length s) (p .at) q))))
-      (λ q. rw q (ap (played (view (p .scheduler))) (lines-from s (p .at) (leb-false (length s) (p .at) q)) ∙ by-command (past s (p .at)) (p .scheduler) h (commandOf (lineOf s (p .at)))))
+      (λ q. rw q (ap (played (view (p .scheduler))) (lines-from s (p .at) (leb-false (length s) (p .at) q))
+      ∙ by-command (past s (p .at)) (p .scheduler) h (commandOf (lineOf s (p .at)))))
   by-steps (suc n) p h =
       let m = view (p .scheduler) in
       let some-left : suc n ≡ 0 → ⊥ = λ q. omega arith in
       let back : suc n - 1 ≡ n = omega arith in
-      rw (ne-eqb (suc n) 0 some-left, back) (append-assoc (printed m tick) (printedAll (call m tick .model) (replicate n tick)) _ ∙ ap (λ t. printed m tick ++ t) (by-call (p .at) (p .scheduler) h n tick))
+      rw (ne-eqb (suc n) 0 some-left, back) (append-assoc (printed m tick) (printedAll (call m tick .model) (replicate n tick)) _
+      ∙ ap (λ t. printed m tick ++ t) (by-call (p .at) (p .scheduler) h n tick))
 
   by-later : (p : Play) → Premise (p .scheduler) → leftBy Playing s p ≡ laterPiece s p .text ++ left s (laterPiece s p .play)
   unfolding laterPiece

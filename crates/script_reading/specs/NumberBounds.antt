@@ -71,7 +71,8 @@ command-small s =
     (any-field SmallCommand s 1 _ (λ n small-n. any-field SmallCommand s 2 _ (λ e small-e. any-some SmallCommand (ask (submit n e)) (small-n, small-e))))
     (any-cond SmallCommand (hasForm s 2 endWord) _ _
     (any-field SmallCommand s 1 _ (λ t small-t. any-some SmallCommand (ask (complete t)) small-t))
-    (any-cond SmallCommand (hasForm s 2 waitWord) _ none (any-field SmallCommand s 1 _ (λ n small-n. any-some SmallCommand (wait n) small-n)) (any-none SmallCommand)))
+    (any-cond SmallCommand (hasForm s 2 waitWord) _ none (any-field SmallCommand s 1 _ (λ n small-n. any-some SmallCommand (wait n) small-n))
+    (any-none SmallCommand)))
 
 -- of a wait
 pub wait-small : (s : List ℕ) (n : ℕ) → commandIn s ≡ some (wait n) → n ≤ 9999999

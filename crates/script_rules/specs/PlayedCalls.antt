@@ -104,7 +104,8 @@ pub tells : (m : Model) (ls : List Line) → told (items m ls) ≡ events call m
 tells m [] = refl
 tells m (l ∷ ls) = line (commandOf l) (tells (after call m (calledBy m (commandOf l))) ls)
   where
-    line : (q : Option Command) → told (items (after call m (calledBy m q)) ls) ≡ events call (after call m (calledBy m q)) (allCalls call (after call m (calledBy m q)) (commands ls))
+    line : (q : Option Command) → told (items (after call m (calledBy m q)) ls) ≡ events call (after call m (calledBy m q))
+        (allCalls call (after call m (calledBy m q)) (commands ls))
         → told (itemsBy m q ++ items (after call m (calledBy m q)) ls) ≡ events call m (allCalls call m (andCommand q (commands ls)))
     line none e = e
     line (some q) e =

@@ -25,7 +25,8 @@ module _ (w : List ℕ) (m : ℕ) where
       → rowsOf w m (take (i + 1) ts) ≡ rowsOf w m (take i ts) ++ row w (decimalOf (getD ts i 0)) (decimalOf m)
   unfolding rowsOf
   rows-more ts i h =
-      rw (add-one, take-suc ts i 0 h, rows-append) (ap (λ (l : List ℕ). rowsOf w m (take i ts) ++ l) (append-nil (row w (decimalOf (getD ts i 0)) (decimalOf m))))
+      rw (add-one, take-suc ts i 0 h, rows-append)
+      (ap (λ (l : List ℕ). rowsOf w m (take i ts) ++ l) (append-nil (row w (decimalOf (getD ts i 0)) (decimalOf m))))
 
 -- of rows with at most l bytes each: one more
 pub one-row : (l i n : ℕ) → i < n → l * i + l ≤ l * n

@@ -76,7 +76,8 @@ module _ (f : ℕ → ℕ) (now : ℕ) where
       let k : ℕ = suc a - now in
       let j : ℕ = b - suc a in
       let e : b - now ≡ k + j = omega arith in
-      let none : keep (changes f now) (minutes (now + k) j) ≡ [] = keep-none (changes f now) (minutes (now + k) j) (λ t i. quiet t (in-minutes (now + k) j i)) in
+      let none : keep (changes f now) (minutes (now + k) j) ≡ [] =
+      keep-none (changes f now) (minutes (now + k) j) (λ t i. quiet t (in-minutes (now + k) j i)) in
       rw (e, points-append k j, none) (append-nil (points f now k))
     where
       quiet : (t : ℕ) → (now + (suc a - now) ≤ t) × (t < now + (suc a - now) + (b - suc a)) → changes f now t ≡ false
@@ -226,7 +227,12 @@ one-more N x xs now t l =
 pub points-length : (N : ℕ) (xs : List Span) (now k : ℕ) → length (points (free N xs) now k) ≤ 1 + 2 * length xs
 unfolding points
 points-length N xs now k =
-    omega (arith, length-map (keep (changes (free N xs) now) (minutes now k)) (point (free N xs)), length-keep (changes (free N xs) now) (minutes now k), count xs)
+    omega (
+      arith,
+      length-map (keep (changes (free N xs) now) (minutes now k)) (point (free N xs)),
+      length-keep (changes (free N xs) now) (minutes now k),
+      count xs,
+    )
   where
     mark : List Span → ℕ → ℕ
     mark xs t = on (changes (free N xs) now t) 1
@@ -260,11 +266,13 @@ profile-length N xs now = points-length N xs now (suc (lastEnd xs - now))
 -- free nodes that agree from now on have the same points
 point-same : (f g : ℕ → ℕ) (now : ℕ) (p : Point) → ((t : ℕ) → now ≤ t → f t ≡ g t) → IsPoint f now p → IsPoint g now p
 point-same f g now p same i =
-    let low : now ≤ p .minute = ⊎-elim (λ (q : p .minute ≡ now). omega arith) (λ (q : (now < p .minute) × (f (p .minute) ≢ f (p .minute - 1))). omega (arith, q .0)) (i .1) in (
+    let low : now ≤ p .minute = ⊎-elim (λ (q : p .minute ≡ now). omega arith)
+    (λ (q : (now < p .minute) × (f (p .minute) ≢ f (p .minute - 1))). omega (arith, q .0)) (i .1) in (
       i .0 ∙ same (p .minute) low,
       ⊎-elim
           (λ (q : p .minute ≡ now). inl q)
-          (λ (q : (now < p .minute) × (f (p .minute) ≢ f (p .minute - 1))). inr (q .0, λ z. q .1 (same (p .minute) low ∙ z ∙ sym (same (p .minute - 1) (omega (arith, q .0))))))
+          (λ (q : (now < p .minute) × (f (p .minute) ≢ f (p .minute - 1))). inr
+          (q .0, λ z. q .1 (same (p .minute) low ∙ z ∙ sym (same (p .minute - 1) (omega (arith, q .0))))))
           (i .1),
     )
 

@@ -17,6 +17,7 @@ fieldsOf [] = [] ∷ []
 fieldsOf (b ∷ bs) = cond (eqb b 9) ([] ∷ fieldsOf bs) (inFirst b (fieldsOf bs))
 
 -- the field k, counted from 0
--- document 01: "The field reader gives back the part of the line between two tabs, a line's ends counting as tabs. A field past the last is the empty part at the line's end."
+-- document 01: "The field reader gives back the part of the line between two tabs, a line's ends counting as tabs. A field past the last is
+-- the empty part at the line's end."
 abbrev pub fieldOf : List ℕ → ℕ → List ℕ
 fieldOf s k = getD (fieldsOf s) k []

@@ -9,10 +9,12 @@ use borrow.Author.Tests.{leb-true, leb-false}
 use Rattle.walltime.specs.WallTime.{wallTime, roundUp, longest}
 
 -- by which band: what is shown of each band's rounding holds of the wall time
-pub by-band : (P : ℕ → Type 0) (e : ℕ) → (e ≤ 120 → P (roundUp e 5)) → (120 ≤ e → e ≤ 480 → P (roundUp e 10)) → (480 ≤ e → e ≤ 10080 → P (roundUp e 30)) → (10080 ≤ e → P longest) → P (wallTime e)
+pub by-band : (P : ℕ → Type 0) (e : ℕ) → (e ≤ 120 → P (roundUp e 5)) → (120 ≤ e → e ≤ 480 → P (roundUp e 10))
+    → (480 ≤ e → e ≤ 10080 → P (roundUp e 30)) → (10080 ≤ e → P longest) → P (wallTime e)
 by-band P e f g h k = go (leb e 120) refl (leb e 480) refl (leb e 10080) refl
   where
-    go : (a : Bool) → leb e 120 ≡ a → (b : Bool) → leb e 480 ≡ b → (c : Bool) → leb e 10080 ≡ c → P (cond a (roundUp e 5) (cond b (roundUp e 10) (cond c (roundUp e 30) longest)))
+    go : (a : Bool) → leb e 120 ≡ a → (b : Bool) → leb e 480 ≡ b → (c : Bool) → leb e 10080 ≡ c
+        → P (cond a (roundUp e 5) (cond b (roundUp e 10) (cond c (roundUp e 30) longest)))
     go true p b q c r = f (leb-true e 120 p)
     go false p true q c r = g (omega (arith, leb-false e 120 p)) (leb-true e 480 q)
     go false p false q true r = h (omega (arith, leb-false e 480 q)) (leb-true e 10080 r)

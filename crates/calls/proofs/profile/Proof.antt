@@ -19,7 +19,8 @@ profile-of-requires c κs =
 returns : tie.Need-returns
 returns c =
     let s = c .before .before .before .before in
-    c .show .ensures ∙ ap (λ (p : Profile). showIn p (s .args .room)) (c .before .profile-of .ensures) ∙ show-conservative (s .args .d) (s .args .room) (c .before .before .enum-told .given .1)
+    c .show .ensures ∙ ap (λ (p : Profile). showIn p (s .args .room)) (c .before .profile-of .ensures)
+    ∙ show-conservative (s .args .d) (s .args .room) (c .before .before .enum-told .given .1)
 
 returns-2 : tie.Need-returns-2
 returns-2 c =

@@ -20,7 +20,8 @@ replan-all-requires : tie.Need-replan-all-requires
 replan-all-requires c κs =
     let l = c .before .before .before in
     let s = l .before in
-    let a : accepts (completing (view (s .args .d)) (s .args .ticket) .refusal) ≡ true = ap (λ (p : Part). accepts (p .refusal)) (sym (left-is l)) ∙ sym (c .before .is-none .ensures) ∙ c .if1 .taken in
+    let a : accepts (completing (view (s .args .d)) (s .args .ticket) .refusal) ≡ true = ap (λ (p : Part). accepts (p .refusal)) (sym (left-is l))
+    ∙ sym (c .before .is-none .ensures) ∙ c .if1 .taken in
     rw (left-is l) (replannable-held (view (s .args .d)) (s .args .ticket) (s .pre .holds) a)
 
 returns : tie.Need-returns

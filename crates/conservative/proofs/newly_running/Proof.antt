@@ -24,7 +24,8 @@ record Inv (before after : Scheduler) (list : List ℕ) (n i : ℕ) : Type 0 whe
   count-is : n ≡ length (begun (take i (before .jobs)) (take i (after .jobs)))
   list-is : list ≡ pad 64 0 (begun (take i (before .jobs)) (take i (after .jobs)))
 
-module _ {before after : Scheduler} {list : List ℕ} {n i : ℕ} (v : Inv before after list n i) (len₁ : length (before .jobs) ≡ 64) (len₂ : length (after .jobs) ≡ 64) (h : i < 64) where
+module _ {before after : Scheduler} {list : List ℕ} {n i : ℕ} (v : Inv before after list n i) (len₁ : length (before .jobs) ≡ 64)
+    (len₂ : length (after .jobs) ≡ 64) (h : i < 64) where
   abbrev j : Job
   j = getD (before .jobs) i unused
 

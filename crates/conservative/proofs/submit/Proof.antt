@@ -16,15 +16,19 @@ use Rattle.conservative.proofs.submit.Statement.{statement}
 use Rattle.conservative.proofs.submit.Tie as tie
 
 -- the tests that both kinds share
-judged : (c : tie.After-submit-refusal) → c .submit-refusal .result ≡ sharedRefusal (view (c .before .before .args .d)) (c .before .before .args .s .nodes) (c .before .before .args .s .estimate)
+judged : (c : tie.After-submit-refusal) → c .submit-refusal .result ≡ sharedRefusal (view (c .before .before .args .d))
+    (c .before .before .args .s .nodes) (c .before .before .args .s .estimate)
 judged c = c .submit-refusal .ensures _ (known (c .before .before .args .d) _ (c .before .first-unused .ensures))
 
-passed : (c : tie.Then1) → accepts (sharedRefusal (view (c .before .before .before .before .args .d)) (c .before .before .before .before .args .s .nodes) (c .before .before .before .before .args .s .estimate)) ≡ true
+passed : (c : tie.Then1)
+    → accepts (sharedRefusal (view (c .before .before .before .before .args .d)) (c .before .before .before .before .args .s .nodes)
+    (c .before .before .before .before .args .s .estimate)) ≡ true
 passed c = ap accepts (sym (judged (c .before .before))) ∙ sym (c .before .is-none .ensures) ∙ c .if1 .taken
 
 -- the planned start
 start : (c : tie.After-earliest)
-    → c .earliest .result ≡ planned (view (c .before .before .before .before .before .before .args .d)) (c .before .before .before .before .before .before .args .s .nodes) (c .before .before .before .before .before .before .args .s .estimate)
+    → c .earliest .result ≡ planned (view (c .before .before .before .before .before .before .args .d))
+    (c .before .before .before .before .before .before .args .s .nodes) (c .before .before .before .before .before .before .args .s .estimate)
 start c =
     let t = c .before .before in
     let s = t .before .before .before .before in
@@ -40,14 +44,21 @@ earliest-requires c κs =
 add-if2 : tie.Need-add-if2
 add-if2 c =
     let s = c .before .before .before .before .before .before in
-    omega (arith, start c, c .before .wall-time .ensures, planned-low (s .args .d) (s .args .s .nodes) (s .args .s .estimate) (s .pre), wallTime-le (s .args .s .estimate))
+    omega (
+      arith,
+      start c,
+      c .before .wall-time .ensures,
+      planned-low (s .args .d) (s .args .s .nodes) (s .args .s .estimate) (s .pre),
+      wallTime-le (s .args .s .estimate),
+    )
 
 returns : tie.Need-returns
 returns c =
     let g = c .before .before in
     let t = g .before .before in
     let s = t .before .before .before .before in
-    c .refused .ensures ∙ past-held (s .args .d) (s .args .s .nodes) (s .args .s .estimate) (s .pre) (passed t) (omega (arith, start g, g .before .wall-time .ensures, c .before .if2 .taken))
+    c .refused .ensures ∙ past-held (s .args .d) (s .args .s .nodes) (s .args .s .estimate) (s .pre) (passed t)
+    (omega (arith, start g, g .before .wall-time .ensures, c .before .if2 .taken))
 
 accept-requires : tie.Need-accept-requires
 accept-requires c κs =
@@ -63,7 +74,8 @@ returns-2 c =
     let s = f .before in
     c .accept .ensures
     ∙ ap (accepted (s .args .d) (s .args .s .nodes) (s .args .s .estimate) (f .first-unused .result)) (start g)
-    ∙ taken-held (s .args .d) (s .args .s .nodes) (s .args .s .estimate) (s .pre) (passed t) _ (f .first-unused .ensures) (omega (arith, start g, g .before .wall-time .ensures, c .before .if2 .left))
+    ∙ taken-held (s .args .d) (s .args .s .nodes) (s .args .s .estimate) (s .pre) (passed t) _ (f .first-unused .ensures)
+    (omega (arith, start g, g .before .wall-time .ensures, c .before .if2 .left))
 
 returns-3 : tie.Need-returns-3
 returns-3 c =
@@ -72,7 +84,8 @@ returns-3 c =
     let s = j .before .before in
     c .refused2 .ensures
     ∙ ap (refusedOutcome (s .args .d)) (judged j)
-    ∙ tests-held (s .args .d) (s .args .s .nodes) (s .args .s .estimate) (s .pre) (ap accepts (sym (judged j)) ∙ sym (i .is-none .ensures) ∙ c .before .if1 .left)
+    ∙ tests-held (s .args .d) (s .args .s .nodes) (s .args .s .estimate) (s .pre)
+    (ap accepts (sym (judged j)) ∙ sym (i .is-none .ensures) ∙ c .before .if1 .left)
 
 pub submit-spec : {M : Type 1} → statement M
 submit-spec =

@@ -8,13 +8,15 @@ use lib.ListN.{getD}
 use Rattle.walltime.specs.Laws.{wallTime-le}
 use Rattle.scheduler.specs.Jobs.{unused}
 use Rattle.scheduler.specs.Model.{view}
-use Rattle.conservative_plan.specs.PlannedSlots.{Laying, HoldsTo, held-slots, start-low, laying-begin, holds-none, holds-more, holds-skip, lay, laid-more, laid-unused, laid-all}
+use Rattle.conservative_plan.specs.PlannedSlots.{Laying, HoldsTo, held-slots, start-low, laying-begin, holds-none, holds-more}
+use Rattle.conservative_plan.specs.PlannedSlots.{holds-skip, lay, laid-more, laid-unused, laid-all}
 use borrow.Author.Needs.{needs}
 use Rattle.conservative_plan.proofs.tabulate.Statement.{statement}
 use Rattle.conservative_plan.proofs.tabulate.Tie as tie
 
 abbrev Inv-loop : tie.InvT-loop
-Inv-loop minutes₀ free₀ holds₀ d count₀ i₀ minutes free holds count i = (i ≤ 64) × Laying (view d .settings) (d .clock) (d .jobs) i count minutes free × HoldsTo (d .jobs) i holds
+Inv-loop minutes₀ free₀ holds₀ d count₀ i₀ minutes free holds count i = (i ≤ 64) × Laying (view d .settings) (d .clock) (d .jobs) i count minutes free
+    × HoldsTo (d .jobs) i holds
 
 abbrev μ-loop : tie.MeasureT-loop
 μ-loop minutes₀ free₀ holds₀ d count₀ i₀ minutes free holds count i = 64 - i
@@ -30,8 +32,14 @@ loop-holds c =
 
 span-requires : tie.Need-span-requires Inv-loop μ-loop
 span-requires c κs =
-    let s = c .before .before .before .before .before .before .before .before .before .before .before in
-    (start-low (held-slots (s .args .t1) (s .pre .0)) (c .before .before .before .before .before .before .before .loop .i) (omega arith), omega (arith, c .before .before .wall-time .ensures, wallTime-le (getD (s .args .t1 .jobs) (c .before .before .before .before .before .before .before .loop .i) unused .estimate)))
+    let s = c .before .before .before .before .before .before .before .before .before .before .before in (
+      start-low (held-slots (s .args .t1) (s .pre .0)) (c .before .before .before .before .before .before .before .loop .i) (omega arith),
+      omega (
+        arith,
+        c .before .before .wall-time .ensures,
+        wallTime-le (getD (s .args .t1 .jobs) (c .before .before .before .before .before .before .before .loop .i) unused .estimate),
+      ),
+    )
 
 lay-requires : tie.Need-lay-requires Inv-loop μ-loop
 lay-requires c κs =
@@ -47,7 +55,11 @@ loop-again c =
     let h : l .i < 64 = omega arith in
     let e = c .before .is-live .ensures in
     ⊎-elim
-    (λ w. rw (w .6, w .7, w .8, w .9) (omega arith, laid-more q {i = l .i} h (l .inv .1) (rw (w .4 .ensures, w .1 .ensures) at (w .5 .ensures)), rw (w .1 .ensures) (holds-more (l .inv .2) h)))
+    (λ w. rw (w .6, w .7, w .8, w .9) (
+      omega arith,
+      laid-more q {i = l .i} h (l .inv .1) (rw (w .4 .ensures, w .1 .ensures) at (w .5 .ensures)),
+      rw (w .1 .ensures) (holds-more (l .inv .2) h),
+    ))
     (λ w. rw (w .1, w .2, w .3, w .4) (omega arith, laid-unused q {i = l .i} h (l .inv .1) (sym e ∙ w .0 .left), holds-skip (l .inv .2) (sym e ∙ w .0 .left)))
     (c .if1 .came)
 

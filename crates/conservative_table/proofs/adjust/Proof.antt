@@ -70,13 +70,21 @@ loop-again c =
     let h : l .i < length (l .free) = omega (arith, l .inv .long, s .pre .long, s .pre .fit) in
     let r = s .args .release in
     one-more (l .free) (l .inv) (c .if1 .free)
-    (⊎-elim (λ w. w .2 ∙ ap (λ (b : Bool). set (l .free) (l .i) (changed b (s .args .nodes) (getD (l .free) (l .i) 0))) (sym (w .0 .taken))) (λ w. w .2 ∙ ap (λ (b : Bool). set (l .free) (l .i) (changed b (s .args .nodes) (getD (l .free) (l .i) 0))) (sym (w .0 .left))) (c .if1 .came)) (omega arith) h
+    (⊎-elim (λ w. w .2 ∙ ap (λ (b : Bool). set (l .free) (l .i) (changed b (s .args .nodes) (getD (l .free) (l .i) 0))) (sym (w .0 .taken)))
+    (λ w. w .2 ∙ ap (λ (b : Bool). set (l .free) (l .i) (changed b (s .args .nodes) (getD (l .free) (l .i) 0))) (sym (w .0 .left)))
+    (c .if1 .came)) (omega arith) h
 
 returns : tie.Need-returns Inv-loop μ-loop
 returns c =
     let l = c .before .loop in
     let s = c .before .before in
-    record { long = l .inv .long; before = l .inv .before; inside = λ j a b. l .inv .inside j a (omega arith); after = λ j a b. l .inv .after j (omega (arith, l .inv .high)) }
+    record {
+      long = l .inv .long;
+      before = l .inv .before;
+      inside = λ j a b. l .inv .inside j a (omega arith);
+      after =
+          λ j a b. l .inv .after j (omega (arith, l .inv .high));
+    }
 
 pub adjust-spec : {M : Type 1} → statement M
 adjust-spec =

@@ -50,7 +50,8 @@ returns-2 c =
     let j = c .before .before .before .before .before .before .before .before in
     let from-is : j .if1 .from ≡ max (getD (s .args .minutes .now) 0 0) (s .args .x .from) =
     ⊎-elim (λ w. omega (arith, w .1, w .0 .taken)) (λ w. omega (arith, w .1, w .0 .left)) (j .if1 .came) in
-    λ l. laid-from l from-is (omega (arith, c .before .before .before .before .before .before .if2 .left)) (c .before .before .before .split .ensures) (c .lay-at .ensures)
+    λ l. laid-from l from-is (omega (arith, c .before .before .before .before .before .before .if2 .left)) (c .before .before .before .split .ensures)
+    (c .lay-at .ensures)
 
 pub lay-spec : {M : Type 1} → statement M
 lay-spec = tie.close (tie.spec (λ c. search needs) returns split-requires lay-at-requires returns-2)

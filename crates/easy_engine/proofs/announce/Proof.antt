@@ -73,7 +73,8 @@ returns-3 c =
     let l = c .before .before .before .before .if1 .left in
     let t = column-at ticketOf (s .asking) (w .before .args .tickets .now) (a .tickets-are) unused i (low s i e l) in
     let h = getD (s .asking) i unused in
-    let n : c .shadow .result ≡ shadow (s .model) (h .nodes) = c .shadow .ensures (head-lacks s i e l (head-rests s i e l (a .rests))) ∙ ap (shadow (s .model)) (need-is s i e l) in
+    let n : c .shadow .result ≡ shadow (s .model) (h .nodes) = c .shadow .ensures (head-lacks s i e l (head-rests s i e l (a .rests)))
+    ∙ ap (shadow (s .model)) (need-is s i e l) in
     rw (t, n) (sym (ap announced (forecast-new m (s .model) h (the-head s i e l) (head-ticket s i e l) (λ z. c .before .before .if2 .left (q ∙ z ∙ sym t)))))
 
 pub announce-spec : {M : Type 1} → statement M

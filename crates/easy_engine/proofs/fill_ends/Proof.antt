@@ -45,7 +45,12 @@ add-ends c =
     let p = s .pre in
     let h : l .i < length (p .jobs) = omega (arith, p .count-is) in
     let e : getD (l .ends) (l .i) 0 ≡ getD (p .jobs) (l .i) unused .start = ap (λ ns. getD ns (l .i) 0) (l .inv .1 p) ∙ start-there (p .jobs) (l .i) h in
-    omega (arith, c .wall-time .ensures, wallTime-le (getD (s .args .terms .now) (l .i) 0), p .ends (getD (p .jobs) (l .i) unused) (in-getD (p .jobs) (l .i) unused h))
+    omega (
+      arith,
+      c .wall-time .ensures,
+      wallTime-le (getD (s .args .terms .now) (l .i) 0),
+      p .ends (getD (p .jobs) (l .i) unused) (in-getD (p .jobs) (l .i) unused h),
+    )
 
 mul-ends-2 : tie.Need-mul-ends-2 Inv-loop μ-loop
 mul-ends-2 c = omega (arith, c .before .before .before .before .before .pre .few)
@@ -60,7 +65,12 @@ loop-again c =
       omega arith,
       λ p.
           let h : l .i < length (p .jobs) = omega (arith, p .count-is) in
-          rw (l .inv .1 p, start-there (p .jobs) (l .i) h, c .wall-time .ensures, column-at estimateOf (p .jobs) (s .args .terms .now) (p .terms-are) unused (l .i) h) (fill-next (p .jobs) (l .i) h),
+          rw (
+            l .inv .1 p,
+            start-there (p .jobs) (l .i) h,
+            c .wall-time .ensures,
+            column-at estimateOf (p .jobs) (s .args .terms .now) (p .terms-are) unused (l .i) h,
+          ) (fill-next (p .jobs) (l .i) h),
     )
 
 returns : tie.Need-returns Inv-loop μ-loop

@@ -21,7 +21,8 @@ returns-2 c =
 returns-3 : tie.Need-returns-3
 returns-3 c =
     let a = c .before .before .before .args in
-    rw (c .wall-time .ensures, le-leb _ _ (c .before .before .if1 .left), lt-leb _ _ (c .before .if2 .left)) (sym (or-false (leb (wallTime (a .estimate)) (a .room)) false refl))
+    rw (c .wall-time .ensures, le-leb _ _ (c .before .before .if1 .left), lt-leb _ _ (c .before .if2 .left))
+    (sym (or-false (leb (wallTime (a .estimate)) (a .room)) false refl))
 
 pub may-pass-spec : {M : Type 1} → statement M
 may-pass-spec = tie.close (tie.spec returns returns-2 (λ c κs. search needs) returns-3)

@@ -26,7 +26,8 @@ returns c =
     let h = u .ready in
     let v = u .passed in
     let q = waits-of d h v in
-    quiet-answers d h (spare-free d h v) (w .rests .ensures _ (q .asked-is) (v .tickets-are) (q .count-is) (c .if1 .taken)) ticket _ (u .places) (b .head-before .ensures ∙ before-is d ticket _ (v .tickets-are))
+    quiet-answers d h (spare-free d h v) (w .rests .ensures _ (q .asked-is) (v .tickets-are) (q .count-is) (c .if1 .taken)) ticket _ (u .places)
+    (b .head-before .ensures ∙ before-is d ticket _ (v .tickets-are))
 
 fill-ends-requires : tie.Need-fill-ends-requires
 fill-ends-requires c κs =
@@ -64,7 +65,8 @@ returns-2 c =
     record {
       applies = applies d h v p (u .room);
       head-is = λ m q.
-          c .announce .ensures (record { estimates = _; surveyed = p .after; tickets-are = tickets-still d h v p (u .room); rests = rests-after d h v p (u .room) }) m
+          c .announce .ensures
+          (record { estimates = _; surveyed = p .after; tickets-are = tickets-still d h v p (u .room); rests = rests-after d h v p (u .room) }) m
           (b .head-before .ensures ∙ before-is d ticket _ (v .tickets-are) ∙ q)
           ∙ ap (λ (x : Model). announced (forecast m x)) (p .model-is);
     }

@@ -19,6 +19,7 @@ use Rattle.hingerota.proofs.hingerota_complete.Code as code
 pub hingerota-complete-spec : {M : Type 1} → stated.statement M
 unfolding code.routine
 hingerota-complete-spec 𝓤 H 𝓜 𝓖 𝓡 =
-    thin1 D.the-type D′.the-laws D′.the-plain answer answer-laws outcome-two u32-flat u32-laws callee.name true true (λ d t. Handed d) (λ d t s. s ≡ gives d (calls.complete t)) (λ d t. HostLeaves d (calls.complete t)) (λ d t z. absurd z)
+    thin1 D.the-type D′.the-laws D′.the-plain answer answer-laws outcome-two u32-flat u32-laws callee.name true true (λ d t. Handed d)
+    (λ d t s. s ≡ gives d (calls.complete t)) (λ d t. HostLeaves d (calls.complete t)) (λ d t z. absurd z)
     (λ d t s pre q. leaves-given d (calls.complete t) s pre q)
     𝓤 H 𝓜 𝓖 𝓡 code.env key.name (code.unfolded 𝓤 H 𝓜 𝓡) callee.routine code.calls-hingerota·complete (callee-thm.met 𝓤 H 𝓜 𝓖 𝓡)

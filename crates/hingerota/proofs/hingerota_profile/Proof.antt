@@ -23,7 +23,9 @@ use Rattle.hingerota.proofs.hingerota_profile.Code as code
 pub hingerota-profile-spec : {M : Type 1} → stated.statement M
 unfolding code.routine
 hingerota-profile-spec 𝓤 H 𝓜 𝓖 𝓡 =
-    fills-ds R.the-type R′.the-laws R′.the-plain tt shown shown-laws profile-sheet D.the-type D′.the-laws D′.the-plain D′.the-copy callee.name at.name true true true
+    fills-ds R.the-type R′.the-laws R′.the-plain tt shown shown-laws profile-sheet D.the-type D′.the-laws D′.the-plain D′.the-copy callee.name at.name
+    true true true
     (λ d room. Handed d) (λ d room p. p ≡ shownIn d room) (λ p i. i < 129) pointAt HostShows (λ d room z. absurd z)
     (λ d room p pre e. shown-fits d room p e) (λ d room p i pre e l. lt-of-lt-of-le l (shown-few d room p pre e)) (λ d lent p pre e. shows-given d lent p e)
-    𝓤 H 𝓜 𝓖 𝓡 code.env key.name (code.unfolded 𝓤 H 𝓜 𝓡) callee.routine code.calls-hingerota·profile (callee-thm.met 𝓤 H 𝓜 𝓖 𝓡) at.routine code.calls-hingerota·point-at (at-thm.met 𝓤 H 𝓜 𝓖 𝓡)
+    𝓤 H 𝓜 𝓖 𝓡 code.env key.name (code.unfolded 𝓤 H 𝓜 𝓡) callee.routine code.calls-hingerota·profile (callee-thm.met 𝓤 H 𝓜 𝓖 𝓡) at.routine
+    code.calls-hingerota·point-at (at-thm.met 𝓤 H 𝓜 𝓖 𝓡)

@@ -18,6 +18,7 @@ use Rattle.hingerota.proofs.hingerota_tick.Code as code
 pub hingerota-tick-spec : {M : Type 1} → stated.statement M
 unfolding code.routine
 hingerota-tick-spec 𝓤 H 𝓜 𝓖 𝓡 =
-    thin0 D.the-type D′.the-laws D′.the-plain answer answer-laws outcome-two callee.name true true (λ d. Handed d) (λ d s. s ≡ gives d calls.tick) (λ d. HostLeaves d calls.tick) (λ d z. absurd z)
+    thin0 D.the-type D′.the-laws D′.the-plain answer answer-laws outcome-two callee.name true true (λ d. Handed d) (λ d s. s ≡ gives d calls.tick)
+    (λ d. HostLeaves d calls.tick) (λ d z. absurd z)
     (λ d s pre q. leaves-given d calls.tick s pre q)
     𝓤 H 𝓜 𝓖 𝓡 code.env key.name (code.unfolded 𝓤 H 𝓜 𝓡) callee.routine code.calls-hingerota·tick (callee-thm.met 𝓤 H 𝓜 𝓖 𝓡)

@@ -27,8 +27,11 @@ loop-again c =
     let l = c .before .before .before .loop in
     let s = c .before .before .before .before .before .before in
     let xs = s .args .t1 .jobs in
-    let len = whole (s .args .t1) (s .good .0) in
-    (omega arith, ap (λ (js : List _). set js (l .i) (c .mirror-job2 .result)) (l .inv .1) ∙ copied-more mirrorJob unused noRecord 64 xs (l .i) (c .mirror-job2 .result) len (omega arith) (c .mirror-job2 .ensures))
+    let len = whole (s .args .t1) (s .good .0) in (
+      omega arith,
+      ap (λ (js : List _). set js (l .i) (c .mirror-job2 .result)) (l .inv .1)
+          ∙ copied-more mirrorJob unused noRecord 64 xs (l .i) (c .mirror-job2 .result) len (omega arith) (c .mirror-job2 .ensures),
+    )
 
 returns : tie.Need-returns Inv-loop μ-loop
 unfolding mirror

@@ -27,8 +27,11 @@ loop-again c =
     let l = c .before .before .before .loop in
     let s = c .before .before .before .before .before in
     let xs = s .args .t1 .jobs in
-    let len = whole (s .args .t1) (s .good .0) in
-    (omega arith, ap (λ (js : List _). set js (l .i) (c .read-record .result)) (l .inv .1) ∙ copied-more readRecord noRecord unused 64 xs (l .i) (c .read-record .result) len (omega arith) (c .read-record .ensures))
+    let len = whole (s .args .t1) (s .good .0) in (
+      omega arith,
+      ap (λ (js : List _). set js (l .i) (c .read-record .result)) (l .inv .1)
+          ∙ copied-more readRecord noRecord unused 64 xs (l .i) (c .read-record .result) len (omega arith) (c .read-record .ensures),
+    )
 
 returns : tie.Need-returns Inv-loop μ-loop
 unfolding read

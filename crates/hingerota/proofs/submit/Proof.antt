@@ -8,7 +8,9 @@ submit-requires : tie.Need-submit-requires
 submit-requires c κs = read-premise _ _ (c .read .ensures) (c .before .pre)
 
 returns : tie.Need-returns
-returns c = let s = c .before .before .before in call-given (s .args .d) (calls.submit (s .args .nodes) (s .args .estimate)) _ _ _ (c .before .before .read .ensures) (c .before .submit .ensures) (c .mirror-outcome .ensures)
+returns c = let s = c .before .before .before in
+    call-given (s .args .d) (calls.submit (s .args .nodes) (s .args .estimate)) _ _ _ (c .before .before .read .ensures) (c .before .submit .ensures)
+    (c .mirror-outcome .ensures)
 
 pub submit-spec : {M : Type 1} → statement M
 submit-spec = tie.close (tie.spec (λ c κs. search needs) submit-requires (λ c κs. search needs) returns)

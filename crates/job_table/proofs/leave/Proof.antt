@@ -30,27 +30,33 @@ abbrev μ-loop2 : tie.MeasureT-loop2
 μ-loop2 ticket clear e₀ i₀ there e i = 63 - i
 
 -- what the search leaves
-missed : (c : tie.Left-loop Inv-loop μ-loop Inv-loop2 μ-loop2) → 64 ≤ c .before .loop .i → position (runsAs (c .before .before .before .args .ticket)) (c .before .before .before .args .d .jobs) ≡ none
+missed : (c : tie.Left-loop Inv-loop μ-loop Inv-loop2 μ-loop2) → 64 ≤ c .before .loop .i
+    → position (runsAs (c .before .before .before .args .ticket)) (c .before .before .before .args .d .jobs) ≡ none
 missed c l =
     let s = c .before .before .before in
     let o = c .before .loop in
     sym (o .inv .1) ∙ position-end unused (runsAs (s .args .ticket)) (s .args .d .jobs) (o .i) (omega (arith, whole (s .args .d) (s .good .0)))
 
-found : (c : tie.Left-loop Inv-loop μ-loop Inv-loop2 μ-loop2) → c .before .loop .i < 64 → position (runsAs (c .before .before .before .args .ticket)) (c .before .before .before .args .d .jobs) ≡ some (c .before .loop .i)
+found : (c : tie.Left-loop Inv-loop μ-loop Inv-loop2 μ-loop2) → c .before .loop .i < 64
+    → position (runsAs (c .before .before .before .args .ticket)) (c .before .before .before .args .d .jobs) ≡ some (c .before .loop .i)
 found c l =
     let s = c .before .before .before in
     let o = c .before .loop in
     ⊎-elim
     (λ w. absurd (omega (arith, w .left)))
-    (λ w. sym (o .inv .1) ∙ position-hit unused (runsAs (s .args .ticket)) (s .args .d .jobs) (o .i) (omega (arith, whole (s .args .d) (s .good .0))) (sym (w .2 .ensures) ∙ w .3 .taken))
+    (λ w. sym (o .inv .1) ∙ position-hit unused (runsAs (s .args .ticket)) (s .args .d .jobs) (o .i) (omega (arith, whole (s .args .d) (s .good .0)))
+    (sym (w .2 .ensures) ∙ w .3 .taken))
     (c .loop-test .came)
 
 loop-again : tie.Need-loop-again Inv-loop μ-loop Inv-loop2 μ-loop2
 loop-again c =
     let o = c .before .before .before .before .loop in
     let s = c .before .before .before .before .before .before in
-    let len = whole (s .args .d) (s .good .0) in
-    (omega arith, sym (position-miss unused (runsAs (s .args .ticket)) (s .args .d .jobs) (o .i) (omega arith) (sym (c .before .runs-as .ensures) ∙ c .if1 .left)) ∙ o .inv .1)
+    let len = whole (s .args .d) (s .good .0) in (
+      omega arith,
+      sym (position-miss unused (runsAs (s .args .ticket)) (s .args .d .jobs) (o .i) (omega arith)
+          (sym (c .before .runs-as .ensures) ∙ c .if1 .left)) ∙ o .inv .1,
+    )
 
 loop2-holds : tie.Need-loop2-holds Inv-loop μ-loop Inv-loop2 μ-loop2
 loop2-holds c =
@@ -79,7 +85,8 @@ returns c =
     ⊎-elim
     (λ w. let b : ltb i 64 ≡ true = w .0 .taken in
     let k = ltb-true i 64 b in
-    rw (c .not-running .ensures, c .before .one-if .ensures, w .1, b, g .before .before .unused .ensures, shifts-done (l .inv) len k (omega arith)) (leaves-one d t h i (found g k)))
+    rw (c .not-running .ensures, c .before .one-if .ensures, w .1, b, g .before .before .unused .ensures, shifts-done (l .inv) len k (omega arith))
+    (leaves-one d t h i (found g k)))
     (λ w. let b : ltb i 64 ≡ false = w .0 .left in
     let k = ltb-false i 64 b in
     rw (c .not-running .ensures, c .before .one-if .ensures, w .1, b, shifts-none (l .inv) len k) (leaves-none d t h (missed g k)))

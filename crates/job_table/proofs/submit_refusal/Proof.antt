@@ -35,8 +35,10 @@ returns-2 c =
     λ m k. rw (a, b) at (tests-by m (x .s .nodes) (x .s .estimate) (x .nodes) (x .live) (x .next) k)
 
 -- nodes and estimate are in range: the tests that are left
-rest : (c : tie.Else2) (m : Model) → Known m (c .before .before .before .before .args .nodes) (c .before .before .before .before .args .live) (c .before .before .before .before .args .next)
-    → verdict ((leb slots (c .before .before .before .before .args .live), refusal.Full) ∷ (ltb lastTicket (c .before .before .before .before .args .next), refusal.NoTicketLeft) ∷ [])
+rest : (c : tie.Else2) (m : Model) → Known m (c .before .before .before .before .args .nodes) (c .before .before .before .before .args .live)
+    (c .before .before .before .before .args .next)
+    → verdict ((leb slots (c .before .before .before .before .args .live), refusal.Full) ∷
+    (ltb lastTicket (c .before .before .before .before .args .next), refusal.NoTicketLeft) ∷ [])
     ≡ sharedRefusal m (c .before .before .before .before .args .s .nodes) (c .before .before .before .before .args .s .estimate)
 unfolding verdict
 rest c m k =

@@ -36,7 +36,12 @@ loop-again c =
     let h : l .i < length js = omega (arith, v .1) in
     let e = c .before .is-waiting .ensures in
     ⊎-elim
-    (λ w. rw (w .1) (omega arith, omega (arith, v .1), omega (arith, v .2), rw (keep-take-yes unused isWaiting js (l .i) h (sym e ∙ w .0 .taken), length-append) (ap (λ (n : ℕ). n + 1) (v .3))))
+    (λ w. rw (w .1) (
+      omega arith,
+      omega (arith, v .1),
+      omega (arith, v .2),
+      rw (keep-take-yes unused isWaiting js (l .i) h (sym e ∙ w .0 .taken), length-append) (ap (λ (n : ℕ). n + 1) (v .3)),
+    ))
     (λ w. rw (w .1) (omega arith, omega (arith, v .1), omega (arith, v .2), rw (keep-take-no unused isWaiting js (l .i) h (sym e ∙ w .0 .left)) (v .3)))
     (c .if1 .came)
 
@@ -46,7 +51,8 @@ returns c =
     let f = c .before .before in
     let s = f .before in
     let end : l .i ≡ length (view (s .args .t1) .jobs) = omega (arith, l .inv .0, f .first-unused .ensures) in
-    l .inv .3 ∙ ap (λ (n : ℕ). length (keep isWaiting (take n (s .args .t1 .jobs)))) end ∙ ap (λ (js : List Job). length (keep isWaiting js)) (first-live (s .args .t1) (s .pre))
+    l .inv .3 ∙ ap (λ (n : ℕ). length (keep isWaiting (take n (s .args .t1 .jobs)))) end
+    ∙ ap (λ (js : List Job). length (keep isWaiting js)) (first-live (s .args .t1) (s .pre))
 
 pub waiting-spec : {M : Type 1} → statement M
 waiting-spec =

@@ -20,6 +20,7 @@ use Rattle.lent_calls.proofs.complete.Code as code
 pub complete-spec : {M : Type 1} → stated.statement M
 unfolding code.routine
 complete-spec 𝓤 H 𝓜 𝓖 𝓡 =
-    thin1 D.the-type D′.the-laws D′.the-plain answer answer-laws outcome-two u32-flat u32-laws callee.name true true (λ d x. Premise d) (λ d x s. s ≡ gives d (calls.complete x)) (λ d x a e. Leaves d (calls.complete x) a e) (λ d x z. absurd z)
+    thin1 D.the-type D′.the-laws D′.the-plain answer answer-laws outcome-two u32-flat u32-laws callee.name true true (λ d x. Premise d)
+    (λ d x s. s ≡ gives d (calls.complete x)) (λ d x a e. Leaves d (calls.complete x) a e) (λ d x z. absurd z)
     (λ d x s pre e. leaves-given d (calls.complete x) s pre e)
     𝓤 H 𝓜 𝓖 𝓡 code.env key.name (code.unfolded 𝓤 H 𝓜 𝓡) callee.routine code.calls-calls·complete (callee-thm.met 𝓤 H 𝓜 𝓖 𝓡)

@@ -25,7 +25,9 @@ use Rattle.lent_calls.proofs.profile.Code as code
 pub profile-spec : {M : Type 1} → stated.statement M
 unfolding code.routine
 profile-spec 𝓤 H 𝓜 𝓖 𝓡 =
-    fills-ds R.the-type R′.the-laws R′.the-plain tt shown shown-laws profile-sheet D.the-type D′.the-laws D′.the-plain D′.the-copy callee.name at.name true true true
+    fills-ds R.the-type R′.the-laws R′.the-plain tt shown shown-laws profile-sheet D.the-type D′.the-laws D′.the-plain D′.the-copy callee.name at.name
+    true true true
     (λ d room. Premise d) (λ d room p. p ≡ profileOutcome (view d) room) (λ p i. i < 129) pointAt Shows (λ d room z. absurd z)
     (λ d room p pre e. given-fits d room p e) (λ d room p i pre e l. lt-of-lt-of-le l (given-few d room p pre e)) (λ d lent p pre e. shows-given d lent p e)
-    𝓤 H 𝓜 𝓖 𝓡 code.env key.name (code.unfolded 𝓤 H 𝓜 𝓡) callee.routine code.calls-calls·profile (callee-thm.met 𝓤 H 𝓜 𝓖 𝓡) at.routine code.calls-calls·point-at (at-thm.met 𝓤 H 𝓜 𝓖 𝓡)
+    𝓤 H 𝓜 𝓖 𝓡 code.env key.name (code.unfolded 𝓤 H 𝓜 𝓡) callee.routine code.calls-calls·profile (callee-thm.met 𝓤 H 𝓜 𝓖 𝓡) at.routine
+    code.calls-calls·point-at (at-thm.met 𝓤 H 𝓜 𝓖 𝓡)

@@ -19,6 +19,7 @@ use Rattle.lent_calls.proofs.tick.Code as code
 pub tick-spec : {M : Type 1} → stated.statement M
 unfolding code.routine
 tick-spec 𝓤 H 𝓜 𝓖 𝓡 =
-    thin0 D.the-type D′.the-laws D′.the-plain answer answer-laws outcome-two callee.name true true Premise (λ d s. s ≡ gives d calls.tick) (λ d a e. Leaves d calls.tick a e) (λ d z. absurd z)
+    thin0 D.the-type D′.the-laws D′.the-plain answer answer-laws outcome-two callee.name true true Premise (λ d s. s ≡ gives d calls.tick)
+    (λ d a e. Leaves d calls.tick a e) (λ d z. absurd z)
     (λ d s pre e. leaves-given d calls.tick s pre e)
     𝓤 H 𝓜 𝓖 𝓡 code.env key.name (code.unfolded 𝓤 H 𝓜 𝓡) callee.routine code.calls-calls·tick (callee-thm.met 𝓤 H 𝓜 𝓖 𝓡)

@@ -20,6 +20,7 @@ use Rattle.lent_run.proofs.into_four.Code as code
 pub into-four-spec : {M : Type 1} → stated.statement M
 unfolding code.routine
 into-four-spec 𝓤 H 𝓜 𝓖 𝓡 =
-    own-ds R.the-type R′.the-laws R′.the-plain 4 tt (lit< tt, lit< tt) shown shown-laws four-holds D.the-type D′.the-laws D′.the-plain callee.name true true (λ d ys. Premise d) Shows
+    own-ds R.the-type R′.the-laws R′.the-plain 4 tt (lit< tt, lit< tt) shown shown-laws four-holds D.the-type D′.the-laws D′.the-plain callee.name
+    true true (λ d ys. Premise d) Shows
     (λ d ys r. Shows d ys (r .answer) (r .points)) (λ d ys len z. absurd z) (λ d ys a zs len pre s. s)
     𝓤 H 𝓜 𝓖 𝓡 code.env key.name (code.unfolded 𝓤 H 𝓜 𝓡) callee.routine code.calls-lent-calls·profile (callee-thm.met 𝓤 H 𝓜 𝓖 𝓡)

@@ -19,6 +19,7 @@ use Rattle.lent_run.proofs.lent_complete.Code as code
 pub lent-complete-spec : {M : Type 1} → stated.statement M
 unfolding code.routine
 lent-complete-spec 𝓤 H 𝓜 𝓖 𝓡 =
-    own1 D.the-type D′.the-laws D′.the-plain answer answer-laws outcome-two outcome-built u32-flat u32-laws callee.name true true (λ d x. Premise d) (λ d x a e. Leaves d (calls.complete x) a e) (λ d x s. Leaves d (calls.complete x) (s .answer) (s .scheduler)) (λ d x z. absurd z)
+    own1 D.the-type D′.the-laws D′.the-plain answer answer-laws outcome-two outcome-built u32-flat u32-laws callee.name true true (λ d x. Premise d)
+    (λ d x a e. Leaves d (calls.complete x) a e) (λ d x s. Leaves d (calls.complete x) (s .answer) (s .scheduler)) (λ d x z. absurd z)
     (λ d x a e pre l. l)
     𝓤 H 𝓜 𝓖 𝓡 code.env key.name (code.unfolded 𝓤 H 𝓜 𝓡) callee.routine code.calls-lent-calls·complete (callee-thm.met 𝓤 H 𝓜 𝓖 𝓡)

@@ -18,6 +18,7 @@ use Rattle.lent_run.proofs.lent_tick.Code as code
 pub lent-tick-spec : {M : Type 1} → stated.statement M
 unfolding code.routine
 lent-tick-spec 𝓤 H 𝓜 𝓖 𝓡 =
-    own0 D.the-type D′.the-laws D′.the-plain answer answer-laws outcome-two outcome-built callee.name true true Premise (λ d a e. Leaves d calls.tick a e) (λ d s. Leaves d calls.tick (s .answer) (s .scheduler)) (λ d z. absurd z)
+    own0 D.the-type D′.the-laws D′.the-plain answer answer-laws outcome-two outcome-built callee.name true true Premise
+    (λ d a e. Leaves d calls.tick a e) (λ d s. Leaves d calls.tick (s .answer) (s .scheduler)) (λ d z. absurd z)
     (λ d a e pre l. l)
     𝓤 H 𝓜 𝓖 𝓡 code.env key.name (code.unfolded 𝓤 H 𝓜 𝓡) callee.routine code.calls-lent-calls·tick (callee-thm.met 𝓤 H 𝓜 𝓖 𝓡)

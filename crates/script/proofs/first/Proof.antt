@@ -25,18 +25,25 @@ part-read-first-end : tie.Need-part-read-first-end
 part-read-first-end c = omega (arith, line-ends _ _ _ (c .before .next-line .ensures) (omega (arith, c .before .before .if2 .left)) .within)
 
 add-open : tie.Need-add-open
-add-open c = omega (arith, line-ends _ _ _ (c .before .before .before .next-line .ensures) (omega (arith, c .before .before .before .before .if2 .left)) .within)
+add-open c =
+    omega (arith, line-ends _ _ _ (c .before .before .before .next-line .ensures) (omega (arith, c .before .before .before .before .if2 .left)) .within)
 
 returns-3 : tie.Need-returns-3
 returns-3 c =
     turned-as
-    (first-closed _ _ (c .before .before .before .before .before .before .before .before .before .if1 .left) (c .before .before .before .before .before .before .before .before .if2 .left) _ (c .before .before .before .before .before .before .before .next-line .ensures) (c .before .before .before .before .before .before .if3 .taken) (c .before .before .before .before .read-first .result) (c .before .before .before .before .read-first .ensures))
+    (first-closed _ _ (c .before .before .before .before .before .before .before .before .before .if1 .left)
+    (c .before .before .before .before .before .before .before .before .if2 .left) _
+    (c .before .before .before .before .before .before .before .next-line .ensures)
+    (c .before .before .before .before .before .before .if3 .taken) (c .before .before .before .before .read-first .result)
+    (c .before .before .before .before .read-first .ensures))
     (c .before .before .«open» .ensures)
 
 returns-4 : tie.Need-returns-4
 returns-4 c =
     turned-as
-    (first-unclosed _ _ (c .before .before .before .before .before .before .before .if1 .left) (c .before .before .before .before .before .before .if2 .left) _ (c .before .before .before .before .before .next-line .ensures) (c .before .before .before .before .if3 .left))
+    (first-unclosed _ _ (c .before .before .before .before .before .before .before .if1 .left)
+    (c .before .before .before .before .before .before .if2 .left) _ (c .before .before .before .before .before .next-line .ensures)
+    (c .before .before .before .before .if3 .left))
     (c .before .before .refuse2 .ensures)
 
 pub first-spec : {M : Type 1} → statement M

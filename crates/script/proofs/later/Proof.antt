@@ -30,7 +30,13 @@ begun : (c : tie.Start Inv-loop μ-loop) → let p = c .args .p in InPlay (c .ar
 begun c = let r = c .pre .0 in record { premise = r .premise; inside = r .inside; few = r .few }
 
 room : (c : tie.In-loop Inv-loop μ-loop) → c .before .loop .end + pageBytes ≤ length (c .before .loop .page)
-room c = omega (arith, c .before .loop .inv .whole, c .before .before .before .page-len .ensures, c .before .before .before .before .before .before .pre .2, c .loop-test .taken)
+room c = omega (
+  arith,
+  c .before .loop .inv .whole,
+  c .before .before .before .page-len .ensures,
+  c .before .before .before .before .before .before .pre .2,
+  c .loop-test .taken,
+)
 
 -- the minutes passed over are quiet: there are none where no step of a wait is left
 ahead : (c : tie.Joined1 Inv-loop μ-loop) → let l = c .before .before .loop in Ahead (l .d) (l .steps) (c .if1 .minutes)
@@ -46,7 +52,8 @@ quiet-filling : (c : tie.Joined1 Inv-loop μ-loop)
     → let a = c .before .before .before .before .before .before .before .args in
     let l = c .before .before .loop in
     let k = c .if1 .minutes in
-    Filling (a .script .now) (going (a .p .at) (a .p .steps) (a .p .scheduler)) (length (a .page .now)) (l .page) (l .end) (going (l .at) (l .steps - k) (passedOver (l .d) k))
+    Filling (a .script .now) (going (a .p .at) (a .p .steps) (a .p .scheduler)) (length (a .page .now)) (l .page) (l .end)
+    (going (l .at) (l .steps - k) (passedOver (l .d) k))
 quiet-filling c = filling-quiet (c .before .before .loop .inv) (passing c)
 
 -- where the turn that is then taken is known
@@ -58,7 +65,8 @@ abbrev Turn : (n : tie.After-next-turn Inv-loop μ-loop) (after : List ℕ) (end
 Turn n after end steps d =
     let l = passed n .before .before .loop in
     let k = passed n .if1 .minutes in
-    Turned (pieceOf (n .before .before .before .before .before .before .before .before .before .before .args .script .now) (going (l .at) (l .steps - k) (passedOver (l .d) k))) (l .page) (l .end) after
+    Turned (pieceOf (n .before .before .before .before .before .before .before .before .before .before .args .script .now)
+    (going (l .at) (l .steps - k) (passedOver (l .d) k))) (l .page) (l .end) after
     (record { end = end; play = going (n .next-turn .result .at) steps d })
 
 -- the scheduler that it finds
@@ -74,19 +82,26 @@ less : (n : tie.After-next-turn Inv-loop μ-loop) {after : List ℕ} {end steps 
     → let s = n .before .before .before .before .before .before .before .before .before .before .args .script .now in
     let l = passed n .before .before .loop in
     weight s (going (n .next-turn .result .at) steps d) < weight s (going (l .at) (l .steps) (l .d))
-less n t = omega (arith, filling-less (quiet-filling (passed n)) refl t (room (passed n .before)), passes-no-more (n .before .before .before .before .before .before .before .before .before .before .args .script .now) _ _ (passing (passed n)))
+less n t = omega (
+  arith,
+  filling-less (quiet-filling (passed n)) refl t (room (passed n .before)),
+  passes-no-more (n .before .before .before .before .before .before .before .before .before .before .args .script .now) _ _ (passing (passed n)),
+)
 
 call-turn : (c : tie.After-put-answer Inv-loop μ-loop)
     → let n = c .before .before .before .before .before .before .before .before .before .before .before in
     Turn n (c .put-answer .last .0) (c .put-answer .result) (n .next-turn .result .steps) (c .before .before .before .before .call .result .scheduler)
 call-turn c =
     let n = c .before .before .before .before .before .before .before .before .before .before .before in
-    call-turned _ _ _ _ _ (n .next-turn .ensures) _ (c .before .before .before .before .before .before .before .before .before .turn .given .1) _ (c .before .before .before .before .before .before .asked .given .1) _ (c .before .before .before .before .call .ensures) (c .put-answer .ensures)
+    call-turned _ _ _ _ _ (n .next-turn .ensures) _ (c .before .before .before .before .before .before .before .before .before .turn .given .1) _
+    (c .before .before .before .before .before .before .asked .given .1) _ (c .before .before .before .before .call .ensures) (c .put-answer .ensures)
 
-wait-turn : (c : tie.Then2 Inv-loop μ-loop) → let n = c .before .before .before .before .before .before .before .before .before in let l = passed n .before .before .loop in Turn n (l .page) (l .end) (c .before .before .before .before .asked2 .given .0 .0) (found n)
+wait-turn : (c : tie.Then2 Inv-loop μ-loop) → let n = c .before .before .before .before .before .before .before .before .before in let l =
+    passed n .before .before .loop in Turn n (l .page) (l .end) (c .before .before .before .before .asked2 .given .0 .0) (found n)
 wait-turn c =
     let n = c .before .before .before .before .before .before .before .before .before in
-    wait-turned _ _ _ _ _ (n .next-turn .ensures) _ (c .before .before .before .before .before .before .before .turn .given .1) _ (c .before .before .before .before .asked2 .given .1) _ (c .before .before .wait-refusal .ensures) _ _
+    wait-turned _ _ _ _ _ (n .next-turn .ensures) _ (c .before .before .before .before .before .before .before .turn .given .1) _
+    (c .before .before .before .before .asked2 .given .1) _ (c .before .before .wait-refusal .ensures) _ _
     (sym (c .before .is-none .ensures) ∙ c .if2 .taken)
 
 refused-turn : (c : tie.After-put-refusal Inv-loop μ-loop)
@@ -94,14 +109,17 @@ refused-turn : (c : tie.After-put-refusal Inv-loop μ-loop)
     Turn n (c .put-refusal .last .0) (c .put-refusal .result) (n .next-turn .result .steps) (found n)
 refused-turn c =
     let n = c .before .before .before .before .before .before .before .before .before .before .before in
-    refused-turned _ _ _ _ _ (n .next-turn .ensures) _ (c .before .before .before .before .before .before .before .before .before .turn .given .1) _ (c .before .before .before .before .before .before .asked2 .given .1) _ (c .before .before .before .before .wait-refusal .ensures)
+    refused-turned _ _ _ _ _ (n .next-turn .ensures) _ (c .before .before .before .before .before .before .before .before .before .turn .given .1) _
+    (c .before .before .before .before .before .before .asked2 .given .1) _ (c .before .before .before .before .wait-refusal .ensures)
     (sym (c .before .before .before .is-none .ensures) ∙ c .before .before .if2 .left)
     (c .put-refusal .ensures)
 
 lacks-turn : (c : tie.After-put-refusal2 Inv-loop μ-loop)
     → let n = c .before .before .before .before .before .before .before in
     Turn n (c .put-refusal2 .last .0) (c .put-refusal2 .result) (n .next-turn .result .steps) (found n)
-lacks-turn c = let n = c .before .before .before .before .before .before .before in lacks-turned _ _ _ _ _ (n .next-turn .ensures) _ (c .before .before .before .before .before .turn .given .1) (c .before .before .enum-told .given .1) (c .put-refusal2 .ensures)
+lacks-turn c = let n = c .before .before .before .before .before .before .before in
+    lacks-turned _ _ _ _ _ (n .next-turn .ensures) _ (c .before .before .before .before .before .turn .given .1)
+    (c .before .before .enum-told .given .1) (c .put-refusal2 .ensures)
 
 sub-last : tie.Need-sub-last Inv-loop μ-loop
 sub-last c = omega (arith, c .page-len .ensures, c .before .before .before .pre .2)
@@ -125,7 +143,8 @@ call-requires c κs = quiet-filling (passed (c .before .before .before .before .
 
 put-answer-requires : tie.Need-put-answer-requires Inv-loop μ-loop
 put-answer-requires c κs =
-    let f = call-few _ _ _ (c .before .before .before .call .ensures) (quiet-filling (passed (c .before .before .before .before .before .before .before .before .before .before)) .ready .premise) in
+    let f = call-few _ _ _ (c .before .before .before .call .ensures)
+    (quiet-filling (passed (c .before .before .before .before .before .before .before .before .before .before)) .ready .premise) in
     (f .0, f .1, room (passed (c .before .before .before .before .before .before .before .before .before .before) .before))
 
 loop-less : tie.Need-loop-less Inv-loop μ-loop
@@ -147,10 +166,12 @@ put-refusal-requires : tie.Need-put-refusal-requires Inv-loop μ-loop
 put-refusal-requires c κs = omega (arith, room (passed (c .before .before .before .before .before .before .before .before .before .before) .before))
 
 loop-less-3 : tie.Need-loop-less-3 Inv-loop μ-loop
-loop-less-3 c = less (c .before .before .before .before .before .before .before .before .before .before .before .before .before) (refused-turn (c .before .before))
+loop-less-3 c = less (c .before .before .before .before .before .before .before .before .before .before .before .before .before)
+    (refused-turn (c .before .before))
 
 loop-again-3 : tie.Need-loop-again-3 Inv-loop μ-loop
-loop-again-3 c = more (c .before .before .before .before .before .before .before .before .before .before .before .before .before) (refused-turn (c .before .before))
+loop-again-3 c = more (c .before .before .before .before .before .before .before .before .before .before .before .before .before)
+    (refused-turn (c .before .before))
 
 put-refusal-requires-2 : tie.Need-put-refusal-requires-2 Inv-loop μ-loop
 put-refusal-requires-2 c κs = omega (arith, room (passed (c .before .before .before .before .before .before) .before))
@@ -168,14 +189,23 @@ returns : tie.Need-returns Inv-loop μ-loop
 returns c =
     let n = c .before .before in
     filled-as (n .before .before .before .before .before .before .before .before .before .before .pre .1)
-    (filled-over (filling-more (quiet-filling (passed n)) refl (over-turned _ _ _ _ _ (n .next-turn .ensures) _ _ (c .enum-told2 .given .1)) (room (passed n .before))) refl)
+    (filled-over (filling-more (quiet-filling (passed n)) refl (over-turned _ _ _ _ _ (n .next-turn .ensures) _ _ (c .enum-told2 .given .1))
+    (room (passed n .before))) refl)
 
 same-length-2 : tie.Need-same-length-2 Inv-loop μ-loop
 same-length-2 c = c .before .loop .inv .whole
 
 returns-2 : tie.Need-returns-2 Inv-loop μ-loop
 returns-2 c =
-    filled-as (c .before .before .before .before .before .before .pre .1) (filled-full (c .before .loop .inv) (c .before .before .before .before .before .before .pre .2) (omega (arith, c .before .loop .inv .whole, c .before .before .before .page-len .ensures, c .before .before .before .before .before .before .pre .2, c .loop-test .left)))
+    filled-as (c .before .before .before .before .before .before .pre .1)
+    (filled-full (c .before .loop .inv) (c .before .before .before .before .before .before .pre .2)
+    (omega (
+      arith,
+      c .before .loop .inv .whole,
+      c .before .before .before .page-len .ensures,
+      c .before .before .before .before .before .before .pre .2,
+      c .loop-test .left,
+    )))
 
 pub later-spec : {M : Type 1} → statement M
 later-spec =

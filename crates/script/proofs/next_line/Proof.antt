@@ -19,10 +19,15 @@ part-read-later-end : tie.Need-part-read-later-end
 part-read-later-end c = omega (arith, line-ends _ _ _ (c .before .next-line .ensures) (omega (arith, c .before .before .before .pre)) .within)
 
 add-t8 : tie.Need-add-t8
-add-t8 c = omega (arith, line-ends _ _ _ (c .before .before .before .next-line .ensures) (omega (arith, c .before .before .before .before .before .pre)) .within)
+add-t8 c = omega (
+  arith,
+  line-ends _ _ _ (c .before .before .before .next-line .ensures)
+      (omega (arith, c .before .before .before .before .before .pre)) .within,
+)
 
 returns : tie.Need-returns
-returns c = comes-closed _ _ (c .before .before .before .before .before .pre) _ (c .before .before .before .next-line .ensures) (c .before .before .if1 .taken) (c .read-later .result) (c .read-later .ensures)
+returns c = comes-closed _ _ (c .before .before .before .before .before .pre) _ (c .before .before .before .next-line .ensures)
+    (c .before .before .if1 .taken) (c .read-later .result) (c .read-later .ensures)
 
 returns-2 : tie.Need-returns-2
 returns-2 c = comes-unclosed _ _ (c .before .before .before .pre) _ (c .before .next-line .ensures) (c .if1 .left)

@@ -8,11 +8,14 @@ use Rattle.script.proofs.open.Tie as tie
 
 returns : tie.Need-returns
 returns c =
-    turned-as (opening-takes _ _ _ _ _ (c .before .before .before .before .before .first .given .1) (c .before .before .before .«open» .ensures) (sym (c .before .before .is-none .ensures) ∙ c .before .if1 .taken)) (turned-none _ _ _)
+    turned-as (opening-takes _ _ _ _ _ (c .before .before .before .before .before .first .given .1) (c .before .before .before .«open» .ensures)
+    (sym (c .before .before .is-none .ensures) ∙ c .before .if1 .taken)) (turned-none _ _ _)
 
 returns-2 : tie.Need-returns-2
 returns-2 c =
-    turned-as (opening-refuses _ _ _ _ _ (c .before .before .before .before .before .before .before .before .first .given .1) (c .before .before .before .before .before .before .«open» .ensures) (sym (c .before .before .before .before .before .is-none .ensures) ∙ c .before .before .before .before .if1 .left)) (c .before .before .refuse .ensures)
+    turned-as (opening-refuses _ _ _ _ _ (c .before .before .before .before .before .before .before .before .first .given .1)
+    (c .before .before .before .before .before .before .«open» .ensures)
+    (sym (c .before .before .before .before .before .is-none .ensures) ∙ c .before .before .before .before .if1 .left)) (c .before .before .refuse .ensures)
 
 returns-3 : tie.Need-returns-3
 returns-3 c = turned-as (opening-lacks _ _ _ (c .before .before .before .before .enum-told .given .1)) (c .before .before .refuse2 .ensures)

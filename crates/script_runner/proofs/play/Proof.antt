@@ -16,10 +16,14 @@ abbrev μ-loop : tie.MeasureT-loop
 μ-loop script to page₀ p₀ page p = weight script p
 
 loop-holds : tie.Need-loop-holds Inv-loop μ-loop
-loop-holds c = (subst (InPlay (c .before .before .before .args .script .now)) (sym (c .begin .ensures)) (begin-ready (c .before .before .before .args .script .now)), refl)
+loop-holds c =
+    (subst (InPlay (c .before .before .before .args .script .now)) (sym (c .begin .ensures)) (begin-ready (c .before .before .before .args .script .now)), refl)
 
 fill-requires : tie.Need-fill-requires Inv-loop μ-loop
-fill-requires c κs = (c .before .before .before .loop .inv .0, omega (arith, c .before .before .before .loop .inv .1, c .before .before .before .before .before .before .before .pre))
+fill-requires c κs = (
+  c .before .before .before .loop .inv .0,
+  omega (arith, c .before .before .before .loop .inv .1, c .before .before .before .before .before .before .before .pre),
+)
 
 slice-reshare-prefix-write-all : tie.Need-slice-reshare-prefix-write-all Inv-loop μ-loop
 slice-reshare-prefix-write-all c = c .before .before .fill .ensures .inside
@@ -28,13 +32,20 @@ slice-aggregate-write-all : tie.Need-slice-aggregate-write-all Inv-loop μ-loop
 slice-aggregate-write-all c = sym (length-take-le _ _ (c .before .before .before .fill .ensures .inside))
 
 same-length : tie.Need-same-length Inv-loop μ-loop
-same-length c = c .before .before .before .before .before .fill .kept .1 .1 .0 ∙ c .before .before .before .before .before .before .before .before .before .loop .inv .1
+same-length c = c .before .before .before .before .before .fill .kept .1 .1 .0
+    ∙ c .before .before .before .before .before .before .before .before .before .loop .inv .1
 
 loop-less : tie.Need-loop-less Inv-loop μ-loop
-loop-less c = c .before .before .before .before .before .before .fill .ensures .less (sym (c .before .before .before .before .before .before .before .before .before .goes-on .ensures) ∙ c .before .before .before .before .before .before .before .before .if1 .taken)
+loop-less c = c .before .before .before .before .before .before .fill .ensures .less
+    (sym (c .before .before .before .before .before .before .before .before .before .goes-on .ensures)
+    ∙ c .before .before .before .before .before .before .before .before .if1 .taken)
 
 loop-again : tie.Need-loop-again Inv-loop μ-loop
-loop-again c = (c .before .before .before .before .before .before .fill .ensures .ready, c .before .before .before .before .before .before .fill .kept .1 .1 .0 ∙ c .before .before .before .before .before .before .before .before .before .before .loop .inv .1)
+loop-again c = (
+  c .before .before .before .before .before .before .fill .ensures .ready,
+  c .before .before .before .before .before .before .fill .kept .1 .1 .0
+      ∙ c .before .before .before .before .before .before .before .before .before .before .loop .inv .1,
+)
 
 same-length-2 : tie.Need-same-length-2 Inv-loop μ-loop
 same-length-2 c = c .before .before .loop .inv .1
