@@ -130,7 +130,8 @@ fn move_to(
     at: usize,
 ) -> Replanned
     requires { ⌜ Moves (now minutes) (now free) own at job hold clock ⌝ }
-    ensures { λ r. ⌜ ((m : Moves (now (minutes .entry)) (now (free .entry)) own at job hold clock) → TurnDone (m .replans) r (now (minutes .exit)) (now (free .exit))) ⌝ }
+    ensures { λ r.
+        ⌜ ((m : Moves (now (minutes .entry)) (now (free .entry)) own at job hold clock) → TurnDone (m .replans) r (now (minutes .exit)) (now (free .exit))) ⌝ }
 {
     let start = minutes[at];
     let before = span(job.nodes, job.start, hold);

@@ -15,7 +15,9 @@ ghost use Rattle.scheduler.specs.Limits.{horizon, slots};
 ghost use Rattle.scheduler.specs.Table.{ticketOf};
 ghost use Rattle.scheduler.specs.Model.{Model};
 ghost use Rattle.easy_rules.specs.Easy.{head, avail, shadow, choice, forecast};
-ghost use Rattle.easy_engine.specs.Survey.{Column, estimateOf, asks, endOf, Held, Lacks, Surveyed, placeOf, jobIn, asksTo, mayPass, Begun, Settlement, StartsInTime, SurveyRests, ticketIn, announced, Announces, Unsettled, Answers};
+ghost use Rattle.easy_engine.specs.Survey.{Column, estimateOf, asks, endOf, Held, Lacks, Surveyed, placeOf, jobIn, asksTo, mayPass};
+ghost use Rattle.easy_engine.specs.Survey.{Begun, Settlement, StartsInTime, SurveyRests, ticketIn, announced, Announces, Unsettled};
+ghost use Rattle.easy_engine.specs.Survey.{Answers};
 
 // More nodes than any machine has: what a job asks for once it has started.
 const NOBODY: u32 = Scheduler::NODES + 1;
@@ -55,7 +57,8 @@ fn sooner(
     end: u32,
 ) -> u32
     requires { ⌜ Held (now held) (now ends) running spare ⌝ }
-    ensures { λ r. ⌜ ((h : Held (now (held .entry)) (now (ends .entry)) running spare) → r ≡ cond (ltb end best && leb nodes (avail (h .model) end)) end best) ⌝ }
+    ensures { λ r.
+        ⌜ ((h : Held (now (held .entry)) (now (ends .entry)) running spare) → r ≡ cond (ltb end best && leb nodes (avail (h .model) end)) end best) ⌝ }
 {
     if end < best {
         if nodes <= avail_at(held, ends, running, spare, end) {
@@ -124,7 +127,9 @@ fn forward(
     room: u32,
 ) -> usize
     requires { ⌜ waiting ≤ slots ⌝ }
-    ensures { λ r. ⌜ ((ws : List Job) → Column asks ws (now (asked .entry)) → Column estimateOf ws (now (estimates .entry)) → length ws ≡ waiting → r ≡ placeOf (position (mayPass spare extra room) ws) waiting) ⌝ }
+    ensures { λ r.
+        ⌜ ((ws : List Job) → Column asks ws (now (asked .entry)) → Column estimateOf ws (now (estimates .entry)) → length ws ≡ waiting
+        → r ≡ placeOf (position (mayPass spare extra room) ws) waiting) ⌝ }
 {
     let mut i: usize = 0;
     while i < waiting {
@@ -149,7 +154,9 @@ fn choose(
     spare: u32,
 ) -> usize
     requires { ⌜ Surveyed (now held) (now ends) running (now asked) (now estimates) waiting clock spare ⌝ }
-    ensures { λ r. ⌜ ((s : Surveyed (now (held .entry)) (now (ends .entry)) running (now (asked .entry)) (now (estimates .entry)) waiting clock spare) → jobIn (s .asking) r ≡ choice (s .model)) ⌝ }
+    ensures { λ r.
+        ⌜ ((s : Surveyed (now (held .entry)) (now (ends .entry)) running (now (asked .entry)) (now (estimates .entry)) waiting clock spare)
+        → jobIn (s .asking) r ≡ choice (s .model)) ⌝ }
 {
     let h = first_within(asked, waiting, Scheduler::NODES);
     if waiting <= h {
@@ -182,7 +189,8 @@ fn start(
     clock: u32,
 ) -> u32
     requires { ⌜ (running < slots) × (count < slots) × (i < slots) × (clock ≤ horizon) ⌝ }
-    ensures { λ r. ⌜ Begun (now (held .entry)) (now (ends .entry)) (now (asked .entry)) (now (order .entry)) (now (estimates .entry)) running count i clock r (now (held .exit)) (now (ends .exit)) (now (asked .exit)) (now (order .exit)) ⌝ }
+    ensures { λ r. ⌜ Begun (now (held .entry)) (now (ends .entry)) (now (asked .entry)) (now (order .entry)) (now (estimates .entry)) running count i
+        clock r (now (held .exit)) (now (ends .exit)) (now (asked .exit)) (now (order .exit)) ⌝ }
 {
     let n = asked[i];
     held[running] = n;
@@ -213,7 +221,10 @@ fn settle(
     spare: u32,
 ) -> Settled
     requires { ⌜ Surveyed (now held) (now ends) running (now asked) (now estimates) waiting clock spare × (count ≤ running) ⌝ }
-    ensures { λ r. ⌜ ((s : Surveyed (now (held .entry)) (now (ends .entry)) running (now (asked .entry)) (now (estimates .entry)) waiting clock spare) → Settlement (s .model) (s .asking) (now (estimates .entry)) running waiting clock count (now (order .entry)) r (now (held .exit)) (now (ends .exit)) (now (asked .exit)) (now (order .exit))) ⌝ }
+    ensures { λ r.
+        ⌜ ((s : Surveyed (now (held .entry)) (now (ends .entry)) running (now (asked .entry)) (now (estimates .entry)) waiting clock spare)
+        → Settlement (s .model) (s .asking) (now (estimates .entry)) running waiting clock count (now (order .entry)) r (now (held .exit))
+        (now (ends .exit)) (now (asked .exit)) (now (order .exit))) ⌝ }
 {
     let i = choose(held, ends, running, asked, estimates, waiting, clock, spare);
     if waiting <= i {
@@ -263,7 +274,9 @@ fn fill_ends(ends: &mut [u32; 64], terms: &[u32; 64], running: usize)
 // Whether nobody fits, and the first that waits is the head of before: then nobody starts and nobody is announced.
 fn rests(before: u32, asked: &[u32; 64], tickets: &[u32; 64], waiting: usize, spare: u32) -> bool
     requires { ⌜ waiting ≤ slots ⌝ }
-    ensures { λ r. ⌜ ((ws : List Job) → Column asks ws (now (asked .entry)) → Column ticketOf ws (now (tickets .entry)) → length ws ≡ waiting → r ≡ true → SurveyRests ws spare before) ⌝ }
+    ensures { λ r.
+        ⌜ ((ws : List Job) → Column asks ws (now (asked .entry)) → Column ticketOf ws (now (tickets .entry)) → length ws ≡ waiting → r ≡ true
+        → SurveyRests ws spare before) ⌝ }
 {
     if first_within(asked, waiting, spare) < waiting {
         return false;
@@ -293,7 +306,9 @@ fn announce(
     spare: u32,
 ) -> Announced
     requires { ⌜ Announces (now held) (now ends) running (now asked) (now tickets) waiting clock spare ⌝ }
-    ensures { λ r. ⌜ ((a : Announces (now (held .entry)) (now (ends .entry)) running (now (asked .entry)) (now (tickets .entry)) waiting clock spare) (b : Model) → before ≡ ticketIn (head b) → r ≡ announced (forecast b (a .surveyed .model))) ⌝ }
+    ensures { λ r.
+        ⌜ ((a : Announces (now (held .entry)) (now (ends .entry)) running (now (asked .entry)) (now (tickets .entry)) waiting clock spare) (b : Model)
+        → before ≡ ticketIn (head b) → r ≡ announced (forecast b (a .surveyed .model))) ⌝ }
 {
     let h = first_within(asked, waiting, Scheduler::NODES);
     if waiting <= h {
@@ -357,7 +372,9 @@ pub fn settle_all(
     spare: u32,
 ) -> Answered
     requires { ⌜ Unsettled (now held) (now ends) (now terms) running (now asked) (now estimates) (now tickets) waiting (now order) clock spare ⌝ }
-    ensures { λ r. ⌜ ((u : Unsettled (now (held .entry)) (now (ends .entry)) (now (terms .entry)) running (now (asked .entry)) (now (estimates .entry)) (now (tickets .entry)) waiting (now (order .entry)) clock spare) → Answers (u .scheduler) (u .places) ticket (now (order .exit)) r) ⌝ }
+    ensures { λ r.
+        ⌜ ((u : Unsettled (now (held .entry)) (now (ends .entry)) (now (terms .entry)) running (now (asked .entry)) (now (estimates .entry))
+        (now (tickets .entry)) waiting (now (order .entry)) clock spare) → Answers (u .scheduler) (u .places) ticket (now (order .exit)) r) ⌝ }
 {
     let before = head_before(tickets[0], ticket);
     if rests(before, asked, tickets, waiting, spare) {

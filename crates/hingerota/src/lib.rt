@@ -3,7 +3,8 @@
 ghost use mathlib.Core.Path.{_≡_};
 ghost use Rattle.scheduler.specs.Answers.{code};
 ghost use Rattle.history.specs.Calls as calls;
-ghost use Rattle.hingerota.specs.Mirror.{kindOf, kindNumber, stateOf, stateNumber, mirrorJob, mirror, readRecord, read, mirrorTickets, mirrorAnswer, mirrorOutcome};
+ghost use Rattle.hingerota.specs.Mirror.{kindOf, kindNumber, stateOf, stateNumber, mirrorJob, mirror, readRecord, read};
+ghost use Rattle.hingerota.specs.Mirror.{mirrorTickets, mirrorAnswer, mirrorOutcome};
 ghost use Prim.Native.Nat.{_<_};
 ghost use Rattle.conservative_profile.specs.StoredProfile.{places};
 ghost use Rattle.hingerota.specs.DeskPremise.{Handed, gives, opens, promiseOpening, looseOpening};

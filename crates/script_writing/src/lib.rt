@@ -56,7 +56,8 @@ fn put_last(page: &mut [u8], at: usize, v: u32) -> usize
 
 fn put_row(page: &mut [u8], at: usize, word: &[u8], a: u32, b: u32) -> usize
     requires { ⌜ at + (length (now word) + 23) ≤ length (now page) ⌝ }
-    ensures { λ r. ⌜ Wrote (length (now (word .entry)) + 23) (now (page .entry)) at (row (now (word .entry)) (decimalOf a) (decimalOf b)) (now (page .exit)) r ⌝ }
+    ensures { λ r. ⌜ Wrote (length (now (word .entry)) + 23) (now (page .entry)) at (row (now (word .entry)) (decimalOf a) (decimalOf b))
+        (now (page .exit)) r ⌝ }
 {
     let p = text::put_word(page, at, word);
     let q = put_field(page, p, a);
@@ -73,7 +74,8 @@ fn put_rows(
     count: usize,
 ) -> usize
     requires { ⌜ (count ≤ 64) × (64 ≤ length (now list)) × (at + (length (now word) + 23) * count ≤ length (now page)) ⌝ }
-    ensures { λ r. ⌜ Wrote ((length (now (word .entry)) + 23) * count) (now (page .entry)) at (rowsOf (now (word .entry)) minute (take count (now (list .entry)))) (now (page .exit)) r ⌝ }
+    ensures { λ r. ⌜ Wrote ((length (now (word .entry)) + 23) * count)
+        (now (page .entry)) at (rowsOf (now (word .entry)) minute (take count (now (list .entry)))) (now (page .exit)) r ⌝ }
 {
     let mut p = at;
     let mut i: usize = 0;
