@@ -1,7 +1,7 @@
 /* Hingerota: two batch schedulers for a machine of up to 1,024 nodes, proved, for a host program in C or C++ on x86-64 Linux.
  *
  *   rt staticlib hingerota                      proves the library and writes target/staticlib/libhingerota.a
- *   gcc -Ihost/include rack.c target/staticlib/libhingerota.a
+ *   gcc -Ihost/include first_day.c target/staticlib/libhingerota.a
  *
  * A desk is the scheduler of one machine. A job is submitted with a number of nodes and an estimate in minutes, and gets a ticket.
  *
@@ -41,11 +41,11 @@ enum {
 enum {
     HINGEROTA_TAKEN = 0,
     HINGEROTA_NODES_OUT_OF_RANGE = 1,   /* an opening outside 1 to 1,024; a job with 0, or more than the machine has */
-    HINGEROTA_MINUTES_OUT_OF_RANGE = 2, /* an estimate outside 1 to 10,080 */
+    HINGEROTA_MINUTES_OUT_OF_RANGE = 2, /* an estimate or a wait outside 1 to 10,080 */
     HINGEROTA_OPENING_OUT_OF_RANGE = 3, /* a first minute above 1,000,000, or a first ticket outside 1 to 999,999 */
     HINGEROTA_FULL = 4,                 /* 64 jobs are live */
     HINGEROTA_NO_TICKET_LEFT = 5,       /* ticket 999,999 has been given */
-    HINGEROTA_PAST_LAST_MINUTE = 6,     /* a job that could end after minute 1,000,000, or a tick past it */
+    HINGEROTA_PAST_LAST_MINUTE = 6,     /* a job that could end after minute 1,000,000; a tick or a wait past it */
     HINGEROTA_NOT_RUNNING = 7,          /* the ticket is of no running job */
     HINGEROTA_PROFILE_TOO_LONG = 8,     /* more than 129 points; proved never to occur */
     HINGEROTA_TOO_SHORT = 10            /* the points do not fit into the list lent */
@@ -127,6 +127,10 @@ hingerota_answer hingerota_tick(hingerota_desk *d);
  * which has places for `room`. The first is now, then each later minute whose free nodes differ from those of the minute before. The
  * places past the last point keep what they held. Refused by 10. A Loose Desk has no profile: nothing is refused and nothing written. */
 hingerota_shown hingerota_profile(const hingerota_desk *d, hingerota_point *points, size_t room);
+
+/* Why a wait of so many minutes is refused, by 2 or 6, the first that applies, or 0 where it is not: it is then so many ticks.
+ * The desk is only read. */
+uint32_t hingerota_wait_refusal(const hingerota_desk *d, uint32_t minutes);
 
 #ifdef __cplusplus
 }

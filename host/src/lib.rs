@@ -72,6 +72,11 @@ impl Desk {
         unsafe { raw::hingerota_profile(&self.raw, points.as_mut_ptr(), points.len()) }
     }
 
+    /// Why a wait of so many minutes is refused, by 2 or 6, or 0 where it is not: it is then so many ticks.
+    pub fn wait_refusal(&self, minutes: u32) -> u32 {
+        unsafe { raw::hingerota_wait_refusal(&self.raw, minutes) }
+    }
+
     pub fn kind(&self) -> Kind {
         match self.raw.kind {
             0 => Kind::Promise,
@@ -123,7 +128,7 @@ pub fn reason(refusal: u32) -> &'static str {
     match refusal {
         0 => "taken",
         1 => "nodes out of range",
-        2 => "an estimate outside 1 to 10,080",
+        2 => "an estimate or a wait outside 1 to 10,080",
         3 => "opened past minute 1,000,000, or with a first ticket outside 1 to 999,999",
         4 => "64 jobs are live",
         5 => "ticket 999,999 has been given",

@@ -1,10 +1,12 @@
 -- Calls of a host, one after another, are a list of calls of the definitions, and by the answers received they have its guarantees.
 -- Document 01: "Each call, taken or refused, gets the desk that the last one handed back, or left where it was lent"; "A profile leaves the
--- desk as it is, and the points lent to it are no part of the desk".
+-- desk as it is, and the points lent to it are no part of the desk"; "a `wait` as its steps or as one refused call".
 -- Assumes nothing.
 use mathlib.Core.Path.{_≡_, refl, ap, _∙_}
+use mathlib.Core.Bool.{false}
 use mathlib.Core.List.{List, map}
 use Prim.Native.Nat.{ℕ}
+use lib.Dec.{eqb}
 use lib.ListN.{length}
 use Rattle.scheduler.specs.declared.Opening.{Opening}
 use Rattle.scheduler.specs.Model.{Model, store, view}
@@ -26,6 +28,7 @@ use Rattle.hingerota.specs.Mirror.{mirror, mirrorTickets, mirrorAnswer, 
 use Rattle.hingerota.specs.DeskPremise.{opens}
 use Rattle.hingerota.specs.CallContract.{HostLeaves}
 use Rattle.hingerota.specs.ProfileContract.{HostShows}
+use Rattle.hingerota.specs.Waits.{waitRefusalOn, waitNumber}
 
 -- the reply that an answer in numbers says
 abbrev pub hostReply : Answer → Reply
@@ -41,6 +44,8 @@ pub data HostMade (d : Desk) : Call → Answer → Desk → Type 0 where
   -- a profile counts as a call that leaves the desk as it is, by the refusal that it answers
   profileOnLent : {lent after : List Point} {s : Shown} → HostShows d lent s after
       → HostMade d (unchanged (profileRefusal (view (read d)) (length lent))) (refusedBy (s .refusal)) d
+  -- and so does a wait which is refused; one that is not is as many ticks
+  waitRefused : {n : ℕ} (minutes : ℕ) → n ≡ waitNumber d minutes → eqb n 0 ≡ false → HostMade d (unchanged (waitRefusalOn d minutes)) (refusedBy n) d
 
 -- where d mirrors a valid model, stored: what each leaves and answers is that of its definition
 module _ (m : Model) (v : Valid m) where
@@ -56,6 +61,7 @@ module _ (m : Model) (v : Valid m) where
   )
   made-is (profileOnLent {lent} {after} {s} w) =
       rw (unchanged-refuses m (profileRefusal (view (read (mirror (store m)))) (length lent))) (refl, ap (λ (x : Shown). refusedBy (x .refusal)) (w .answers))
+  made-is (waitRefused {n} minutes e q) = rw (unchanged-refuses m (waitRefusalOn (mirror (store m)) minutes)) (refl, ap refusedBy e)
 
 -- From the desk that an opening hands back, a refused one too: desk and answers are those of the list of calls, and the book of the calls
 -- made and the answers received has the guarantees (document 01: "demand 3").

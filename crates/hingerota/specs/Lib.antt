@@ -2,4 +2,5 @@ pub mod Mirror
 pub mod DeskPremise
 pub mod CallContract
 pub mod ProfileContract
+pub mod Waits
 pub mod Chain

@@ -10,6 +10,7 @@ ghost use Rattle.conservative_profile.specs.StoredProfile.{places};
 ghost use Rattle.hingerota.specs.DeskPremise.{Handed, gives, opens, promiseOpening, looseOpening};
 ghost use Rattle.hingerota.specs.CallContract.{HostLeaves};
 ghost use Rattle.hingerota.specs.ProfileContract.{mirrorShown, mirrorPoint, shownIn, pointAt, HostShows};
+ghost use Rattle.hingerota.specs.Waits.{waitNumber};
 use scheduler::Job;
 use scheduler::Kind;
 use scheduler::Opening;
@@ -313,6 +314,14 @@ fn point_at(p: ProfileOutcome, i: usize) -> Point
     mirror_point(q)
 }
 
+fn wait_refusal(d: Desk, minutes: u32) -> u32
+    requires { ⌜ Handed d ⌝ }
+    ensures { λ r. ⌜ r ≡ waitNumber d minutes ⌝ }
+{
+    let refusal = calls::wait_refusal(read(d), minutes);
+    refusal.code()
+}
+
 // ## Exported
 
 // An empty desk of conservative backfilling (document 01: "Promise Desk").
@@ -387,4 +396,13 @@ pub extern "C" fn hingerota_profile(d: &Desk, points: &mut [Point]) -> Shown
         i += 1;
     }
     p.answer
+}
+
+// Why a wait of so many minutes is refused, by number, or 0: it is then so many ticks. The desk is only read.
+#[no_mangle]
+pub extern "C" fn hingerota_wait_refusal(d: &Desk, minutes: u32) -> u32
+    requires { ⌜ Handed (now d) ⌝ }
+    ensures { λ r. ⌜ r ≡ waitNumber (now (d .entry)) minutes ⌝ }
+{
+    wait_refusal(*d, minutes)
 }

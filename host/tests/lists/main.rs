@@ -34,10 +34,11 @@ struct Plan {
     ticket: u32,
     calls: u32,
     estimates: Estimates,
-    /// Of a hundred calls, so many are submissions, completions and profiles; the others are ticks.
+    /// Of a hundred calls, so many are submissions, completions, profiles and waits that are only judged; the others are ticks.
     submissions: u32,
     completions: u32,
     profiles: u32,
+    waits: u32,
 }
 
 fn plan(random: &mut Random) -> Plan {
@@ -67,10 +68,11 @@ fn plan(random: &mut Random) -> Plan {
         180..=197 => random.between(81, 400),
         _ => random.between(1_000, 2_500),
     };
-    let (submissions, completions, profiles) = random.one_of(&[(40, 20, 10), (60, 10, 5), (25, 25, 25), (80, 5, 5), (35, 35, 5)]);
+    let (submissions, completions, profiles, waits) =
+        random.one_of(&[(40, 20, 10, 5), (60, 10, 5, 3), (25, 25, 25, 10), (80, 5, 5, 2), (35, 35, 5, 5)]);
     let kind = random.one_of(&[Kind::Promise, Kind::Loose]);
     let estimates = random.one_of(&[Estimates::Tiny, Estimates::Short, Estimates::Edges, Estimates::Any]);
-    let mut plan = Plan { kind, nodes, minute, ticket, calls, estimates, submissions, completions, profiles };
+    let mut plan = Plan { kind, nodes, minute, ticket, calls, estimates, submissions, completions, profiles, waits };
     // One opening of twelve is refused, for one reason or for several.
     if random.percent(8) {
         match random.below(4) {
@@ -110,6 +112,7 @@ struct Count {
     ticks: u64,
     profiles: u64,
     points: u64,
+    waits: u64,
     most_live: usize,
     most_points: usize,
     /// By number, of openings and of calls.
@@ -126,6 +129,7 @@ impl Count {
         self.ticks += other.ticks;
         self.profiles += other.profiles;
         self.points += other.points;
+        self.waits += other.waits;
         self.most_live = self.most_live.max(other.most_live);
         self.most_points = self.most_points.max(other.most_points);
         for (sum, n) in self.refusals.iter_mut().zip(other.refusals) {
@@ -263,6 +267,17 @@ impl Played {
         same("points", lent, after)?;
         self.same_desk()
     }
+
+    /// Asked, and not waited.
+    fn wait_refusal(&mut self, minutes: u32) -> Result<(), String> {
+        self.done.push(format!("refusal of a wait of {minutes}"));
+        self.count.waits += 1;
+        self.count.calls += 1;
+        let refusal = self.model.wait_refusal(minutes);
+        self.count.refusals[refusal as usize] += 1;
+        same("refusal of the wait", self.desk.wait_refusal(minutes), refusal)?;
+        self.same_desk()
+    }
 }
 
 /// The next call of a list.
@@ -303,6 +318,14 @@ fn step(plan: &Plan, played: &mut Played, random: &mut Random) -> Result<(), Str
             _ => random.between(0, 200) as usize,
         };
         played.profile(room)
+    } else if roll < plan.submissions + plan.completions + plan.profiles + plan.waits {
+        let left = model::LAST_MINUTE - played.model.clock;
+        let minutes = match random.below(4) {
+            0 => random.one_of(&[0, 1, 10_080, 10_081, 1_000_000, u32::MAX]),
+            1 => random.one_of(&[left.saturating_sub(1), left, left + 1]),
+            _ => random.between(1, 10_080),
+        };
+        played.wait_refusal(minutes)
     } else {
         // Some minutes, or as many as it takes until a job that is due ends or starts.
         let clock = played.model.clock;
@@ -378,8 +401,8 @@ fn main() {
     let all = all.into_inner().unwrap();
     let Tried { promises, bounds, forecasts, heads, sums } = all.tried;
     println!(
-        "{} lists, {} calls: {} submissions, {} completions, {} ticks, {} profiles with {} points",
-        all.lists, all.calls, all.submissions, all.completions, all.ticks, all.profiles, all.points
+        "{} lists, {} calls: {} submissions, {} completions, {} ticks, {} profiles with {} points, {} waits judged",
+        all.lists, all.calls, all.submissions, all.completions, all.ticks, all.profiles, all.points, all.waits
     );
     println!("at most {} live jobs and {} points; refusals by number, from 0: {:?}", all.most_live, all.most_points, all.refusals);
     println!("guarantees: {promises} promises, {bounds} bounds and {forecasts} forecasts kept, {heads} heads with a forecast, {sums} sums of nodes");

@@ -174,6 +174,17 @@ impl Model {
         }
     }
 
+    /// Why a wait is refused, or 0: "`wait` 2, 6"; 2: "`wait` outside 1 to 10,080"; 6: "the clock would pass it".
+    pub fn wait_refusal(&self, minutes: u32) -> u32 {
+        if minutes < 1 || minutes > LONGEST_ESTIMATE {
+            return 2;
+        }
+        if self.clock + minutes > LAST_MINUTE {
+            return 6;
+        }
+        0
+    }
+
     // The Promise Desk.
 
     /// "Free nodes at minute t are the rack's, less those of running stacks whose end is after t, less those of waiting stacks with

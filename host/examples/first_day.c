@@ -1,5 +1,5 @@
 /* A host program to copy: one machine of 10 nodes, whose minutes and completions it tells the desk. It prints what the desk answers.
- *   gcc -Ihost/include -o rack host/examples/rack.c target/staticlib/libhingerota.a
+ *   gcc -Ihost/include -o first_day host/examples/first_day.c target/staticlib/libhingerota.a
  */
 #include <inttypes.h>
 #include <stdio.h>
@@ -9,7 +9,7 @@
 static const char *const reasons[] = {
     "taken",
     "nodes out of range",
-    "an estimate outside 1 to 10,080",
+    "an estimate or a wait outside 1 to 10,080",
     "opened past minute 1,000,000, or with a first ticket outside 1 to 999,999",
     "64 jobs are live",
     "ticket 999,999 has been given",

@@ -1,5 +1,5 @@
 //! A host program to copy: one machine of 10 nodes, whose minutes and completions it tells the desk. It prints what the desk answers.
-//! `cargo run --offline --example rack`
+//! `cargo run --offline --example first_day`
 
 use hingerota_host::{reason, Answer, Desk, Kind, Point, MOST_POINTS};
 

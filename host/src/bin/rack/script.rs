@@ -1,0 +1,71 @@
+//! A script as it is played: its first line opens a desk, and the later ones ask it.
+
+use crate::fields::{fields, numbers};
+use crate::lines::Line;
+use crate::page::{Done, Page, Refusal, LACKS_THE_FORM};
+use crate::words;
+use hingerota_host::{Desk, Kind};
+
+pub enum Script {
+    First,
+    Playing(Box<Rack>),
+    /// Its first line was refused.
+    Over,
+}
+
+/// What later lines ask.
+pub struct Rack {
+    pub desk: Desk,
+}
+
+impl Script {
+    pub fn is_over(&self) -> bool {
+        matches!(self, Script::Over)
+    }
+
+    /// What the next line prints.
+    pub fn play(&mut self, line: Line) -> Page {
+        let mut page = Page::default();
+        if let Err(refusal) = self.ask(line, &mut page) {
+            page.no(refusal);
+        }
+        page
+    }
+
+    /// "A refused first line prints `no` and its number and stops; later ones print it and go on."
+    fn ask(&mut self, line: Line, page: &mut Page) -> Done {
+        let fields = match line {
+            Line::Closed(bytes) => Ok(fields(bytes)),
+            Line::Formless => Err(LACKS_THE_FORM),
+        };
+        match self {
+            Script::First => {
+                let (next, done) = match fields.and_then(|fields| open(&fields)) {
+                    Ok(rack) => (Script::Playing(Box::new(rack)), Ok(())),
+                    Err(refusal) => (Script::Over, Err(refusal)),
+                };
+                *self = next;
+                done
+            }
+            Script::Playing(rack) => words::play(rack, &fields?, page),
+            Script::Over => Ok(()),
+        }
+    }
+}
+
+/// "First line: `desk`, `promise` or `loose`, nodes, minute, ticket."
+fn open(fields: &[&[u8]]) -> Result<Rack, Refusal> {
+    let [b"desk", kind, rest @ ..] = fields else {
+        return Err(LACKS_THE_FORM);
+    };
+    let kind = match *kind {
+        b"promise" => Kind::Promise,
+        b"loose" => Kind::Loose,
+        _ => return Err(LACKS_THE_FORM),
+    };
+    let [nodes, minute, ticket] = numbers(rest)?;
+    match Desk::open(kind, nodes, minute, ticket) {
+        Ok(desk) => Ok(Rack { desk }),
+        Err(refused) => Err(Refusal(refused.refusal)),
+    }
+}

@@ -1,0 +1,109 @@
+//! The words of later lines. A word is an entry of `WORDS`, and stands nowhere else.
+
+use crate::fields::numbers;
+use crate::page::{taken, Done, Page, LACKS_THE_FORM};
+use crate::script::Rack;
+use hingerota_host::{Point, MOST_POINTS};
+
+struct Word {
+    /// The word, and the fields after it as the usage shows them.
+    form: &'static str,
+    does: &'static str,
+    /// Asks the rack, by the fields after the word, and prints what it gives.
+    play: fn(&mut Rack, &[&[u8]], &mut Page) -> Done,
+}
+
+const WORDS: &[Word] = &[
+    Word {
+        form: "in NODES ESTIMATE",
+        does: "a job is submitted",
+        play: |rack, fields, page| {
+            let [nodes, estimate] = numbers(fields)?;
+            let answer = rack.desk.submit(nodes, estimate);
+            page.answer(&rack.desk, &answer)
+        },
+    },
+    Word {
+        form: "end TICKET",
+        does: "a running job is over before its time",
+        play: |rack, fields, page| {
+            let [ticket] = numbers(fields)?;
+            let answer = rack.desk.complete(ticket);
+            page.answer(&rack.desk, &answer)
+        },
+    },
+    Word {
+        form: "wait MINUTES",
+        does: "so many minutes pass",
+        play: |rack, fields, page| {
+            let [minutes] = numbers(fields)?;
+            taken(rack.desk.wait_refusal(minutes))?;
+            for _ in 0..minutes {
+                let answer = rack.desk.tick();
+                page.answer(&rack.desk, &answer)?;
+            }
+            Ok(())
+        },
+    },
+    Word {
+        form: "profile",
+        does: "of a Promise Desk: prints free MINUTE NODES, so many are free from then on",
+        play: |rack, fields, page| {
+            let [] = numbers(fields)?;
+            let mut points = [Point { minute: 0, free: 0 }; MOST_POINTS];
+            let shown = rack.desk.profile(&mut points);
+            taken(shown.refusal)?;
+            page.points(&points[..shown.count]);
+            Ok(())
+        },
+    },
+];
+
+impl Word {
+    fn name(&self) -> &'static [u8] {
+        self.form.split(' ').next().unwrap_or_default().as_bytes()
+    }
+}
+
+/// What a later line asks.
+pub fn play(rack: &mut Rack, fields: &[&[u8]], page: &mut Page) -> Done {
+    let (name, rest) = fields.split_first().ok_or(LACKS_THE_FORM)?;
+    let word = WORDS.iter().find(|word| word.name() == *name).ok_or(LACKS_THE_FORM)?;
+    (word.play)(rack, rest, page)
+}
+
+pub fn usage() -> String {
+    let later: String = WORDS.iter().map(|word| format!("  {:40}{}\n", word.form, word.does)).collect();
+    format!(
+        "\
+usage: rack <SCRIPT
+       rack --help
+
+Plays a script on a desk, and prints what a line gives before it reads the next.
+A line is closed by byte 10, and its fields are parted by one tab.
+
+First line:
+  desk promise|loose NODES MINUTE TICKET  opens the desk, at that minute, with that first ticket
+Later lines:
+{later}Printed:
+  took TICKET PROMISE                     it starts by then (- on a Loose Desk)
+  over TICKET MINUTE, start TICKET MINUTE
+  head TICKET FORECAST                    on a Loose Desk: who waits first now, and starts by then
+  no NUMBER                               the line is refused; 9 if it lacks the form
+A refused first line ends the script.
+"
+    )
+}
+
+#[cfg(test)]
+mod tests {
+    use super::*;
+
+    #[test]
+    fn no_word_stands_twice() {
+        for (place, word) in WORDS.iter().enumerate() {
+            assert!(!word.name().is_empty());
+            assert!(WORDS[..place].iter().all(|other| other.name() != word.name()), "{}", word.form);
+        }
+    }
+}

@@ -1,0 +1,52 @@
+//! `rack` as a program.
+
+use std::io::Write;
+use std::path::Path;
+use std::process::{Command, Stdio};
+
+pub fn rack(arguments: &[&str]) -> Command {
+    let mut command = Command::new(env!("CARGO_BIN_EXE_rack"));
+    command.args(arguments);
+    command
+}
+
+/// How it ended, with what it wrote where that was not sent elsewhere.
+pub struct Ended {
+    pub status: Option<i32>,
+    pub output: String,
+    pub error: String,
+}
+
+impl Ended {
+    pub fn of(command: &mut Command) -> Ended {
+        let child = command.stderr(Stdio::piped()).spawn().unwrap();
+        let ended = child.wait_with_output().unwrap();
+        let text = |bytes| String::from_utf8(bytes).unwrap();
+        Ended { status: ended.status.code(), output: text(ended.stdout), error: text(ended.stderr) }
+    }
+}
+
+/// What it prints for a script. The script is sent while the printout is read; one whose first line is refused need not be read to its end.
+pub fn played(script: &[u8]) -> Vec<u8> {
+    let mut child = rack(&[]).stdin(Stdio::piped()).stdout(Stdio::piped()).spawn().unwrap();
+    let mut input = child.stdin.take().unwrap();
+    let ended = std::thread::scope(|threads| {
+        threads.spawn(move || {
+            let _ = input.write_all(script);
+        });
+        child.wait_with_output().unwrap()
+    });
+    assert!(ended.status.success());
+    ended.stdout
+}
+
+/// Fails at the first line that differs.
+pub fn same(script: &Path, printed: &[u8], expected: &[u8]) {
+    if printed == expected {
+        return;
+    }
+    let lines = |text: &[u8]| String::from_utf8_lossy(text).split_inclusive('\n').map(str::to_owned).collect::<Vec<_>>();
+    let (printed, expected) = (lines(printed), lines(expected));
+    let place = (0..).find(|i| printed.get(*i) != expected.get(*i)).unwrap();
+    panic!("{}, printed line {}: {:?} in place of {:?}", script.display(), place + 1, printed.get(place), expected.get(place));
+}
