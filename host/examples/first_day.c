@@ -45,7 +45,8 @@ static void print_answer(const hingerota_desk *desk, const hingerota_answer *ans
 
 static int play(hingerota_opened opened)
 {
-    static const uint32_t jobs[][2] = {{6, 20}, {8, 10}, {4, 25}, {11, 5}};
+    static const hingerota_order orders[] = {
+        {.nodes = 6, .estimate = 20}, {.nodes = 8, .estimate = 10}, {.nodes = 4, .estimate = 25}, {.nodes = 11, .estimate = 5}};
     hingerota_desk *desk = &opened.desk;
     hingerota_answer answer;
 
@@ -53,9 +54,9 @@ static int play(hingerota_opened opened)
         fprintf(stderr, "%s\n", reasons[opened.refusal]);
         return 1;
     }
-    for (size_t i = 0; i < sizeof jobs / sizeof jobs[0]; i++) {
-        answer = hingerota_submit(desk, jobs[i][0], jobs[i][1]);
-        printf("submit %" PRIu32 " %" PRIu32 ":", jobs[i][0], jobs[i][1]);
+    for (size_t i = 0; i < sizeof orders / sizeof orders[0]; i++) {
+        answer = hingerota_submit(desk, orders[i]);
+        printf("submit %" PRIu32 " %" PRIu32 ":", orders[i].nodes, orders[i].estimate);
         print_answer(desk, &answer);
     }
 
@@ -79,9 +80,11 @@ static int play(hingerota_opened opened)
 
 int main(void)
 {
+    hingerota_opening opening = {.nodes = 10, .minute = 0, .ticket = 1};
+
     printf("promise desk, 10 nodes, minute 0, first ticket 1\n");
-    if (play(hingerota_open_promise(10, 0, 1)))
+    if (play(hingerota_open_promise(opening)))
         return 1;
     printf("loose desk, 10 nodes, minute 0, first ticket 1\n");
-    return play(hingerota_open_loose(10, 0, 1));
+    return play(hingerota_open_loose(opening));
 }

@@ -1,7 +1,7 @@
 //! A host program to copy: one machine of 10 nodes, whose minutes and completions it tells the desk. It prints what the desk answers.
 //! `cargo run --offline --example first_day`
 
-use hingerota_host::{reason, Answer, Desk, Kind, Point, MOST_POINTS};
+use hingerota_host::{reason, Answer, Desk, Kind, Opening, Order, Point, MOST_POINTS};
 
 fn print(desk: &Desk, call: &str, answer: &Answer) {
     print!("{call}:");
@@ -30,12 +30,12 @@ fn print(desk: &Desk, call: &str, answer: &Answer) {
 fn main() {
     for (kind, name) in [(Kind::Promise, "promise"), (Kind::Loose, "loose")] {
         println!("{name} desk, 10 nodes, minute 0, first ticket 1");
-        let mut desk = match Desk::open(kind, 10, 0, 1) {
+        let mut desk = match Desk::open(kind, Opening { nodes: 10, minute: 0, ticket: 1 }) {
             Ok(desk) => desk,
             Err(refused) => panic!("{}", reason(refused.refusal)),
         };
         for (nodes, estimate) in [(6, 20), (8, 10), (4, 25), (11, 5)] {
-            let answer = desk.submit(nodes, estimate);
+            let answer = desk.submit(Order { nodes, estimate });
             print(&desk, &format!("submit {nodes} {estimate}"), &answer);
         }
         let mut points = [Point { minute: 0, free: 0 }; MOST_POINTS];

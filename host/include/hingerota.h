@@ -54,6 +54,19 @@ enum {
 enum { HINGEROTA_PROMISE = 0, HINGEROTA_LOOSE = 1 };                       /* of a desk */
 enum { HINGEROTA_UNUSED = 0, HINGEROTA_WAITING = 1, HINGEROTA_RUNNING = 2 }; /* of a record */
 
+/* What a desk is opened with. */
+typedef struct {
+    uint32_t nodes;  /* of the machine */
+    uint32_t minute; /* at which its clock stands */
+    uint32_t ticket; /* the first to be given */
+} hingerota_opening; /* 12 bytes */
+
+/* What is asked for a job. */
+typedef struct {
+    uint32_t nodes;
+    uint32_t estimate; /* in minutes */
+} hingerota_order; /* 8 bytes */
+
 /* A live job, or an unused place, which is all 0. `start` is that of a running job, and the planned one of a job that waits on a Promise
  * Desk. On a Loose Desk `promise`, and the start of a job that waits, are 0. */
 typedef struct {
@@ -107,15 +120,14 @@ typedef struct {
     size_t count;
 } hingerota_shown; /* 16 bytes */
 
-/* An empty desk for a machine of so many nodes, with its clock at `minute` and `ticket` as the first to be given. Refused by 1 or 3; the
- * desk is then of its kind, with 1 node, minute 0 and ticket 1.
+/* An empty desk, as the opening says. Refused by 1 or 3; the desk is then of its kind, with 1 node, minute 0 and ticket 1.
  * Promise: conservative backfilling. Loose: EASY backfilling. */
-hingerota_opened hingerota_open_promise(uint32_t nodes, uint32_t minute, uint32_t ticket);
-hingerota_opened hingerota_open_loose(uint32_t nodes, uint32_t minute, uint32_t ticket);
+hingerota_opened hingerota_open_promise(hingerota_opening opening);
+hingerota_opened hingerota_open_loose(hingerota_opening opening);
 
 /* A job is submitted. Its nodes are kept for its estimate rounded up: to 120 minutes by fives, to 480 by tens, above by thirties; then
  * the desk ends it. It starts at once if its ticket stands in `started`. Refused by 1, 2, 4, 5, 6 or 8, the first that applies. */
-hingerota_answer hingerota_submit(hingerota_desk *d, uint32_t nodes, uint32_t estimate);
+hingerota_answer hingerota_submit(hingerota_desk *d, hingerota_order order);
 
 /* A running job is over before its time: it stands in `ended`, and those that start now in `started`. Refused by 7. */
 hingerota_answer hingerota_complete(hingerota_desk *d, uint32_t ticket);

@@ -1,6 +1,6 @@
 //! The structs of `raw.rs` have the sizes and offsets of those in `include/hingerota.h`, as a C compiler lays them out.
 
-use crate::raw::{Answer, Desk, Opened, Point, Record, Shown, Tickets};
+use crate::raw::{Answer, Desk, Opened, Opening, Order, Point, Record, Shown, Tickets};
 use std::mem::{offset_of, size_of};
 use std::path::Path;
 use std::process::Command;
@@ -25,6 +25,8 @@ macro_rules! layouts {
 #[test]
 fn layouts_are_those_of_the_header() {
     let (lines, numbers) = layouts! {
+        "hingerota_opening" Opening { nodes minute ticket }
+        "hingerota_order" Order { nodes estimate }
         "hingerota_record" Record { ticket nodes estimate state start promise }
         "hingerota_desk" Desk { kind nodes clock next jobs }
         "hingerota_tickets" Tickets { count list }
@@ -54,6 +56,8 @@ fn layouts_are_those_of_the_header() {
 fn sizes_are_as_stated() {
     let header = std::fs::read_to_string(Path::new(env!("CARGO_MANIFEST_DIR")).join("include/hingerota.h")).unwrap();
     for (name, size) in [
+        ("hingerota_opening", size_of::<Opening>()),
+        ("hingerota_order", size_of::<Order>()),
         ("hingerota_record", size_of::<Record>()),
         ("hingerota_desk", size_of::<Desk>()),
         ("hingerota_tickets", size_of::<Tickets>()),

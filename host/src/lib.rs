@@ -7,7 +7,7 @@
 mod layout;
 mod raw;
 
-pub use raw::{Answer, Point, Record, Shown, Tickets};
+pub use raw::{Answer, Opening, Order, Point, Record, Shown, Tickets};
 
 /// The list of points that always suffices.
 pub const MOST_POINTS: usize = 129;
@@ -34,12 +34,12 @@ pub struct RefusedOpening {
 
 impl Desk {
     /// An empty desk; refused by 1 or 3.
-    pub fn open(kind: Kind, nodes: u32, minute: u32, ticket: u32) -> Result<Desk, Box<RefusedOpening>> {
+    pub fn open(kind: Kind, opening: Opening) -> Result<Desk, Box<RefusedOpening>> {
         // SAFETY: openings take numbers and ask nothing.
         let opened = unsafe {
             match kind {
-                Kind::Promise => raw::hingerota_open_promise(nodes, minute, ticket),
-                Kind::Loose => raw::hingerota_open_loose(nodes, minute, ticket),
+                Kind::Promise => raw::hingerota_open_promise(opening),
+                Kind::Loose => raw::hingerota_open_loose(opening),
             }
         };
         let desk = Desk { raw: opened.desk };
@@ -53,8 +53,8 @@ impl Desk {
     // nobody else writes it meanwhile; a slice points to as many places as its length says, and is no part of the desk.
 
     /// A job is submitted; refused by 1, 2, 4, 5, 6 or 8.
-    pub fn submit(&mut self, nodes: u32, estimate: u32) -> Answer {
-        unsafe { raw::hingerota_submit(&mut self.raw, nodes, estimate) }
+    pub fn submit(&mut self, order: Order) -> Answer {
+        unsafe { raw::hingerota_submit(&mut self.raw, order) }
     }
 
     /// A running job is over before its time; refused by 7.

@@ -1,5 +1,26 @@
 //! The structs and functions of `include/hingerota.h`. `layout.rs` holds their layouts to those of the header.
 
+/// What a desk is opened with.
+#[repr(C)]
+#[derive(Clone, Copy, PartialEq, Eq, Debug)]
+pub struct Opening {
+    /// Of the machine.
+    pub nodes: u32,
+    /// At which its clock stands.
+    pub minute: u32,
+    /// The first to be given.
+    pub ticket: u32,
+}
+
+/// What is asked for a job.
+#[repr(C)]
+#[derive(Clone, Copy, PartialEq, Eq, Debug)]
+pub struct Order {
+    pub nodes: u32,
+    /// In minutes.
+    pub estimate: u32,
+}
+
 #[repr(C)]
 #[derive(Clone, Copy, PartialEq, Eq, Debug)]
 pub struct Record {
@@ -63,9 +84,9 @@ pub struct Shown {
 }
 
 extern "C" {
-    pub fn hingerota_open_promise(nodes: u32, minute: u32, ticket: u32) -> Opened;
-    pub fn hingerota_open_loose(nodes: u32, minute: u32, ticket: u32) -> Opened;
-    pub fn hingerota_submit(d: *mut Desk, nodes: u32, estimate: u32) -> Answer;
+    pub fn hingerota_open_promise(opening: Opening) -> Opened;
+    pub fn hingerota_open_loose(opening: Opening) -> Opened;
+    pub fn hingerota_submit(d: *mut Desk, order: Order) -> Answer;
     pub fn hingerota_complete(d: *mut Desk, ticket: u32) -> Answer;
     pub fn hingerota_tick(d: *mut Desk) -> Answer;
     pub fn hingerota_profile(d: *const Desk, points: *mut Point, room: usize) -> Shown;

@@ -1,4 +1,4 @@
--- What the exported calls share: answers as flat types, `Outcome` as the struct of the answer and the desk, `ProfileOutcome` as that of a
+-- What the exported calls share: answers and an order as flat types, `Outcome` as the struct of the answer and the desk, `ProfileOutcome` as that of a
 -- count, the answer and the points (`Results.antt` of crate lent_lemmas).
 -- Assumes nothing.
 use Rattle.lent_lemmas.proofs.Thin.{Flat, FlatLaws, struct-flat, Two}
@@ -8,6 +8,8 @@ use Rattle.spans.proofs.Point as Q
 use Rattle.spans.proofs.Point.Laws as Q′
 use Rattle.hingerota.proofs.Desk as D
 use Rattle.hingerota.proofs.Desk.Laws as D′
+use Rattle.hingerota.proofs.Order as X
+use Rattle.hingerota.proofs.Order.Laws as X′
 use Rattle.hingerota.proofs.Answer as N
 use Rattle.hingerota.proofs.Answer.Laws as N′
 use Rattle.hingerota.proofs.Outcome as S
@@ -20,6 +22,12 @@ answer = struct-flat N.the-type N′.the-laws
 
 pub answer-laws : FlatLaws answer
 answer-laws = struct-laws N.the-type N′.the-laws N′.the-plain
+
+abbrev pub order : Flat
+order = struct-flat X.the-type X′.the-laws
+
+pub order-laws : FlatLaws order
+order-laws = struct-laws X.the-type X′.the-laws X′.the-plain
 
 abbrev pub outcome-two : Two answer D.the-type D′.the-laws
 outcome-two = two-of N.the-type N′.the-laws N′.lowers (S.the-type .name) (S.the-type .D) (λ r. r .answer) D.the-type D′.the-laws D′.lowers (λ r. r .desk)

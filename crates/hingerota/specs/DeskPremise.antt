@@ -20,6 +20,7 @@ use Rattle.scheduler.specs.Answers.{outcome}
 use Rattle.history.specs.Calls.{Call}
 use Rattle.guarantees.specs.Rules.{call}
 use Rattle.guarantees.specs.Premise.{Premise, opened-premise, call-premise}
+use Rattle.hingerota.specs.declared.Opening as host-opening
 use Rattle.hingerota.specs.declared.Desk.{Desk}
 use Rattle.hingerota.specs.declared.Record.{Record}
 use Rattle.hingerota.specs.declared.Outcome.{Outcome}
@@ -38,11 +39,11 @@ opens o = mirrorOpened (opened o)
 abbrev pub gives : Desk → Call → Outcome
 gives d c = mirrorOutcome (outcome (call (view (read d)) c))
 
-abbrev pub promiseOpening : ℕ → ℕ → ℕ → Opening
-promiseOpening n m t = record { kind = Conservative; nodes = n; minute = m; ticket = t }
+abbrev pub promiseOpening : host-opening.Opening → Opening
+promiseOpening o = record { kind = Conservative; nodes = o .nodes; minute = o .minute; ticket = o .ticket }
 
-abbrev pub looseOpening : ℕ → ℕ → ℕ → Opening
-looseOpening n m t = record { kind = Easy; nodes = n; minute = m; ticket = t }
+abbrev pub looseOpening : host-opening.Opening → Opening
+looseOpening o = record { kind = Easy; nodes = o .nodes; minute = o .minute; ticket = o .ticket }
 
 mirror-handed : (s : Scheduler) → Premise s → Handed (mirror s)
 mirror-handed s h = record { mirrored = ap mirror (sym (read-mirror s)); premise = subst Premise (sym (read-mirror s)) h }

@@ -13,10 +13,24 @@ ghost use Rattle.hingerota.specs.ProfileContract.{mirrorShown, mirrorPoi
 ghost use Rattle.hingerota.specs.Waits.{waitNumber};
 use scheduler::Job;
 use scheduler::Kind;
-use scheduler::Opening;
 use scheduler::Scheduler;
 use scheduler::State;
 use scheduler::Submission;
+
+// What a desk is opened with: the machine's nodes, the first minute, the first ticket.
+#[repr(C)]
+pub struct Opening {
+    pub nodes: u32,
+    pub minute: u32,
+    pub ticket: u32,
+}
+
+// What is asked for a job.
+#[repr(C)]
+pub struct Order {
+    pub nodes: u32,
+    pub estimate: u32,
+}
 
 // A job in numbers: state 0 unused, 1 waiting, 2 running.
 #[repr(C)]
@@ -254,7 +268,7 @@ fn mirror_point(p: spans::Point) -> Point
 
 // ## By value
 
-fn open(o: Opening) -> Opened
+fn open(o: scheduler::Opening) -> Opened
     ensures { λ r. ⌜ r ≡ opens o ⌝ }
 {
     let p = Scheduler::open(o);
@@ -267,13 +281,13 @@ fn open(o: Opening) -> Opened
     }
 }
 
-fn submit(d: Desk, nodes: u32, estimate: u32) -> Outcome
+fn submit(d: Desk, order: Order) -> Outcome
     requires { ⌜ Handed d ⌝ }
-    ensures { λ r. ⌜ r ≡ gives d (calls.submit nodes estimate) ⌝ }
+    ensures { λ r. ⌜ r ≡ gives d (calls.submit (order .nodes) (order .estimate)) ⌝ }
 {
     let s = Submission {
-        nodes: nodes,
-        estimate: estimate,
+        nodes: order.nodes,
+        estimate: order.estimate,
     };
     mirror_outcome(calls::submit(read(d), s))
 }
@@ -326,37 +340,37 @@ fn wait_refusal(d: Desk, minutes: u32) -> u32
 
 // An empty desk of conservative backfilling (document 01: "Promise Desk").
 #[no_mangle]
-pub extern "C" fn hingerota_open_promise(nodes: u32, minute: u32, ticket: u32) -> Opened
-    ensures { λ r. ⌜ r ≡ opens (promiseOpening nodes minute ticket) ⌝ }
+pub extern "C" fn hingerota_open_promise(opening: Opening) -> Opened
+    ensures { λ r. ⌜ r ≡ opens (promiseOpening opening) ⌝ }
 {
-    open(Opening {
+    open(scheduler::Opening {
         kind: Kind::Conservative,
-        nodes: nodes,
-        minute: minute,
-        ticket: ticket,
+        nodes: opening.nodes,
+        minute: opening.minute,
+        ticket: opening.ticket,
     })
 }
 
 // An empty desk of EASY backfilling (document 01: "Loose Desk").
 #[no_mangle]
-pub extern "C" fn hingerota_open_loose(nodes: u32, minute: u32, ticket: u32) -> Opened
-    ensures { λ r. ⌜ r ≡ opens (looseOpening nodes minute ticket) ⌝ }
+pub extern "C" fn hingerota_open_loose(opening: Opening) -> Opened
+    ensures { λ r. ⌜ r ≡ opens (looseOpening opening) ⌝ }
 {
-    open(Opening {
+    open(scheduler::Opening {
         kind: Kind::Easy,
-        nodes: nodes,
-        minute: minute,
-        ticket: ticket,
+        nodes: opening.nodes,
+        minute: opening.minute,
+        ticket: opening.ticket,
     })
 }
 
 // A job is submitted.
 #[no_mangle]
-pub extern "C" fn hingerota_submit(d: &mut Desk, nodes: u32, estimate: u32) -> Answer
+pub extern "C" fn hingerota_submit(d: &mut Desk, order: Order) -> Answer
     requires { ⌜ Handed (now d) ⌝ }
-    ensures { λ r. ⌜ HostLeaves (now (d .entry)) (calls.submit nodes estimate) r (now (d .exit)) ⌝ }
+    ensures { λ r. ⌜ HostLeaves (now (d .entry)) (calls.submit (order .nodes) (order .estimate)) r (now (d .exit)) ⌝ }
 {
-    let s = submit(*d, nodes, estimate);
+    let s = submit(*d, order);
     *d = s.desk;
     s.answer
 }

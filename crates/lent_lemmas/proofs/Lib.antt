@@ -5,10 +5,10 @@ pub mod Own0
 pub mod Own1
 pub mod OwnSlice_ds
 pub mod Params
+pub mod Peek0
 pub mod Peek1
 pub mod Results
 pub mod Thin
 pub mod Thin0
 pub mod Thin1
-pub mod Thin2
 pub mod Thinned

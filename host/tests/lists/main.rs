@@ -7,7 +7,7 @@ mod model;
 mod random;
 
 use book::{Book, Call, Tried};
-use hingerota_host::{Answer, Desk, Kind, Point, Record};
+use hingerota_host::{Answer, Desk, Kind, Opening, Order, Point, Record};
 use model::{Model, Search, State};
 use random::Random;
 use std::io::IsTerminal;
@@ -158,7 +158,8 @@ fn same<T: PartialEq + std::fmt::Debug>(what: &str, library: T, model: T) -> Res
 impl Played {
     fn open(plan: &Plan) -> Result<Played, String> {
         let (refusal, model) = Model::open(plan.kind, plan.nodes, plan.minute, plan.ticket);
-        let (number, desk) = match Desk::open(plan.kind, plan.nodes, plan.minute, plan.ticket) {
+        let opening = Opening { nodes: plan.nodes, minute: plan.minute, ticket: plan.ticket };
+        let (number, desk) = match Desk::open(plan.kind, opening) {
             Ok(desk) => (0, desk),
             Err(refused) => (refused.refusal, refused.desk),
         };
@@ -218,7 +219,7 @@ impl Played {
     fn submit(&mut self, nodes: u32, estimate: u32) -> Result<(), String> {
         self.done.push(format!("submit {nodes} {estimate}"));
         self.count.submissions += 1;
-        let (library, model) = (self.desk.submit(nodes, estimate), self.model.submit(nodes, estimate));
+        let (library, model) = (self.desk.submit(Order { nodes, estimate }), self.model.submit(nodes, estimate));
         self.same_answer(Call::Submit { nodes, estimate }, library, model)
     }
 

@@ -5,9 +5,8 @@ use mathlib.Core.Bool.{true}
 use Rattle.history.specs.Calls as calls
 use Rattle.hingerota.specs.DeskPremise.{Handed, gives}
 use Rattle.hingerota.specs.CallContract.{HostLeaves, leaves-given}
-use Rattle.lent_lemmas.proofs.Thin.{u32-flat, u32-laws}
-use Rattle.lent_lemmas.proofs.Thin2.{thin2}
-use Rattle.hingerota.proofs.FlatTypes.{answer, answer-laws, outcome-two}
+use Rattle.lent_lemmas.proofs.Thin1.{thin1}
+use Rattle.hingerota.proofs.FlatTypes.{answer, answer-laws, order, order-laws, outcome-two}
 use Rattle.hingerota.proofs.Desk as D
 use Rattle.hingerota.proofs.Desk.Laws as D′
 use Rattle.hingerota.proofs.submit.Symbol as callee
@@ -19,7 +18,7 @@ use Rattle.hingerota.proofs.hingerota_submit.Code as code
 pub hingerota-submit-spec : {M : Type 1} → stated.statement M
 unfolding code.routine
 hingerota-submit-spec 𝓤 H 𝓜 𝓖 𝓡 =
-    thin2 D.the-type D′.the-laws D′.the-plain answer answer-laws outcome-two u32-flat u32-laws u32-flat u32-laws callee.name true true
-    (λ d n e. Handed d) (λ d n e s. s ≡ gives d (calls.submit n e)) (λ d n e. HostLeaves d (calls.submit n e)) (λ d n e z. absurd z)
-    (λ d n e s pre q. leaves-given d (calls.submit n e) s pre q)
+    thin1 D.the-type D′.the-laws D′.the-plain answer answer-laws outcome-two order order-laws callee.name true true (λ d o. Handed d)
+    (λ d o s. s ≡ gives d (calls.submit (o .nodes) (o .estimate))) (λ d o. HostLeaves d (calls.submit (o .nodes) (o .estimate))) (λ d o z. absurd z)
+    (λ d o s pre q. leaves-given d (calls.submit (o .nodes) (o .estimate)) s pre q)
     𝓤 H 𝓜 𝓖 𝓡 code.env key.name (code.unfolded 𝓤 H 𝓜 𝓡) callee.routine code.calls-hingerota·submit (callee-thm.met 𝓤 H 𝓜 𝓖 𝓡)

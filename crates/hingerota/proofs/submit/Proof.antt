@@ -8,8 +8,10 @@ submit-requires : tie.Need-submit-requires
 submit-requires c κs = read-premise _ _ (c .read .ensures) (c .before .pre)
 
 returns : tie.Need-returns
-returns c = let s = c .before .before .before in
-    call-given (s .args .d) (calls.submit (s .args .nodes) (s .args .estimate)) _ _ _ (c .before .before .read .ensures) (c .before .submit .ensures)
+returns c =
+    let s = c .before .before .before in
+    call-given (s .args .d) (calls.submit (s .args .order .nodes) (s .args .order .estimate)) _ _ _ (c .before .before .read .ensures)
+    (c .before .submit .ensures)
     (c .mirror-outcome .ensures)
 
 pub submit-spec : {M : Type 1} → statement M

@@ -4,7 +4,7 @@ use crate::fields::{fields, numbers};
 use crate::lines::Line;
 use crate::page::{Done, Page, Refusal, LACKS_THE_FORM};
 use crate::words;
-use hingerota_host::{Desk, Kind};
+use hingerota_host::{Desk, Kind, Opening};
 
 pub enum Script {
     First,
@@ -64,7 +64,7 @@ fn open(fields: &[&[u8]]) -> Result<Rack, Refusal> {
         _ => return Err(LACKS_THE_FORM),
     };
     let [nodes, minute, ticket] = numbers(rest)?;
-    match Desk::open(kind, nodes, minute, ticket) {
+    match Desk::open(kind, Opening { nodes, minute, ticket }) {
         Ok(desk) => Ok(Rack { desk }),
         Err(refused) => Err(Refusal(refused.refusal)),
     }

@@ -3,7 +3,7 @@
 use crate::fields::numbers;
 use crate::page::{taken, Done, Page, LACKS_THE_FORM};
 use crate::script::Rack;
-use hingerota_host::{Point, MOST_POINTS};
+use hingerota_host::{Order, Point, MOST_POINTS};
 
 struct Word {
     /// The word, and the fields after it as the usage shows them.
@@ -19,7 +19,7 @@ const WORDS: &[Word] = &[
         does: "a job is submitted",
         play: |rack, fields, page| {
             let [nodes, estimate] = numbers(fields)?;
-            let answer = rack.desk.submit(nodes, estimate);
+            let answer = rack.desk.submit(Order { nodes, estimate });
             page.answer(&rack.desk, &answer)
         },
     },
