@@ -5,6 +5,7 @@ pub mod Own0
 pub mod Own1
 pub mod OwnSlice_ds
 pub mod Params
+pub mod Passes_ds
 pub mod Peek0
 pub mod Peek1
 pub mod Results
