@@ -8,7 +8,7 @@
  * The premise. Every call is proved for desks that meet it, and says nothing of others:
  *   - a desk is made by hingerota_open_promise or hingerota_open_loose alone, and changed by the calls of this header alone;
  *   - nobody else writes to it, and no two calls use it at the same time (read it as you like between calls);
- *   - a pointer handed to a call points to a whole desk, or to so many points as `room` says, and the two do not overlap. It is never
+ *   - a pointer handed to a call points to a whole desk, or to `room` points, and the two do not overlap. It is never
  *     NULL, also where `room` is 0.
  * Openings and calls, refused ones too, are proved to hand back a desk that meets the premise. A copy of a desk is a desk; calls on the
  * one say nothing of the other.
@@ -34,7 +34,7 @@ enum {
     HINGEROTA_LONGEST_ESTIMATE = 10080,
     HINGEROTA_LIVE_JOBS = 64,
     HINGEROTA_LAST_TICKET = 999999,
-    HINGEROTA_MOST_POINTS = 129 /* a list of so many points is never too short */
+    HINGEROTA_MOST_POINTS = 129 /* a list of this length is never too short */
 };
 
 /* Why a call is refused. A refused call gives its number and nothing else, and leaves the desk and the points as they were. */
@@ -109,7 +109,7 @@ typedef struct {
     hingerota_desk desk;
 } hingerota_opened; /* 1,556 bytes */
 
-/* So many nodes are free from this minute on. */
+/* `free` nodes are free from `minute` on. */
 typedef struct {
     uint32_t minute;
     uint32_t free;
@@ -140,7 +140,7 @@ hingerota_answer hingerota_tick(hingerota_desk *d);
  * places past the last point keep what they held. Refused by 10. A Loose Desk has no profile: nothing is refused and nothing written. */
 hingerota_shown hingerota_profile(const hingerota_desk *d, hingerota_point *points, size_t room);
 
-/* Why a wait of so many minutes is refused, by 2 or 6, the first that applies, or 0 where it is not: it is then so many ticks.
+/* Why a wait of `minutes` is refused, by 2 or 6, the first that applies, or 0 where it is not: it is then that number of ticks.
  * The desk is only read. */
 uint32_t hingerota_wait_refusal(const hingerota_desk *d, uint32_t minutes);
 

@@ -72,7 +72,7 @@ impl Desk {
         unsafe { raw::hingerota_profile(&self.raw, points.as_mut_ptr(), points.len()) }
     }
 
-    /// Why a wait of so many minutes is refused, by 2 or 6, or 0 where it is not: it is then so many ticks.
+    /// Why a wait of `minutes` is refused, by 2 or 6, or 0 where it is not: it is then that number of ticks.
     pub fn wait_refusal(&self, minutes: u32) -> u32 {
         unsafe { raw::hingerota_wait_refusal(&self.raw, minutes) }
     }

@@ -106,7 +106,7 @@ fn show(p: Profile, room: usize) -> ProfileOutcome
     }
 }
 
-// The free nodes from now on, for a list with room for so many points. EASY has no profile: it has no point to write.
+// The free nodes from now on, for a list of `room` points. EASY has no profile: it has no point to write.
 pub fn profile(d: Scheduler, room: usize) -> ProfileOutcome
     requires { ⌜ Premise d ⌝ }
     ensures { λ r. ⌜ r ≡ profileOutcome (view d) room ⌝ }
@@ -126,7 +126,7 @@ pub fn point_at(p: ProfileOutcome, i: usize) -> Point
     p.points[i]
 }
 
-// Why a wait of so many minutes is refused, or that it is not: it is then so many ticks.
+// Why a wait of `minutes` is refused, or that it is not: it is then that number of ticks.
 pub fn wait_refusal(d: Scheduler, minutes: u32) -> Refusal
     requires { ⌜ Premise d ⌝ }
     ensures { λ r. ⌜ r ≡ waitRefusal (view d) minutes ⌝ }

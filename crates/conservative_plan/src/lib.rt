@@ -21,7 +21,7 @@ use scheduler::Job;
 use scheduler::Scheduler;
 use scheduler::State;
 
-// So many nodes, from a minute on for so long.
+// `nodes` nodes, from the minute `from` on, for `hold` minutes.
 fn span(nodes: u32, from: u32, hold: u32) -> spans::Span
     requires { ⌜ (from ≤ horizon) × (hold ≤ longest) ⌝ }
     ensures { λ r. ⌜ r ≡ spanAt nodes from hold ⌝ }
@@ -76,7 +76,7 @@ pub fn profile_of(d: Scheduler) -> Profile
     Profile::of(&minutes, &free, count)
 }
 
-// The earliest minute, now or later, from which on so many nodes are free for so long.
+// The earliest minute, now or later, from which on `nodes` nodes are free for `hold` minutes.
 pub fn earliest(d: Scheduler, nodes: u32, hold: u32) -> u32
     requires { ⌜ Askable d nodes hold ⌝ }
     ensures { λ r. ⌜ r ≡ startFor (view d) nodes hold ⌝ }

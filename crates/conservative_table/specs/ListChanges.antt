@@ -11,7 +11,7 @@ use Rattle.scheduler.specs.Limits.{maxNodes}
 abbrev pub rows : ℕ
 rows = 385
 
--- the free nodes, from those before: so many are given back, or taken
+-- the free nodes, from those before: some are given back, or taken
 abbrev pub changed : Bool → ℕ → ℕ → ℕ
 changed true nodes left = left + nodes
 changed false nodes left = left - nodes
@@ -28,7 +28,7 @@ pub record Inserted (xs : List ℕ) (n k v : ℕ) (ys : List ℕ) : Type 0 where
   pub here : getD ys k 0 ≡ v
   pub after : (j : ℕ) → k ≤ j → j < n → getD ys (j + 1) 0 ≡ getD xs j 0
 
--- so many nodes can be taken, or given back, from one place up to another
+-- `nodes` nodes can be taken, or given back, from one place up to another
 pub record Adjustable (xs : List ℕ) (from to nodes : ℕ) (release : Bool) : Type 0 where
   pub long : length xs ≡ rows
   pub fit : to ≤ rows

@@ -1,5 +1,5 @@
 // The free nodes of a machine from now on, as a table in two lent lists that is changed in place: from each minute of the first list on,
-// up to the next, so many nodes are free as the second has in the same place. (A profile has points only where something changes; a
+// up to the next, the second has in the same place how many nodes are free. (A profile has points only where something changes; a
 // table may have more, and serves a search as well.)
 ghost use mathlib.Core.Path.{_≡_};
 ghost use Prim.Native.Nat.{_<_, _≤_};
@@ -89,7 +89,7 @@ pub fn split(
     }
 }
 
-// So many nodes are taken, or free again, in these places.
+// `nodes` nodes are taken, or free again, in these places.
 fn adjust(free: &mut [u32; 385], from: usize, to: usize, nodes: u32, release: bool)
     requires { ⌜ Adjustable (now free) from to nodes release ⌝ }
     ensures { λ _. ⌜ Adjusted (now (free .entry)) from to nodes release (now (free .exit)) ⌝ }

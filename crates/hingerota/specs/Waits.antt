@@ -10,7 +10,7 @@ use Rattle.scheduler.specs.Refusals.{waitRefusal}
 use Rattle.hingerota.specs.declared.Desk.{Desk}
 use Rattle.hingerota.specs.Mirror.{read}
 
--- the refusal of a wait of so many minutes
+-- the refusal of a wait of `minutes`
 abbrev pub waitRefusalOn : Desk → ℕ → Refusal
 waitRefusalOn d minutes = waitRefusal (view (read d)) minutes
 

@@ -82,7 +82,7 @@ pub struct Opened {
     pub desk: Desk,
 }
 
-// So many nodes are free from this minute on.
+// `free` nodes are free from `minute` on.
 #[repr(C)]
 pub struct Point {
     pub minute: u32,
@@ -412,7 +412,7 @@ pub extern "C" fn hingerota_profile(d: &Desk, points: &mut [Point]) -> Shown
     p.answer
 }
 
-// Why a wait of so many minutes is refused, by number, or 0: it is then so many ticks. The desk is only read.
+// Why a wait of `minutes` is refused, by number, or 0: it is then that number of ticks. The desk is only read.
 #[no_mangle]
 pub extern "C" fn hingerota_wait_refusal(d: &Desk, minutes: u32) -> u32
     requires { ⌜ Handed (now d) ⌝ }

@@ -112,12 +112,12 @@ module _ (s : List ℕ) (p : Play) where
 
 -- ## The next turn
 
--- a turn on a scheduler, with so many steps left after it
+-- a turn on a scheduler, with `steps` left after it
 abbrev pub turnPiece : Turn → ℕ → ℕ → Scheduler → Piece
 turnPiece (turn.Asks a) at steps d = commandPiece at steps d (asks a)
 turnPiece turn.Over at steps d = piece [] (over (going at steps d))
 
--- it is the next one of a script that stands at a place with so many steps to go, on every scheduler
+-- it is the next one of a script that stands at a place with `steps` to go, on every scheduler
 pub record Comes (s : List ℕ) (at steps : ℕ) (n : Next) : Type 0 where
   pub piece-is : (d : Scheduler) → turnPiece (n .turn) (n .at) (n .steps) d ≡ pieceOf s (going at steps d)
 

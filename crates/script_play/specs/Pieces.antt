@@ -61,7 +61,7 @@ firstPiece s p =
 abbrev pub callPiece : ℕ → ℕ → Scheduler → Call → Piece
 callPiece at steps d c = record { text = printed (view d) c; play = going at steps (outcome (call (view d) c) .scheduler) }
 
--- what is asked with so many steps still to go after it; a wait that is not refused is as many steps, which come next
+-- what is asked with `steps` still to go after it; a wait that is not refused is as many steps, which come next
 abbrev pub commandPiece : ℕ → ℕ → Scheduler → Option Command → Piece
 commandPiece next steps d none = record { text = malformed; play = going next steps d }
 commandPiece next steps d (some (ask c)) = callPiece next steps d c

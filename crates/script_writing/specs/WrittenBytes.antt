@@ -1,4 +1,4 @@
--- What a writer leaves: bytes at a place of the page, at most so many, and the place after them.
+-- What a writer leaves: bytes at a place of the page, no more than a number of them, and the place after them.
 -- Assumes nothing.
 use mathlib.Core.Path.{_≡_, refl, sym, ap}
 use mathlib.Core.List.{List, [], _++_}

@@ -1,4 +1,4 @@
--- `conservative_plan::replan_all` meets its contract: so many turns are over, and the table is that of the slots.
+-- `conservative_plan::replan_all` meets its contract: i turns are over, and the table is that of the slots.
 -- Assumes nothing.
 use mathlib.Core.Path.{_≡_, refl, sym, ap, _∙_}
 use mathlib.Core.List.{List}

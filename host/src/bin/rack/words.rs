@@ -34,7 +34,7 @@ const WORDS: &[Word] = &[
     },
     Word {
         form: "wait MINUTES",
-        does: "so many minutes pass",
+        does: "MINUTES pass",
         play: |rack, fields, page| {
             let [minutes] = numbers(fields)?;
             taken(rack.desk.wait_refusal(minutes))?;
@@ -47,7 +47,7 @@ const WORDS: &[Word] = &[
     },
     Word {
         form: "profile",
-        does: "of a Promise Desk: prints free MINUTE NODES, so many are free from then on",
+        does: "of a Promise Desk: prints free MINUTE NODES, the nodes free from then on",
         play: |rack, fields, page| {
             let [] = numbers(fields)?;
             let mut points = [Point { minute: 0, free: 0 }; MOST_POINTS];
