@@ -1,12 +1,12 @@
 // A line of a script, read into what it asks. Each field goes through the field reader to the number reader: there is no second parser.
 ghost use mathlib.Core.Path.{_≡_};
-ghost use Rattle.script_rules.specs.Reading.{kindOf, openingIn, commandIn};
-ghost use Rattle.script_reading.specs.Meaning.{opens, asks, follows, formFrom, openingFrom, submissionFrom, completionFrom, waitFrom};
+ghost use Rattle.script_rules.specs.Reading.{withKind, kindOf, openingIn, commandIn};
+ghost use Rattle.script_reading.specs.Meaning.{opens, asks, follows, formFrom, whenRead, openingOf, submissionOf, completionOf, waitOf};
 use scheduler::Kind;
 use scheduler::Opening;
 use scheduler::Request;
 use scheduler::Submission;
-use text::Parsed;
+use text::Numbers;
 
 // What a script's first line asks.
 pub enum FirstLine {
@@ -49,60 +49,55 @@ fn read_kind(part: &[u8]) -> Named
     Named::Nothing
 }
 
-fn opening(named: Named, nodes: Parsed, minute: Parsed, ticket: Parsed) -> FirstLine
-    ensures { λ r. ⌜ opens r ≡ openingFrom (follows named) nodes minute ticket ⌝ }
+fn opening(named: Named, given: Numbers) -> FirstLine
+    ensures { λ r. ⌜ opens r ≡ withKind (follows named) (λ k. whenRead 3 given (openingOf k)) ⌝ }
 {
     let Named::Rules(k) = named else {
         return FirstLine::Malformed;
     };
-    let Parsed::Is(n) = nodes else {
+    if given.count < 3 {
         return FirstLine::Malformed;
-    };
-    let Parsed::Is(m) = minute else {
-        return FirstLine::Malformed;
-    };
-    let Parsed::Is(t) = ticket else {
-        return FirstLine::Malformed;
-    };
+    }
+    let v = given.values;
     FirstLine::Opens(Opening {
         kind: k,
-        nodes: n,
-        minute: m,
-        ticket: t,
+        nodes: v[0],
+        minute: v[1],
+        ticket: v[2],
     })
 }
 
-fn submission(nodes: Parsed, estimate: Parsed) -> Asked
-    ensures { λ r. ⌜ asks r ≡ submissionFrom nodes estimate ⌝ }
+fn submission(given: Numbers) -> Asked
+    ensures { λ r. ⌜ asks r ≡ whenRead 2 given submissionOf ⌝ }
 {
-    let Parsed::Is(n) = nodes else {
+    if given.count < 2 {
         return Asked::Malformed;
-    };
-    let Parsed::Is(e) = estimate else {
-        return Asked::Malformed;
-    };
+    }
+    let v = given.values;
     Asked::Call(Request::Submit(Submission {
-        nodes: n,
-        estimate: e,
+        nodes: v[0],
+        estimate: v[1],
     }))
 }
 
-fn completion(ticket: Parsed) -> Asked
-    ensures { λ r. ⌜ asks r ≡ completionFrom ticket ⌝ }
+fn completion(given: Numbers) -> Asked
+    ensures { λ r. ⌜ asks r ≡ whenRead 1 given completionOf ⌝ }
 {
-    match ticket {
-        Parsed::Is(t) => Asked::Call(Request::Complete(t)),
-        Parsed::Not => Asked::Malformed,
+    if given.count < 1 {
+        return Asked::Malformed;
     }
+    let v = given.values;
+    Asked::Call(Request::Complete(v[0]))
 }
 
-fn waiting(minutes: Parsed) -> Asked
-    ensures { λ r. ⌜ asks r ≡ waitFrom minutes ⌝ }
+fn waiting(given: Numbers) -> Asked
+    ensures { λ r. ⌜ asks r ≡ whenRead 1 given waitOf ⌝ }
 {
-    match minutes {
-        Parsed::Is(n) => Asked::Wait(n),
-        Parsed::Not => Asked::Malformed,
+    if given.count < 1 {
+        return Asked::Malformed;
     }
+    let v = given.values;
+    Asked::Wait(v[0])
 }
 
 // The first line opens a desk: its kind, nodes, minute and ticket.
@@ -114,10 +109,8 @@ pub fn read_first(line: &[u8]) -> FirstLine
     if has_form(count, first, 5, b"desk") {
         let word = text::field(line, 1);
         let named = read_kind(word);
-        let nodes = text::field_number(line, 2);
-        let minute = text::field_number(line, 3);
-        let ticket = text::field_number(line, 4);
-        return opening(named, nodes, minute, ticket);
+        let given = text::field_numbers(line, 2);
+        return opening(named, given);
     }
     FirstLine::Malformed
 }
@@ -128,18 +121,15 @@ pub fn read_later(line: &[u8]) -> Asked
 {
     let count = text::field_count(line);
     let first = text::field(line, 0);
+    let given = text::field_numbers(line, 1);
     if has_form(count, first, 3, b"in") {
-        let nodes = text::field_number(line, 1);
-        let estimate = text::field_number(line, 2);
-        return submission(nodes, estimate);
+        return submission(given);
     }
     if has_form(count, first, 2, b"end") {
-        let ticket = text::field_number(line, 1);
-        return completion(ticket);
+        return completion(given);
     }
     if has_form(count, first, 2, b"wait") {
-        let minutes = text::field_number(line, 1);
-        return waiting(minutes);
+        return waiting(given);
     }
     Asked::Malformed
 }

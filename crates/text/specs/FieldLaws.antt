@@ -2,7 +2,7 @@
 -- Assumes nothing.
 use mathlib.Core.Path.{_≡_, refl, ap, _∙_}
 use mathlib.Core.List.{List, [], _∷_}
-use Prim.Native.Nat.{ℕ, suc, _+_, _-_, _≤_, _<_}
+use Prim.Native.Nat.{ℕ, zero, suc, _+_, _-_, _≤_, _<_}
 use native.Mathlib.Numerals.{add-one}
 use native.Mathlib.Omega.{arith}
 use lib.Dec.{eqb}
@@ -11,7 +11,7 @@ use lib.Seq.{drop-cons, drop-drop}
 use borrow.Author.Tests.{eq-eqb, ne-eqb}
 use Rattle.lists.specs.Tests.{case}
 use Rattle.text.specs.Prefixes.{upto, upto-le}
-use Rattle.text.specs.Fields.{inFirst, fieldsOf}
+use Rattle.text.specs.Fields.{inFirst, fieldsOf, orEmpty, fieldsFrom}
 
 length-inFirst : (b : ℕ) (fs : List (List ℕ)) → 1 ≤ length fs → length (inFirst b fs) ≡ length fs
 length-inFirst b [] h = absurd (omega arith)
@@ -64,20 +64,36 @@ fields-one [] h = refl
 fields-one (b ∷ bs) h =
     case (eqb b 9) (λ e. absurd (omega (arith, rw e at h))) (λ e. rw e (ap (inFirst b) (fields-one bs (omega (arith, rw e at h)))))
 
--- the field k, where n fields end before a
+drop-none : (k : ℕ) → drop {A = List ℕ} k [] ≡ []
+drop-none zero = refl
+drop-none (suc k) = refl
+
+-- the field k is the first of those from it on
+pub from-first : (fs : List (List ℕ)) (k : ℕ) → getD (orEmpty (drop k fs)) 0 [] ≡ getD fs k []
+from-first [] k = rw (drop-none k)
+from-first (f ∷ fs) zero = refl
+from-first (f ∷ fs) (suc k) = from-first fs k
+
+pub from-start : (s : List ℕ) → orEmpty (fieldsOf s) ≡ fieldsOf s
+from-start s = some (fieldsOf s) (fields-some s) where
+  some : (fs : List (List ℕ)) → 1 ≤ length fs → orEmpty fs ≡ fs
+  some [] h = absurd (omega arith)
+  some (f ∷ fs) h = refl
+
+-- the fields from the field k on, where n fields end before a
 module _ (s : List ℕ) (a k n : ℕ) (low : n < k) where
   one-more : k - n ≡ suc (k - (n + 1))
   one-more = omega arith
 
   pub past-tab : a + length (upto 9 (drop a s)) < length s
-      → getD (fieldsOf (drop (a + length (upto 9 (drop a s)) + 1) s)) (k - (n + 1)) [] ≡ getD (fieldsOf (drop a s)) (k - n) []
+      → fieldsFrom (drop (a + length (upto 9 (drop a s)) + 1) s) (k - (n + 1)) ≡ fieldsFrom (drop a s) (k - n)
   past-tab h =
       let L = length (upto 9 (drop a s)) in
       let e : a + L + 1 ≡ a + suc L = omega arith in
       let inside : L < length (drop a s) = omega (arith, length-drop a s) in
       rw (one-more, fields-tab (drop a s) inside, e, drop-drop)
 
-  pub past-last : length s ≤ a + length (upto 9 (drop a s)) → getD (fieldsOf (drop a s)) (k - n) [] ≡ []
+  pub past-last : length s ≤ a + length (upto 9 (drop a s)) → fieldsFrom (drop a s) (k - n) ≡ [] ∷ []
   past-last h =
       let all : length (upto 9 (drop a s)) ≡ length (drop a s) = omega (arith, length-drop a s, upto-le 9 (drop a s)) in
-      rw (one-more, fields-one (drop a s) all)
+      rw (one-more, fields-one (drop a s) all) (ap orEmpty (drop-none (k - (n + 1))))

@@ -4,7 +4,7 @@ use mathlib.Core.Bool.{cond}
 use mathlib.Core.List.{List, [], _∷_}
 use Prim.Native.Nat.{ℕ}
 use lib.Dec.{eqb}
-use lib.ListN.{getD}
+use lib.ListN.{getD, drop}
 
 -- a byte more in front of the first field
 abbrev pub inFirst : ℕ → List (List ℕ) → List (List ℕ)
@@ -21,3 +21,11 @@ fieldsOf (b ∷ bs) = cond (eqb b 9) ([] ∷ fieldsOf bs) (inFirst b (fieldsOf b
 -- the empty part at the line's end."
 abbrev pub fieldOf : List ℕ → ℕ → List ℕ
 fieldOf s k = getD (fieldsOf s) k []
+
+-- the fields from the field k on; past the last, the empty part at the line's end
+abbrev pub orEmpty : List (List ℕ) → List (List ℕ)
+orEmpty [] = [] ∷ []
+orEmpty (f ∷ fs) = f ∷ fs
+
+abbrev pub fieldsFrom : List ℕ → ℕ → List (List ℕ)
+fieldsFrom s k = orEmpty (drop k (fieldsOf s))

@@ -3,6 +3,7 @@ pub mod Fields
 pub mod FieldLaws
 pub mod Numbers
 pub mod NumberLaws
+pub mod LeadingLaws
 pub mod WriterLaws
 pub mod Words
 pub mod WordLaws

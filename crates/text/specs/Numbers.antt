@@ -4,9 +4,12 @@ use mathlib.Core.Bool.{Bool, true, false, not, cond, _&&_}
 use mathlib.Core.List.{List, [], _∷_, _++_}
 use Prim.Native.Nat.{ℕ, zero, suc, _+_, _-_, _*_, _/_, _%_}
 use lib.Dec.{leb, ltb, eqb}
-use lib.ListN.{length, getD}
+use lib.ListN.{length, getD, drop}
+use Rattle.lists.specs.Pads.{pad}
 use Rattle.text.specs.declared.Parsed.{Parsed}
 use Rattle.text.specs.declared.Parsed.the-variants.{Is, Not}
+use Rattle.text.specs.declared.Numbers.{Numbers}
+use Rattle.text.specs.Fields.{fieldsOf}
 
 abbrev pub isDigit : ℕ → Bool
 isDigit b = leb 48 b && leb b 57
@@ -25,6 +28,23 @@ goodForm s = leb 1 (length s) && leb (length s) 7 && not (leadingZero s)
 -- document 01: "Numbers have 1 to 7 digits, no leading zero but 0 itself."
 unfoldable pub numberOf : List ℕ → Parsed
 numberOf s = cond (goodForm s) (digitsFrom 0 s) Not
+
+-- the numbers in fields up to the first that is none, n at most
+abbrev pub before : Parsed → List ℕ → List ℕ
+before (Is v) vs = v ∷ vs
+before Not vs = []
+
+unfoldable pub leading : ℕ → List (List ℕ) → List ℕ
+leading zero fs = []
+leading (suc n) [] = []
+leading (suc n) (f ∷ fs) = before (numberOf f) (leading n fs)
+
+-- the numbers in a line's fields from the field k on, as they are answered: eight at most, and the places past the last are 0
+abbrev pub numbers : List ℕ → Numbers
+numbers vs = record { count = length vs; values = pad 8 0 vs }
+
+unfoldable pub numbersFrom : List ℕ → ℕ → Numbers
+numbersFrom s k = numbers (leading 8 (drop k (fieldsOf s)))
 
 -- a choice that computes only what it chooses
 abbrev pub choose : {A : Type 0} → Bool → A → (Unit {0} → A) → A

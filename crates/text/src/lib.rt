@@ -4,10 +4,10 @@ ghost use mathlib.Core.List.{[], _∷_};
 ghost use Prim.Native.Nat.{_+_, _≤_};
 ghost use lib.ListN.{length, drop};
 ghost use lib.Seq.{sets};
-ghost use Rattle.text.specs.Fields.{fieldsOf, fieldOf};
+ghost use Rattle.text.specs.Fields.{fieldsOf, fieldOf, fieldsFrom};
 ghost use Rattle.text.specs.Prefixes.{upto};
 ghost use Rattle.text.specs.Lines.{lineAt};
-ghost use Rattle.text.specs.Numbers.{digitsFrom, numberOf, decimalOf};
+ghost use Rattle.text.specs.Numbers.{digitsFrom, numberOf, numbersFrom, decimalOf};
 ghost use Rattle.text.specs.Words.{isWord};
 
 const TAB: u8 = 9;
@@ -28,21 +28,28 @@ fn find_byte(s: &[u8], from: usize, byte: u8) -> usize
     i
 }
 
-// The field k of a line, counted from 0: a part of the caller's slice. Past the last: the empty part at the line's end.
-pub fn field(line: &[u8], k: usize) -> &[u8]
-    ensures { λ r. ⌜ now r ≡ fieldOf (now (line .entry)) k ⌝ }
+// Where the field k of a line begins, counted from 0. Past the last: the line's end.
+fn field_start(line: &[u8], k: usize) -> usize
+    ensures { λ r. ⌜ (r ≤ length (now (line .entry))) × (fieldsOf (drop r (now (line .entry))) ≡ fieldsFrom (now (line .entry)) k) ⌝ }
 {
     let mut start: usize = 0;
     let mut n: usize = 0;
     while n < k {
         let t = find_byte(line, start, TAB);
         if t == line.len() {
-            let end = line.len();
-            return &line[end..end];
+            return t;
         }
         start = t + 1;
         n += 1;
     }
+    start
+}
+
+// The field k of a line: a part of the caller's slice. Past the last: the empty part at the line's end.
+pub fn field(line: &[u8], k: usize) -> &[u8]
+    ensures { λ r. ⌜ now r ≡ fieldOf (now (line .entry)) k ⌝ }
+{
+    let start = field_start(line, k);
     let e = find_byte(line, start, TAB);
     &line[start..e]
 }
@@ -108,12 +115,44 @@ fn digits(part: &[u8]) -> Parsed
     Parsed::Is(v)
 }
 
-// A field that is a number.
-pub fn field_number(line: &[u8], k: usize) -> Parsed
-    ensures { λ r. ⌜ r ≡ numberOf (fieldOf (now (line .entry)) k) ⌝ }
+// Numbers in order; the places past the count are 0.
+pub struct Numbers {
+    pub count: usize,
+    pub values: [u32; 8],
+}
+
+// The numbers in a line's fields from the field k on, up to the first that is none: eight at most. Each field begins where the one before ends.
+pub fn field_numbers(line: &[u8], k: usize) -> Numbers
+    ensures { λ r. ⌜ r ≡ numbersFrom (now (line .entry)) k ⌝ }
 {
-    let part = field(line, k);
-    number(part)
+    let mut values = [0u32; 8];
+    let mut count: usize = 0;
+    let mut start = field_start(line, k);
+    while count < 8 {
+        let rest = &line[start..];
+        let part = field(rest, 0);
+        let said = number(part);
+        let Parsed::Is(v) = said else {
+            return Numbers {
+                count: count,
+                values: values,
+            };
+        };
+        values[count] = v;
+        count += 1;
+        let end = start + part.len();
+        if end == line.len() {
+            return Numbers {
+                count: count,
+                values: values,
+            };
+        }
+        start = end + 1;
+    }
+    Numbers {
+        count: count,
+        values: values,
+    }
 }
 
 // Whether a part is this word.

@@ -1,11 +1,15 @@
 -- `script_reading::completion` meets its contract.
 -- Assumes nothing.
 use borrow.Author.Needs.{needs}
+use borrow.Author.Tests.{le-leb, lt-leb}
 use Rattle.script_reading.proofs.completion.Statement.{statement}
 use Rattle.script_reading.proofs.completion.Tie as tie
 
 returns : tie.Need-returns
-returns c = rw (c .before .ticket .given .1)
+returns c = rw (lt-leb 1 _ (c .if1 .taken))
+
+returns-2 : tie.Need-returns-2
+returns-2 c = rw (le-leb 1 _ (c .before .if1 .left))
 
 pub completion-spec : {M : Type 1} → statement M
-completion-spec = tie.close (tie.spec (λ c. search needs) (λ c. search needs) returns (λ c. search needs))
+completion-spec = tie.close (tie.spec returns (λ c. search needs) returns-2)

@@ -1,8 +1,9 @@
 -- `script_reading::read_first` meets its contract.
 -- Assumes nothing.
-use mathlib.Core.Path.{sym, ap}
-use Rattle.script_rules.specs.Reading.{deskWord, kindOf, openingIn}
-use Rattle.script_reading.specs.Meaning.{form-said}
+use mathlib.Core.Path.{sym, ap, _∙_}
+use native.Mathlib.Omega.{arith}
+use Rattle.script_rules.specs.Reading.{deskWord, withKind, kindOf, openingIn}
+use Rattle.script_reading.specs.Meaning.{follows, form-said, openingOf, with-read}
 use borrow.Author.Needs.{needs}
 use Rattle.script_reading.proofs.read_first.Statement.{statement}
 use Rattle.script_reading.proofs.read_first.Tie as tie
@@ -11,7 +12,7 @@ returns : tie.Need-returns
 unfolding openingIn
 returns c =
     let numbers = c .before in
-    let kind = numbers .before .before .before in
+    let kind = numbers .before in
     let form = kind .before .before in
     let read = form .before .before .before in
     let line = read .before .before .before .args .line .now in
@@ -19,11 +20,9 @@ returns c =
       form-said line 5 deskWord (read .before .field-count .ensures) (read .field .ensures) (form .before .has-form .ensures) (form .if1 .taken),
       sym (ap kindOf (kind .before .field2 .ensures)),
       sym (kind .read-kind .ensures),
-      sym (numbers .before .before .field-number .ensures),
-      sym (numbers .before .field-number2 .ensures),
-      sym (numbers .field-number3 .ensures),
     )
-    (c .opening .ensures)
+    (c .opening .ensures
+    ∙ (λ i. withKind (follows (kind .read-kind .result)) (λ k. with-read line 3 2 (openingOf k) (omega arith) (numbers .field-numbers .ensures) i)))
 
 returns-2 : tie.Need-returns-2
 unfolding openingIn
@@ -35,4 +34,4 @@ returns-2 c =
 pub read-first-spec : {M : Type 1} → statement M
 read-first-spec =
     tie.close (tie.spec (λ c κs. search needs) (λ c κs. search needs) (λ c. search needs) (λ c κs. search needs) (λ c κs. search needs)
-    (λ c κs. search needs) (λ c κs. search needs) (λ c κs. search needs) (λ c κs. search needs) (λ c κs. search needs) returns returns-2)
+    (λ c κs. search needs) (λ c κs. search needs) (λ c κs. search needs) returns returns-2)

@@ -1,22 +1,29 @@
 -- `script_reading::read_later` meets its contract: the forms are tried one after the other.
 -- Assumes nothing.
-use mathlib.Core.Path.{_≡_, sym}
+use mathlib.Core.Path.{_≡_, _∙_}
 use mathlib.Core.Bool.{Bool, false}
 use mathlib.Core.List.{List}
-use Prim.Native.Nat.{ℕ}
+use mathlib.Core.Option.{Option}
+use Prim.Native.Nat.{ℕ, _≤_}
+use native.Mathlib.Omega.{arith}
+use Rattle.history.specs.Calls.{Command}
 use Rattle.script_rules.specs.Reading.{hasForm, inWord, endWord, waitWord, commandIn}
-use Rattle.script_reading.specs.Meaning.{formFrom, form-said}
+use Rattle.script_reading.specs.Meaning.{formFrom, form-said, whenRead, withNumbers, with-read, submissionOf, completionOf, waitOf}
 use borrow.Author.Needs.{needs}
 use Rattle.script_reading.proofs.read_later.Statement.{statement}
 use Rattle.script_reading.proofs.read_later.Tie as tie
 
-abbrev line : tie.After-field → List ℕ
-line c = c .before .before .before .args .line .now
+abbrev line : tie.After-field-numbers → List ℕ
+line c = c .before .before .before .before .args .line .now
 
 -- what a test says of the line, once its fields are counted and the first is read
-form : (c : tie.After-field) (n : ℕ) (w : List ℕ) {r b : Bool} → r ≡ formFrom (c .before .field-count .result) (c .field .result .now) n w → r ≡ b
-    → hasForm (line c) n w ≡ b
-form c n w = form-said (line c) n w (c .before .field-count .ensures) (c .field .ensures)
+form : (c : tie.After-field-numbers) (n : ℕ) (w : List ℕ) {r b : Bool}
+    → r ≡ formFrom (c .before .before .field-count .result) (c .before .field .result .now) n w → r ≡ b → hasForm (line c) n w ≡ b
+form c n w = form-said (line c) n w (c .before .before .field-count .ensures) (c .before .field .ensures)
+
+-- and what its numbers say
+says : (c : tie.After-field-numbers) (n : ℕ) (f : List ℕ → Option Command) → n ≤ 8 → whenRead n (c .field-numbers .result) f ≡ withNumbers (line c) 1 n f
+says c n f few = with-read (line c) n 1 f few (c .field-numbers .ensures)
 
 not-in : (c : tie.Else1) → hasForm (line (c .before .before .before)) 3 inWord ≡ false
 not-in c = form (c .before .before .before) 3 inWord (c .before .has-form .ensures) (c .if1 .left)
@@ -27,35 +34,26 @@ not-end c = form (c .before .before .before .before .before .before) 2 endWord (
 returns : tie.Need-returns
 unfolding commandIn
 returns c =
-    let p = c .before .before .before in
-    rw (
-      form (p .before .before .before) 3 inWord (p .before .has-form .ensures) (p .if1 .taken),
-      sym (c .before .before .field-number .ensures),
-      sym (c .before .field-number2 .ensures),
-    )
-    (c .submission .ensures)
+    let p = c .before in
+    let n = p .before .before .before in
+    rw (form n 3 inWord (p .before .has-form .ensures) (p .if1 .taken)) (c .submission .ensures ∙ says n 2 submissionOf (omega arith))
 
 returns-2 : tie.Need-returns-2
 unfolding commandIn
 returns-2 c =
-    let p = c .before .before in
+    let p = c .before in
     let q = p .before .before .before in
-    rw (not-in q, form (q .before .before .before) 2 endWord (p .before .has-form2 .ensures) (p .if2 .taken), sym (c .before .field-number3 .ensures))
-    (c .completion .ensures)
+    let n = q .before .before .before in
+    rw (not-in q, form n 2 endWord (p .before .has-form2 .ensures) (p .if2 .taken)) (c .completion .ensures ∙ says n 1 completionOf (omega arith))
 
 returns-3 : tie.Need-returns-3
 unfolding commandIn
 returns-3 c =
-    let p = c .before .before in
+    let p = c .before in
     let q = p .before .before .before in
     let r = q .before .before .before in
-    rw (
-      not-in r,
-      not-end q,
-      form (r .before .before .before) 2 waitWord (p .before .has-form3 .ensures) (p .if3 .taken),
-      sym (c .before .field-number4 .ensures),
-    )
-    (c .waiting .ensures)
+    let n = r .before .before .before in
+    rw (not-in r, not-end q, form n 2 waitWord (p .before .has-form3 .ensures) (p .if3 .taken)) (c .waiting .ensures ∙ says n 1 waitOf (omega arith))
 
 returns-4 : tie.Need-returns-4
 unfolding commandIn
@@ -66,7 +64,6 @@ returns-4 c =
 
 pub read-later-spec : {M : Type 1} → statement M
 read-later-spec =
-    tie.close (tie.spec (λ c κs. search needs) (λ c κs. search needs) (λ c. search needs) (λ c κs. search needs) (λ c κs. search needs)
-    (λ c κs. search needs) (λ c κs. search needs) returns (λ c. search needs) (λ c κs. search needs) (λ c κs. search needs)
-    (λ c κs. search needs) returns-2 (λ c. search needs) (λ c κs. search needs) (λ c κs. search needs) (λ c κs. search needs) returns-3
-    returns-4)
+    tie.close (tie.spec (λ c κs. search needs) (λ c κs. search needs) (λ c κs. search needs) (λ c. search needs) (λ c κs. search needs)
+    (λ c κs. search needs) returns (λ c. search needs) (λ c κs. search needs) (λ c κs. search needs) returns-2 (λ c. search needs)
+    (λ c κs. search needs) (λ c κs. search needs) returns-3 returns-4)

@@ -1,20 +1,15 @@
 -- `script_reading::submission` meets its contract.
 -- Assumes nothing.
 use borrow.Author.Needs.{needs}
+use borrow.Author.Tests.{le-leb, lt-leb}
 use Rattle.script_reading.proofs.submission.Statement.{statement}
 use Rattle.script_reading.proofs.submission.Tie as tie
 
-returns-3 : tie.Need-returns-3
-returns-3 c = rw (c .before .before .before .before .nodes .given .1, c .before .estimate .given .1)
+returns : tie.Need-returns
+returns c = rw (lt-leb 2 _ (c .if1 .taken))
+
+returns-2 : tie.Need-returns-2
+returns-2 c = rw (le-leb 2 _ (c .before .if1 .left))
 
 pub submission-spec : {M : Type 1} → statement M
-submission-spec =
-    tie.close
-    (tie.spec
-    (λ c. search needs)
-    (λ c. search needs)
-    (λ c. search needs)
-    (λ c. search needs)
-    (λ c. search needs)
-    (λ c. search needs)
-    returns-3)
+submission-spec = tie.close (tie.spec returns (λ c. search needs) (λ c. search needs) returns-2)
