@@ -14,7 +14,7 @@ use Rattle.scheduler.specs.declared.Refusal.the-variants as refusal
 use Rattle.scheduler.specs.Answers.{Forecast}
 use Rattle.history.specs.Calls.{submit, tick, Event}
 use Rattle.history.specs.News.{news}
-use Rattle.history.specs.Book.{Book, Entry, waiting, running, enter, enterAll}
+use Rattle.history.specs.Book.{Book, Entry, waiting, start, enter, enterAll}
 use Rattle.history.specs.Guarantee.{StartedBy, Guarantee}
 
 -- a submission accepted under a ticket, with a promise, the tickets that start and a forecast
@@ -24,9 +24,12 @@ taken t n p ss f = record {
   reply = record { refusal = refusal.None; ticket = t; promise = p; ended = []; started = ss; head = f };
 }
 
--- a tick, with the tickets that start
+-- a tick, with the tickets that end and those that start
+abbrev turned : List ℕ → List ℕ → Event
+turned es ss = record { call = tick; reply = record { refusal = refusal.None; ticket = 0; promise = 0; ended = es; started = ss; head = none } }
+
 abbrev ticked : List ℕ → Event
-ticked ss = record { call = tick; reply = record { refusal = refusal.None; ticket = 0; promise = 0; ended = []; started = ss; head = none } }
+ticked ss = turned [] ss
 
 abbrev idle : Event
 idle = ticked []
@@ -38,7 +41,7 @@ book es = enterAll 10080 (record { clock = 0; entries = [] }) es
 never : (x : Entry) (b : ℕ) → x .fate ≡ waiting → StartedBy x b → ⊥
 never x b e s = let q = s .started in absurd (let z : _≡_ {A = ℕ} 0 1 = cc in omega arith)
 
-too-late : (x : Entry) (b : ℕ) → x .fate ≡ running (suc b) → StartedBy x b → ⊥
+too-late : (x : Entry) (b : ℕ) → start (x .fate) ≡ some (suc b) → StartedBy x b → ⊥
 too-late x b e s = let q = s .started in let m : s .minute ≡ suc b = cc in absurd (omega (arith, m, s .by))
 
 pub promise-broken : Guarantee Conservative 10 (book (taken 1 4 2 [] none ∷ idle ∷ idle ∷ [])) → ⊥
@@ -48,6 +51,11 @@ promise-broken g = never _ 2 refl (g .promises refl _ (here refl) (omega arith))
 pub promise-late : Guarantee Conservative 10 (book (taken 1 4 1 [] none ∷ idle ∷ ticked (1 ∷ []) ∷ [])) → ⊥
 unfolding enter
 promise-late g = too-late _ 1 refl (g .promises refl _ (here refl) (omega arith))
+
+-- the same once its run has ended: its start is not forgotten
+pub promise-late-ended : Guarantee Conservative 10 (book (taken 1 4 1 [] none ∷ idle ∷ ticked (1 ∷ []) ∷ turned (1 ∷ []) [] ∷ [])) → ⊥
+unfolding enter
+promise-late-ended g = too-late _ 1 refl (g .promises refl _ (here refl) (omega arith))
 
 -- one that waits on, minute after minute
 late : Entry
