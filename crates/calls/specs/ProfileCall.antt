@@ -72,9 +72,9 @@ written-fit m room = by (m .settings .kind)
 -- and have places in the array
 pub written-few : (d : Scheduler) (room : ℕ) → Premise d → length (written (view d) room) ≤ places
 unfolding written view
-written-few d room h = case (accepts (profileRefusal (view d) room)) (λ e. rw e (by (d .kind) refl)) (λ e. rw e (omega arith))
+written-few d room h = case (accepts (profileRefusal (view d) room)) (λ e. rw e (by (d .settings .kind) refl)) (λ e. rw e (omega arith))
   where
-    by : (k : Kind) → d .kind ≡ k → length (pointsBy k (view d)) ≤ places
+    by : (k : Kind) → d .settings .kind ≡ k → length (pointsBy k (view d)) ≤ places
     by Conservative e = points-fit d (premise-of d Conservative e h)
     by Easy e = omega arith
 
@@ -97,13 +97,13 @@ module _ (d : Scheduler) (room : ℕ) where
   abbrev by : Kind → ProfileOutcome
   by k = let r = refusalBy k (view d) room in showing r (cond (accepts r) (pointsBy k (view d)) [])
 
-  by-kind : (k : Kind) → d .kind ≡ k → by k ≡ profileOutcome (view d) room
+  by-kind : (k : Kind) → d .settings .kind ≡ k → by k ≡ profileOutcome (view d) room
   unfolding written view
   by-kind k e = ap by (sym e)
 
-  pub show-conservative : d .kind ≡ Conservative → showIn (stored (conservative.points (view d))) room ≡ profileOutcome (view d) room
+  pub show-conservative : d .settings .kind ≡ Conservative → showIn (stored (conservative.points (view d))) room ≡ profileOutcome (view d) room
   unfolding showIn showing stored conservative.profileRefusal verdict
   show-conservative e = case (ltb room (length (conservative.points (view d)))) (λ q. rw q) (λ q. rw q) ∙ by-kind Conservative e
 
-  pub show-easy : d .kind ≡ Easy → showing refusal.None [] ≡ profileOutcome (view d) room
+  pub show-easy : d .settings .kind ≡ Easy → showing refusal.None [] ≡ profileOutcome (view d) room
   show-easy e = by-kind Easy e

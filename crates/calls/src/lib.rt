@@ -24,7 +24,8 @@ pub fn call(d: Scheduler, request: Request) -> Outcome
     requires { ⌜ Premise d ⌝ }
     ensures { λ r. ⌜ r ≡ outcome (call (view d) (calls.asked request)) ⌝ }
 {
-    let kind = d.kind;
+    let settings = d.settings;
+    let kind = settings.kind;
     match kind {
         Kind::Conservative => conservative::call(d, request),
         Kind::Easy => easy::call(d, request),
@@ -111,7 +112,8 @@ pub fn profile(d: Scheduler, room: usize) -> ProfileOutcome
     requires { ⌜ Premise d ⌝ }
     ensures { λ r. ⌜ r ≡ profileOutcome (view d) room ⌝ }
 {
-    let kind = d.kind;
+    let settings = d.settings;
+    let kind = settings.kind;
     match kind {
         Kind::Conservative => show(conservative_plan::profile_of(d), room),
         Kind::Easy => no_points(Refusal::None),

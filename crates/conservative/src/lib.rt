@@ -135,7 +135,7 @@ pub fn submit(d: Scheduler, s: Submission) -> Outcome
     ensures { λ r. ⌜ r ≡ outcome (call (view d) (calls.submit (s .nodes) (s .estimate))) ⌝ }
 {
     let slot = job_table::first_unused(d);
-    let refusal = job_table::submit_refusal(s, d.nodes, slot, d.next);
+    let refusal = job_table::submit_refusal(s, d.settings.nodes, slot, d.next);
     if refusal.is_none() {
         let hold = walltime::wall_time(s.estimate);
         let start = conservative_plan::earliest(d, s.nodes, hold);

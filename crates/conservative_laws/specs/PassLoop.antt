@@ -12,7 +12,8 @@ use Rattle.spans.specs.Spans.{used}
 use Rattle.spans.specs.EarliestStart.{earliest-same}
 use Rattle.scheduler.specs.declared.Job.{Job}
 use Rattle.scheduler.specs.Jobs.{isWaiting}
-use Rattle.scheduler.specs.Settings.{Settings, holdTime}
+use Rattle.scheduler.specs.declared.Settings.{Settings}
+use Rattle.scheduler.specs.Settings.{holdTime}
 use Rattle.conservative_rules.specs.Conservative.{spans, placed, moved, pass}
 use Rattle.conservative_laws.specs.Validity.{used-append}
 

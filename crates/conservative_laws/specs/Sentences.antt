@@ -25,7 +25,8 @@ use Rattle.scheduler.specs.declared.Select.{Select}
 use Rattle.scheduler.specs.declared.Select.the-variants as select
 use Rattle.scheduler.specs.Limits as limit
 use Rattle.scheduler.specs.Jobs.{isWaiting, isRunning, waiting?, running?, live?, picks, runsAs}
-use Rattle.scheduler.specs.Settings.{Settings, horizon, holdTime, until}
+use Rattle.scheduler.specs.declared.Settings.{Settings}
+use Rattle.scheduler.specs.Settings.{horizon, holdTime, until}
 use Rattle.scheduler.specs.Table.{ticketsOf, staying}
 use Rattle.scheduler.specs.Model.{Model}
 use Rattle.scheduler.specs.Answers.{Result, verdict, accepts, refuse}

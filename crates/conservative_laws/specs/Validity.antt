@@ -17,7 +17,6 @@ use Rattle.spans.specs.declared.Span.{Span}
 use Rattle.spans.specs.Spans.{takes, used, free, earliest, Fits, Earliest}
 use Rattle.spans.specs.UsedNodes.{takes-in, takes-before, takes-after}
 use Rattle.spans.specs.EarliestStart.{earliest-is}
-use Rattle.scheduler.specs.declared.Kind.{Kind}
 use Rattle.scheduler.specs.declared.Kind.the-variants.{Conservative}
 use Rattle.scheduler.specs.declared.Job.{Job}
 use Rattle.scheduler.specs.declared.Refusal.{Refusal}
@@ -26,7 +25,8 @@ use Rattle.scheduler.specs.declared.Opening.{Opening}
 use Rattle.scheduler.specs.declared.Select.{Select}
 use Rattle.scheduler.specs.declared.Select.the-variants as select
 use Rattle.scheduler.specs.Jobs.{isWaiting, isRunning, waiting?, running?, live?, held, picks}
-use Rattle.scheduler.specs.Settings.{Settings, horizon, holdTime, until}
+use Rattle.scheduler.specs.declared.Settings.{Settings}
+use Rattle.scheduler.specs.Settings.{refusedSettings, horizon, holdTime, until}
 use Rattle.scheduler.specs.Table.{nodesHeld, ticketsOf, staying}
 use Rattle.scheduler.specs.Model.{Model, empty, without}
 use Rattle.scheduler.specs.Answers.{Result, accepts, refuse, refusing}
@@ -324,8 +324,8 @@ outcome m (unchanged r) v = idle (unchanged r) r (unchanged-news r r)
 
 -- ## Every model handed back is valid
 
-empty-valid : (k : Kind) (n c t : ℕ) → k ≡ Conservative → Sound (empty k n c t) → Valid (empty k n c t)
-empty-valid k n c t e s = record {
+empty-valid : (S : Settings) (c t : ℕ) → S .kind ≡ Conservative → Sound (empty S c t) → Valid (empty S c t)
+empty-valid S c t e s = record {
   kind = e;
   sound = s;
   room = λ t a. omega arith;
@@ -333,12 +333,12 @@ empty-valid k n c t e s = record {
   ahead = λ j i w. in-nil i;
 }
 
-pub opening-valid : (o : Opening) → o .kind ≡ Conservative → Valid (opening o)
+pub opening-valid : (o : Opening) → o .settings .kind ≡ Conservative → Valid (opening o)
 unfolding opening
 opening-valid o k =
     case (accepts (openingRefusal o))
-    (λ e. rw e (empty-valid (o .kind) (o .nodes) (o .minute) (o .ticket) k (rw e at (opening-sound o))))
-    (λ e. rw e (empty-valid (o .kind) 1 0 1 k (rw e at (opening-sound o))))
+    (λ e. rw e (empty-valid (o .settings) (o .minute) (o .ticket) k (rw e at (opening-sound o))))
+    (λ e. rw e (empty-valid (refusedSettings (o .settings .kind)) 0 1 k (rw e at (opening-sound o))))
 
 joins-valid : (m : Model) (n e : ℕ) → Valid m → Fit m n e → planned m n e + holdTime (m .settings) e ≤ horizon (m .settings)
     → Valid (withNew m n e (planned m n e))

@@ -23,7 +23,8 @@ use Rattle.scheduler.specs.Limits.{maxNodes, slots}
 use Rattle.scheduler.specs.declared.State.{State}
 use Rattle.scheduler.specs.declared.State.the-variants.{Unused, Waiting, Running}
 use Rattle.scheduler.specs.Jobs.{unused, isLive, isWaiting, live?, waiting?}
-use Rattle.scheduler.specs.Settings.{Settings, horizon, until}
+use Rattle.scheduler.specs.declared.Settings.{Settings}
+use Rattle.scheduler.specs.Settings.{horizon, until}
 use Rattle.scheduler.specs.Model.{Model, store, view}
 use Rattle.jobs.specs.Soundness.{Sound}
 use Rattle.jobs.specs.Premise.{Holds}

@@ -16,7 +16,8 @@ use Rattle.walltime.specs.WallTime.{wallTime}
 use Rattle.walltime.specs.Laws.{wallTime-le}
 use Rattle.scheduler.specs.declared.Job.{Job}
 use Rattle.scheduler.specs.Jobs.{isWaiting, isLive}
-use Rattle.scheduler.specs.Settings.{Settings, horizon, until}
+use Rattle.scheduler.specs.declared.Settings.{Settings}
+use Rattle.scheduler.specs.Settings.{horizon, until}
 use Rattle.conservative_table.specs.declared.Row.{Row}
 use Rattle.conservative_table.specs.ListChanges.{rows}
 use Rattle.conservative_table.specs.Table.{Table, Ascends, Split}

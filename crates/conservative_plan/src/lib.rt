@@ -43,7 +43,7 @@ fn tabulate(
     requires { ⌜ Holds Planned d × (length (now minutes) ≡ rows) × (length (now free) ≡ rows) × (length (now holds) ≡ slots) ⌝ }
     ensures { λ r. ⌜ Tabulated d r (now (minutes .exit)) (now (free .exit)) × HoldsTo (d .jobs) slots (now (holds .exit)) ⌝ }
 {
-    conservative_table::idle(minutes, free, d.nodes, d.clock);
+    conservative_table::idle(minutes, free, d.settings.nodes, d.clock);
     let mut count: usize = 1;
     let mut i: usize = 0;
     while i < Scheduler::LIVE {

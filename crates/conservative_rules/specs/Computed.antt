@@ -12,7 +12,7 @@ use Rattle.scheduler.specs.declared.Refusal.{Refusal}
 use Rattle.scheduler.specs.declared.Refusal.the-variants as refusal
 use Rattle.scheduler.specs.declared.Select.the-variants as select
 use Rattle.scheduler.specs.Jobs.{isRunning}
-use Rattle.scheduler.specs.Settings.{Settings}
+use Rattle.scheduler.specs.declared.Settings.{Settings}
 use Rattle.scheduler.specs.Table.{ticketsOf, staying}
 use Rattle.scheduler.specs.Model.{Model}
 use Rattle.scheduler.specs.Answers.{Reply, verdict}
@@ -29,7 +29,7 @@ promiseOf j = j .promise
 
 -- a machine of 2 nodes
 abbrev fresh : ℕ → Model
-fresh minute = opening (record { kind = Conservative; nodes = 2; minute = minute; ticket = 1 })
+fresh minute = opening (record { settings = record { kind = Conservative; nodes = 2 }; minute = minute; ticket = 1 })
 
 -- Document 001, figure 2: two jobs run, one until 5, one until 15. The first queued job needs both nodes and is promised 15, the second
 -- needs one and is promised 5.

@@ -18,7 +18,8 @@ use Rattle.scheduler.specs.declared.Refusal.the-variants as refusal
 use Rattle.scheduler.specs.declared.Select.{Select}
 use Rattle.scheduler.specs.declared.Select.the-variants as select
 use Rattle.scheduler.specs.Jobs.{isWaiting, isRunning, picks}
-use Rattle.scheduler.specs.Settings.{Settings, horizon, holdTime, until}
+use Rattle.scheduler.specs.declared.Settings.{Settings}
+use Rattle.scheduler.specs.Settings.{horizon, holdTime, until}
 use Rattle.scheduler.specs.Table.{ticketsOf, staying}
 use Rattle.scheduler.specs.Model.{Model, joined}
 use Rattle.scheduler.specs.Answers.{Result, verdict, refuse}

@@ -56,11 +56,11 @@ module _ (d : Scheduler) (s : Submission) (h : Holds Valid d) where
   unfolding view
   early-latest l = omega (arith, length-keep-le isWaiting (m .jobs), h .holds .ready .sound .few, wallTime-le (s .estimate))
 
-  pub known-early : (low : ℕ) → low ≡ length (m .jobs) → d .clock ≤ 334720 → Known m (s .estimate) (d .nodes) low (d .next) 0
+  pub known-early : (low : ℕ) → low ≡ length (m .jobs) → d .clock ≤ 334720 → Known m (s .estimate) (d .settings .nodes) low (d .next) 0
   unfolding view
   known-early low e l = record { table = known d low e; latest-is = sym (le-ltb horizon (latestEnd m (s .estimate)) (early-latest l)) }
 
-  pub known-late : (low latest : ℕ) → low ≡ length (m .jobs) → latest ≡ latestEnd m (s .estimate) → Known m (s .estimate) (d .nodes) low (d .next) latest
+  pub known-late : (low latest : ℕ) → low ≡ length (m .jobs) → latest ≡ latestEnd m (s .estimate) → Known m (s .estimate) (d .settings .nodes) low (d .next) latest
   unfolding view
   known-late low latest e l = record { table = known d low e; latest-is = ap (ltb horizon) l }
 

@@ -18,7 +18,8 @@ use Rattle.lists.specs.Lists.{keep-append, keep-cong, keep-keep, sum-append, su
 use Rattle.scheduler.specs.declared.Job.{Job}
 use Rattle.scheduler.specs.declared.Select.{Select}
 use Rattle.scheduler.specs.Jobs.{isWaiting, isRunning, held, picks}
-use Rattle.scheduler.specs.Settings.{Settings, holdTime, unit, until}
+use Rattle.scheduler.specs.declared.Settings.{Settings}
+use Rattle.scheduler.specs.Settings.{holdTime, unit, until}
 use Rattle.scheduler.specs.Table.{ticketOf, staying}
 use Rattle.scheduler.specs.Model.{Model, joined, without}
 use Rattle.jobs.specs.Order.{Asc, asc-in, asc-keep}

@@ -17,7 +17,8 @@ use Rattle.scheduler.specs.declared.State.{State}
 use Rattle.scheduler.specs.declared.State.the-variants.{Unused, Waiting, Running}
 use Rattle.scheduler.specs.declared.Job.{Job}
 use Rattle.scheduler.specs.Jobs.{waiting?, running?, isWaiting, isRunning, held}
-use Rattle.scheduler.specs.Settings.{Settings, horizon, longest, holdTime, unit, until}
+use Rattle.scheduler.specs.declared.Settings.{Settings}
+use Rattle.scheduler.specs.Settings.{horizon, longest, holdTime, unit, until}
 use Rattle.scheduler.specs.Table.{ticketOf, ticketsOf}
 use Rattle.scheduler.specs.Model.{Model}
 use Rattle.jobs.specs.Order.{Asc, asc-in, asc-same, asc-one}

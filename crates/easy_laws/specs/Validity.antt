@@ -11,7 +11,6 @@ use lib.Dec.{ltb, eqb}
 use borrow.Author.Tests.{ltb-false, eqb-false, not-false}
 use Rattle.lists.specs.Tests.{case, true-false}
 use Rattle.lists.specs.Lists.{keep, any, elem, In, in-nil, in-cons, in-append, keep-in}
-use Rattle.scheduler.specs.declared.Kind.{Kind}
 use Rattle.scheduler.specs.declared.Kind.the-variants.{Easy}
 use Rattle.scheduler.specs.declared.Job.{Job}
 use Rattle.scheduler.specs.declared.Opening.{Opening}
@@ -20,7 +19,8 @@ use Rattle.scheduler.specs.declared.Refusal.the-variants as refusal
 use Rattle.scheduler.specs.declared.Select.{Select}
 use Rattle.scheduler.specs.declared.Select.the-variants as select
 use Rattle.scheduler.specs.Jobs.{isWaiting, picks}
-use Rattle.scheduler.specs.Settings.{horizon, holdTime, unit}
+use Rattle.scheduler.specs.declared.Settings.{Settings}
+use Rattle.scheduler.specs.Settings.{refusedSettings, horizon, holdTime, unit}
 use Rattle.scheduler.specs.Table.{ticketsOf}
 use Rattle.scheduler.specs.Model.{Model, empty, joined, without}
 use Rattle.scheduler.specs.Answers.{Result, accepts, refusing, refuse}
@@ -57,18 +57,18 @@ pub record Valid (m : Model) : Type 0 where
 
 -- ## Opening
 
-empty-ready : (k : Kind) (n c t : ℕ) → k ≡ Easy → Sound (empty k n c t) → Ready (empty k n c t)
-empty-ready k n c t e s = record { kind = e; sound = s; promises = λ j i. in-nil i; starts = λ j i. in-nil i; room = λ j i. in-nil i }
+empty-ready : (S : Settings) (c t : ℕ) → S .kind ≡ Easy → Sound (empty S c t) → Ready (empty S c t)
+empty-ready S c t e s = record { kind = e; sound = s; promises = λ j i. in-nil i; starts = λ j i. in-nil i; room = λ j i. in-nil i }
 
-pub opening-valid : (o : Opening) → o .kind ≡ Easy → Valid (opening o)
+pub opening-valid : (o : Opening) → o .settings .kind ≡ Easy → Valid (opening o)
 unfolding opening pick
 opening-valid o e =
     by (accepts (openingRefusal o)) (opening-sound o)
   where
-    by : (b : Bool) → Sound (cond b (empty (o .kind) (o .nodes) (o .minute) (o .ticket)) (empty (o .kind) 1 0 1))
-        → Valid (cond b (empty (o .kind) (o .nodes) (o .minute) (o .ticket)) (empty (o .kind) 1 0 1))
-    by true s = record { ready = empty-ready (o .kind) (o .nodes) (o .minute) (o .ticket) e s; rests = refl }
-    by false s = record { ready = empty-ready (o .kind) 1 0 1 e s; rests = refl }
+    by : (b : Bool) → Sound (cond b (empty (o .settings) (o .minute) (o .ticket)) (empty (refusedSettings (o .settings .kind)) 0 1))
+        → Valid (cond b (empty (o .settings) (o .minute) (o .ticket)) (empty (refusedSettings (o .settings .kind)) 0 1))
+    by true s = record { ready = empty-ready (o .settings) (o .minute) (o .ticket) e s; rests = refl }
+    by false s = record { ready = empty-ready (refusedSettings (o .settings .kind)) 0 1 e s; rests = refl }
 
 -- ## Settling
 

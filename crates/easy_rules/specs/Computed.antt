@@ -16,7 +16,7 @@ use Rattle.history.specs.Calls.{Call, submit, complete, after}
 use Rattle.easy_rules.specs.Easy.{rank, shadow, extra, qualifies, pick, settle, forecast, finished, submitRefusal, advanced, call}
 
 abbrev fresh : ℕ → ℕ → Model
-fresh nodes minute = opening (record { kind = Easy; nodes = nodes; minute = minute; ticket = 1 })
+fresh nodes minute = opening (record { settings = record { kind = Easy; nodes = nodes }; minute = minute; ticket = 1 })
 
 -- "on a rack of 10 at minute 0, after `in 6 20` and `in 8 10`"
 abbrev waited-for : Model

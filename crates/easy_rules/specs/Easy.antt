@@ -16,7 +16,8 @@ use Rattle.scheduler.specs.declared.Refusal.the-variants as refusal
 use Rattle.scheduler.specs.declared.Select.{Select}
 use Rattle.scheduler.specs.declared.Select.the-variants as select
 use Rattle.scheduler.specs.Jobs.{isWaiting, isRunning, picks}
-use Rattle.scheduler.specs.Settings.{Settings, horizon, holdTime, unit, until}
+use Rattle.scheduler.specs.declared.Settings.{Settings}
+use Rattle.scheduler.specs.Settings.{horizon, holdTime, unit, until}
 use Rattle.scheduler.specs.Table.{nodesHeld, ticketsOf}
 use Rattle.scheduler.specs.Model.{Model, joined, without}
 use Rattle.scheduler.specs.Answers.{Result, Forecast, verdict, refuse}

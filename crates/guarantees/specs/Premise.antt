@@ -58,9 +58,9 @@ pub call-premise : (d : Scheduler) (c : Call) → Premise d → Premise (outcome
 call-premise d c h = stored-premise (call (view d) c .model) (call-valid (view d) c (h .holds))
 
 pub opening-valid : (o : Opening) → Valid (opening o)
-opening-valid o = go (o .kind) refl
+opening-valid o = go (o .settings .kind) refl
   where
-    go : (k : Kind) → o .kind ≡ k → Valid (opening o)
+    go : (k : Kind) → o .settings .kind ≡ k → Valid (opening o)
     go Conservative e = valid-as Conservative (opening o) (conservative.opening-valid o e)
     go Easy e = valid-as Easy (opening o) (easy.opening-valid o e)
 
@@ -69,12 +69,12 @@ unfolding opened
 opened-premise o = stored-premise (opening o) (opening-valid o)
 
 -- a scheduler of a kind meets that kind's premise
-pub premise-of : (d : Scheduler) (k : Kind) → d .kind ≡ k → Premise d → Holds (ValidBy k) d
+pub premise-of : (d : Scheduler) (k : Kind) → d .settings .kind ≡ k → Premise d → Holds (ValidBy k) d
 unfolding view
 premise-of d k e h = record { stored = h .stored; holds = subst (λ (j : Kind). ValidBy j (view d)) e (h .holds) }
 
 -- and goes by its rules
-pub rules-of : (d : Scheduler) (k : Kind) (c : Call) → d .kind ≡ k → call (view d) c ≡ rulesOf k (view d) c
+pub rules-of : (d : Scheduler) (k : Kind) (c : Call) → d .settings .kind ≡ k → call (view d) c ≡ rulesOf k (view d) c
 unfolding view
 rules-of d k c e = ap (λ (j : Kind). rulesOf j (view d) c) e
 

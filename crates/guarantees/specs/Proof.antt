@@ -7,6 +7,7 @@ use lib.ListN.{take}
 use Rattle.scheduler.specs.declared.Kind.{Kind}
 use Rattle.scheduler.specs.declared.Kind.the-variants.{Conservative, Easy}
 use Rattle.scheduler.specs.declared.Opening.{Opening}
+use Rattle.scheduler.specs.Settings.{refusedSettings}
 use Rattle.scheduler.specs.Model.{empty}
 use Rattle.scheduler.specs.Answers.{accepts}
 use Rattle.scheduler.specs.Opening.{openingRefusal, opening}
@@ -24,14 +25,14 @@ opening-empty : (o : Opening) → opening o .jobs ≡ []
 unfolding opening
 opening-empty o = by (accepts (openingRefusal o))
   where
-    by : (b : Bool) → cond b (empty (o .kind) (o .nodes) (o .minute) (o .ticket)) (empty (o .kind) 1 0 1) .jobs ≡ []
+    by : (b : Bool) → cond b (empty (o .settings) (o .minute) (o .ticket)) (empty (refusedSettings (o .settings .kind)) 0 1) .jobs ≡ []
     by true = refl
     by false = refl
 
 pub demand3 : Demand3
-demand3 o cs = by (o .kind) refl
+demand3 o cs = by (o .settings .kind) refl
   where
-    by : (k : Kind) → o .kind ≡ k → Guarantee k (opening o .settings .nodes) (bookOf (opening o) (events call (opening o) cs))
+    by : (k : Kind) → o .settings .kind ≡ k → Guarantee k (opening o .settings .nodes) (bookOf (opening o) (events call (opening o) cs))
     by Conservative e = from-blank conservative-lawful (opening o) cs (conservative.opening-valid o e) (opening-empty o)
     by Easy e = from-blank easy-lawful (opening o) cs (easy.opening-valid o e) (opening-empty o)
 

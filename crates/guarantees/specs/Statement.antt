@@ -8,7 +8,8 @@ use lib.ListN.{take}
 use Rattle.lists.specs.Lists.{in-nil}
 use Rattle.scheduler.specs.declared.Kind.{Kind}
 use Rattle.scheduler.specs.declared.Opening.{Opening}
-use Rattle.scheduler.specs.Settings.{Settings, unit}
+use Rattle.scheduler.specs.declared.Settings.{Settings}
+use Rattle.scheduler.specs.Settings.{unit}
 use Rattle.scheduler.specs.Model.{Model}
 use Rattle.scheduler.specs.Opening.{opening}
 use Rattle.history.specs.Calls.{Call, Command, Event, events, allCalls}
@@ -37,13 +38,13 @@ unit-is S = refl
 -- bounds and forecasts are kept, every head hears one, and running jobs never hold more nodes than the machine has. ("After every
 -- call": every front of a list is a list.)
 abbrev pub Demand3 : Type 0
-Demand3 = (o : Opening) (cs : List Call) → Guarantee (o .kind) (opening o .settings .nodes) (bookOf (opening o) (events call (opening o) cs))
+Demand3 = (o : Opening) (cs : List Call) → Guarantee (o .settings .kind) (opening o .settings .nodes) (bookOf (opening o) (events call (opening o) cs))
 
 -- the same with waits, "as its steps or as one refused call", after each single step
 abbrev pub Demand3WithWaits : Type 0
 Demand3WithWaits =
     (o : Opening) (qs : List Command) (i : ℕ)
-    → Guarantee (o .kind) (opening o .settings .nodes) (bookOf (opening o) (events call (opening o) (take i (allCalls call (opening o) qs))))
+    → Guarantee (o .settings .kind) (opening o .settings .nodes) (bookOf (opening o) (events call (opening o) (take i (allCalls call (opening o) qs))))
 
 module _ {k : Kind} {Valid : Model → Type 0} {OnCourse : Model → ℕ → ℕ → Type 0} (L : Lawful k (rulesOf k) Valid OnCourse) where
   -- a valid model of the kind goes by the kind's rules

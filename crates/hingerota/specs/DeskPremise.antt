@@ -40,10 +40,10 @@ abbrev pub gives : Desk → Call → Outcome
 gives d c = mirrorOutcome (outcome (call (view (read d)) c))
 
 abbrev pub promiseOpening : host-opening.Opening → Opening
-promiseOpening o = record { kind = Conservative; nodes = o .nodes; minute = o .minute; ticket = o .ticket }
+promiseOpening o = record { settings = record { kind = Conservative; nodes = o .nodes }; minute = o .minute; ticket = o .ticket }
 
 abbrev pub looseOpening : host-opening.Opening → Opening
-looseOpening o = record { kind = Easy; nodes = o .nodes; minute = o .minute; ticket = o .ticket }
+looseOpening o = record { settings = record { kind = Easy; nodes = o .nodes }; minute = o .minute; ticket = o .ticket }
 
 mirror-handed : (s : Scheduler) → Premise s → Handed (mirror s)
 mirror-handed s h = record { mirrored = ap mirror (sym (read-mirror s)); premise = subst Premise (sym (read-mirror s)) h }
@@ -71,7 +71,7 @@ states-low (j ∷ js) = (state-low (j .state), states-low js)
 
 pub handed-kind : (d : Desk) → Handed d → d .kind ≤ 1
 unfolding mirror
-handed-kind d h = subst (λ (e : Desk). e .kind ≤ 1) (sym (h .mirrored)) (kind-low (read d .kind))
+handed-kind d h = subst (λ (e : Desk). e .kind ≤ 1) (sym (h .mirrored)) (kind-low (read d .settings .kind))
 
 pub handed-states : (d : Desk) → Handed d → All (λ (r : Record). r .state ≤ 2) (d .jobs)
 unfolding mirror

@@ -47,7 +47,7 @@ abbrev pub noRecord : Record
 noRecord = mirrorJob unused
 
 unfoldable pub mirror : Scheduler → Desk
-mirror d = record { kind = kindNumber (d .kind); nodes = d .nodes; clock = d .clock; next = d .next; jobs = map mirrorJob (d .jobs) }
+mirror d = record { kind = kindNumber (d .settings .kind); nodes = d .settings .nodes; clock = d .clock; next = d .next; jobs = map mirrorJob (d .jobs) }
 
 -- ## Read back. A number that is no kind is read as the Promise Desk, and one that is no state as unused
 
@@ -61,7 +61,7 @@ abbrev pub readRecord : Record → Job
 readRecord r = record { ticket = r .ticket; nodes = r .nodes; estimate = r .estimate; state = stateOf (r .state); start = r .start; promise = r .promise }
 
 unfoldable pub read : Desk → Scheduler
-read d = record { kind = kindOf (d .kind); nodes = d .nodes; clock = d .clock; next = d .next; jobs = map readRecord (d .jobs) }
+read d = record { settings = record { kind = kindOf (d .kind); nodes = d .nodes }; clock = d .clock; next = d .next; jobs = map readRecord (d .jobs) }
 
 -- ## What is read of a mirror is what was mirrored
 
@@ -91,7 +91,7 @@ jobs-back (j ∷ js) = λ i. job-back j i ∷ jobs-back js i
 
 pub read-mirror : (d : Scheduler) → read (mirror d) ≡ d
 unfolding read mirror
-read-mirror d = λ i. record { kind = kind-back (d .kind) i; nodes = d .nodes; clock = d .clock; next = d .next; jobs = jobs-back (d .jobs) i }
+read-mirror d = λ i. record { settings = record { kind = kind-back (d .settings .kind) i; nodes = d .settings .nodes }; clock = d .clock; next = d .next; jobs = jobs-back (d .jobs) i }
 
 -- ## What calls give
 

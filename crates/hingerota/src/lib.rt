@@ -14,6 +14,7 @@ ghost use Rattle.hingerota.specs.Waits.{waitNumber};
 use scheduler::Job;
 use scheduler::Kind;
 use scheduler::Scheduler;
+use scheduler::Settings;
 use scheduler::State;
 use scheduler::Submission;
 
@@ -182,8 +183,10 @@ fn read(d: Desk) -> Scheduler
     }
     let kind = kind_of(d.kind);
     Scheduler {
-        kind: kind,
-        nodes: d.nodes,
+        settings: Settings {
+            kind: kind,
+            nodes: d.nodes,
+        },
         clock: d.clock,
         next: d.next,
         jobs: jobs,
@@ -201,10 +204,11 @@ fn mirror(s: Scheduler) -> Desk
         jobs[i] = mirror_job(j);
         i += 1;
     }
-    let kind = s.kind;
+    let settings = s.settings;
+    let kind = settings.kind;
     Desk {
         kind: kind_number(kind),
-        nodes: s.nodes,
+        nodes: s.settings.nodes,
         clock: s.clock,
         next: s.next,
         jobs: jobs,
@@ -344,8 +348,10 @@ pub extern "C" fn hingerota_open_promise(opening: Opening) -> Opened
     ensures { λ r. ⌜ r ≡ opens (promiseOpening opening) ⌝ }
 {
     open(scheduler::Opening {
-        kind: Kind::Conservative,
-        nodes: opening.nodes,
+        settings: Settings {
+            kind: Kind::Conservative,
+            nodes: opening.nodes,
+        },
         minute: opening.minute,
         ticket: opening.ticket,
     })
@@ -357,8 +363,10 @@ pub extern "C" fn hingerota_open_loose(opening: Opening) -> Opened
     ensures { λ r. ⌜ r ≡ opens (looseOpening opening) ⌝ }
 {
     open(scheduler::Opening {
-        kind: Kind::Easy,
-        nodes: opening.nodes,
+        settings: Settings {
+            kind: Kind::Easy,
+            nodes: opening.nodes,
+        },
         minute: opening.minute,
         ticket: opening.ticket,
     })

@@ -36,7 +36,7 @@ use Rattle.job_table.specs.Parts.{notRunning, pastHorizon, cappedClock, 
 use Rattle.job_table.specs.Compacting.{Removed, removed, removed-stored, overwrite, Compacts, compacted, Clears}
 
 abbrev pub withClock : Scheduler → ℕ → Scheduler
-withClock d c = record { kind = d .kind; nodes = d .nodes; clock = c; next = d .next; jobs = d .jobs }
+withClock d c = record { settings = d .settings; clock = c; next = d .next; jobs = d .jobs }
 
 -- without the element at n
 abbrev pub cut : ℕ → List Job → List Job

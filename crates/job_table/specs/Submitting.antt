@@ -43,10 +43,10 @@ tests-more m n e more =
     (λ c. rw c (case (ltb lastTicket (m .next)) (λ d. rw d) (λ d. rw d)))))))
 
 abbrev pub withNext : Scheduler → ℕ → Scheduler
-withNext d t = record { kind = d .kind; nodes = d .nodes; clock = d .clock; next = t; jobs = d .jobs }
+withNext d t = record { settings = d .settings; clock = d .clock; next = t; jobs = d .jobs }
 
 module _ (d : Scheduler) (slot : ℕ) (e : slot ≡ length (view d .jobs)) where
-  pub known : Known (view d) (d .nodes) slot (d .next)
+  pub known : Known (view d) (d .settings .nodes) slot (d .next)
   unfolding view
   known = record { nodes-is = refl; live-is = e; next-is = refl }
 

@@ -20,7 +20,8 @@ use Rattle.scheduler.specs.declared.Select.the-variants as select
 use Rattle.scheduler.specs.Limits as limit
 use Rattle.scheduler.specs.Limits.{maxNodes, lastTicket, outside}
 use Rattle.scheduler.specs.Jobs.{isLive, isRunning, held, picks}
-use Rattle.scheduler.specs.Settings.{Settings, horizon, slots, longest, until}
+use Rattle.scheduler.specs.declared.Settings.{Settings}
+use Rattle.scheduler.specs.Settings.{refusedSettings, horizon, slots, longest, until}
 use Rattle.scheduler.specs.Table.{nodesHeld}
 use Rattle.scheduler.specs.Model.{Model, Live, empty, joined, without}
 use Rattle.scheduler.specs.Answers.{verdict, accepts}
@@ -55,8 +56,8 @@ all-live m s = all-of Live (m .jobs) (λ j i. s .each j i .is-live)
 
 -- ## Opening
 
-sound-empty : (k : _) (n c t : ℕ) → 1 ≤ n → n ≤ maxNodes → c ≤ limit.horizon → 1 ≤ t → t ≤ lastTicket → Sound (empty k n c t)
-sound-empty k n c t a b d e f = record {
+sound-empty : (S : Settings) (c t : ℕ) → 1 ≤ S .nodes → S .nodes ≤ maxNodes → c ≤ limit.horizon → 1 ≤ t → t ≤ lastTicket → Sound (empty S c t)
+sound-empty S c t a b d e f = record {
   nodes-from = a;
   nodes-to = b;
   clock-to = d;
@@ -72,20 +73,20 @@ sound-empty k n c t a b d e f = record {
 pub opening-sound : (o : Opening) → Sound (opening o)
 unfolding opening openingRefusal verdict
 opening-sound o =
-    case (outside 1 maxNodes (o .nodes))
+    case (outside 1 maxNodes (o .settings .nodes))
     (λ p. rw p refused)
     (λ p. rw p (case (ltb limit.horizon (o .minute) || outside 1 lastTicket (o .ticket)) (λ q. rw q refused) (λ q. rw q (taken p q))))
   where
-    refused : Sound (empty (o .kind) 1 0 1)
-    refused = sound-empty (o .kind) 1 0 1 (omega arith) (omega arith) (omega arith) (omega arith) (omega arith)
+    refused : Sound (empty (refusedSettings (o .settings .kind)) 0 1)
+    refused = sound-empty (refusedSettings (o .settings .kind)) 0 1 (omega arith) (omega arith) (omega arith) (omega arith) (omega arith)
 
-    taken : outside 1 maxNodes (o .nodes) ≡ false → (ltb limit.horizon (o .minute) || outside 1 lastTicket (o .ticket)) ≡ false
-        → Sound (empty (o .kind) (o .nodes) (o .minute) (o .ticket))
+    taken : outside 1 maxNodes (o .settings .nodes) ≡ false → (ltb limit.horizon (o .minute) || outside 1 lastTicket (o .ticket)) ≡ false
+        → Sound (empty (o .settings) (o .minute) (o .ticket))
     taken p q =
-        let a = neither (ltb (o .nodes) 1) (ltb maxNodes (o .nodes)) p in
+        let a = neither (ltb (o .settings .nodes) 1) (ltb maxNodes (o .settings .nodes)) p in
         let b = neither (ltb limit.horizon (o .minute)) (outside 1 lastTicket (o .ticket)) q in
         let c = neither (ltb (o .ticket) 1) (ltb lastTicket (o .ticket)) (b .1) in
-        sound-empty (o .kind) (o .nodes) (o .minute) (o .ticket) (ltb-false (o .nodes) 1 (a .0)) (ltb-false maxNodes (o .nodes) (a .1))
+        sound-empty (o .settings) (o .minute) (o .ticket) (ltb-false (o .settings .nodes) 1 (a .0)) (ltb-false maxNodes (o .settings .nodes) (a .1))
         (ltb-false limit.horizon (o .minute) (b .0)) (ltb-false (o .ticket) 1 (c .0)) (ltb-false lastTicket (o .ticket) (c .1))
 
 -- ## Submission

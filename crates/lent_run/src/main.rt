@@ -13,6 +13,7 @@ use scheduler::Opened;
 use scheduler::Opening;
 use scheduler::Outcome;
 use scheduler::Scheduler;
+use scheduler::Settings;
 use scheduler::Submission;
 use scheduler::Tickets;
 use spans::Point;
@@ -199,9 +200,10 @@ fn print_opened(opened: Opened)
     let why = opened.refusal;
     print(why.code());
     let d = opened.scheduler;
-    let kind = d.kind;
+    let settings = d.settings;
+    let kind = settings.kind;
     print_kind(kind);
-    print(d.nodes);
+    print(d.settings.nodes);
     print(d.clock);
     print(d.next);
     print_count(job_table::first_unused(d));
@@ -212,8 +214,10 @@ fn open(kind: Kind, nodes: u32, minute: u32) -> Scheduler
     ensures { λ r. ⌜ Premise r ⌝ }
 {
     let opened = Scheduler::open(Opening {
-        kind: kind,
-        nodes: nodes,
+        settings: Settings {
+            kind: kind,
+            nodes: nodes,
+        },
         minute: minute,
         ticket: 1,
     });

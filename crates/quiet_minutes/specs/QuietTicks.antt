@@ -91,7 +91,7 @@ passed-after (suc k) m v l q =
 
 -- the scheduler k minutes later
 abbrev pub passedOver : Scheduler → ℕ → Scheduler
-passedOver d k = record { kind = d .kind; nodes = d .nodes; clock = d .clock + k; next = d .next; jobs = d .jobs }
+passedOver d k = record { settings = d .settings; clock = d .clock + k; next = d .next; jobs = d .jobs }
 
 pub passed-premise : (d : Scheduler) (k : ℕ) → Premise d → d .clock + k ≤ horizon → Quiet (view d) k → Premise (passedOver d k)
 unfolding view store

@@ -8,12 +8,11 @@ use Prim.Native.Nat.{ℕ, suc, _≤_}
 use lib.ListN.{length}
 use Rattle.lists.specs.Lists.{keep, All, all-in, keep-all}
 use Rattle.lists.specs.Pads.{pad, keep-pad, length-pad}
-use Rattle.scheduler.specs.declared.Kind.{Kind}
 use Rattle.scheduler.specs.declared.Job.{Job}
 use Rattle.scheduler.specs.declared.Scheduler.{Scheduler}
 use Rattle.scheduler.specs.declared.Select.{Select}
 use Rattle.scheduler.specs.Limits.{slots}
-use Rattle.scheduler.specs.Settings.{Settings}
+use Rattle.scheduler.specs.declared.Settings.{Settings}
 use Rattle.scheduler.specs.Jobs.{unused, isLive}
 use Rattle.scheduler.specs.Table.{staying}
 
@@ -24,8 +23,8 @@ pub record Model : Type 0 where
   pub jobs : List Job
 
 -- no job yet
-abbrev pub empty : Kind → ℕ → ℕ → ℕ → Model
-empty k n c t = record { settings = record { kind = k; nodes = n }; clock = c; next = t; jobs = [] }
+abbrev pub empty : Settings → ℕ → ℕ → Model
+empty S c t = record { settings = S; clock = c; next = t; jobs = [] }
 
 -- with other jobs
 abbrev pub withModelJobs : Model → List Job → Model
@@ -40,10 +39,10 @@ abbrev pub without : Model → ℕ → Select → Model
 without m clock s = record { settings = m .settings; clock = clock; next = m .next; jobs = staying s (m .jobs) }
 
 unfoldable pub store : Model → Scheduler
-store m = record { kind = m .settings .kind; nodes = m .settings .nodes; clock = m .clock; next = m .next; jobs = pad slots unused (m .jobs) }
+store m = record { settings = m .settings; clock = m .clock; next = m .next; jobs = pad slots unused (m .jobs) }
 
 unfoldable pub view : Scheduler → Model
-view d = record { settings = record { kind = d .kind; nodes = d .nodes }; clock = d .clock; next = d .next; jobs = keep isLive (d .jobs) }
+view d = record { settings = d .settings; clock = d .clock; next = d .next; jobs = keep isLive (d .jobs) }
 
 abbrev pub Live : Job → Type 0
 Live j = isLive j ≡ true

@@ -9,6 +9,7 @@ use Rattle.scheduler.specs.declared.Refusal.the-variants as refusal
 use Rattle.scheduler.specs.declared.Opening.{Opening}
 use Rattle.scheduler.specs.declared.Opened.{Opened}
 use Rattle.scheduler.specs.Limits.{maxNodes, horizon, lastTicket, outside}
+use Rattle.scheduler.specs.Settings.{refusedSettings}
 use Rattle.scheduler.specs.Model.{Model, empty, store}
 use Rattle.scheduler.specs.Answers.{verdict, accepts}
 
@@ -16,12 +17,12 @@ use Rattle.scheduler.specs.Answers.{verdict, accepts}
 unfoldable pub openingRefusal : Opening → Refusal
 openingRefusal o =
     verdict
-    ((outside 1 maxNodes (o .nodes), refusal.NodesOutOfRange)
+    ((outside 1 maxNodes (o .settings .nodes), refusal.NodesOutOfRange)
     ∷ (ltb horizon (o .minute) || outside 1 lastTicket (o .ticket), refusal.OpeningOutOfRange)
     ∷ [])
 
 unfoldable pub opening : Opening → Model
-opening o = cond (accepts (openingRefusal o)) (empty (o .kind) (o .nodes) (o .minute) (o .ticket)) (empty (o .kind) 1 0 1)
+opening o = cond (accepts (openingRefusal o)) (empty (o .settings) (o .minute) (o .ticket)) (empty (refusedSettings (o .settings .kind)) 0 1)
 
 unfoldable pub opened : Opening → Opened
 opened o = record { refusal = openingRefusal o; scheduler = store (opening o) }

@@ -3,12 +3,13 @@
 use Prim.Native.Nat.{ℕ, _+_}
 use Rattle.walltime.specs.WallTime.{wallTime}
 use Rattle.scheduler.specs.declared.Kind.{Kind}
+use Rattle.scheduler.specs.declared.Settings.{Settings}
 use Rattle.scheduler.specs.declared.Job.{Job}
 use Rattle.scheduler.specs.Limits as limit
 
-pub record Settings : Type 0 where
-  pub kind : Kind
-  pub nodes : ℕ
+-- "A refused opening hands back an empty desk of its kind with 1 node"
+abbrev pub refusedSettings : Kind → Settings
+refusedSettings k = record { kind = k; nodes = 1 }
 
 -- "Minutes of the clock: 0 to 1,000,000, the last minute."
 abbrev pub horizon : Settings → ℕ

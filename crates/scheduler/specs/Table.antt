@@ -15,7 +15,7 @@ use Rattle.scheduler.specs.Jobs.{held, picks}
 
 -- the scheduler with other jobs
 abbrev pub withJobs : Scheduler → List Job → Scheduler
-withJobs d js = record { kind = d .kind; nodes = d .nodes; clock = d .clock; next = d .next; jobs = js }
+withJobs d js = record { settings = d .settings; clock = d .clock; next = d .next; jobs = js }
 
 -- the nodes that all jobs hold now
 abbrev pub nodesHeld : List Job → ℕ

@@ -2,10 +2,11 @@
 ghost use mathlib.Core.Path.{_≡_};
 ghost use Rattle.scheduler.specs.Limits.{limits, outside};
 ghost use Rattle.scheduler.specs.Jobs.{unused, picks};
+ghost use Rattle.scheduler.specs.Settings.{refusedSettings};
 ghost use Rattle.scheduler.specs.Table.{tickets, oneIf};
 ghost use Rattle.scheduler.specs.Model.{store, empty};
 ghost use Rattle.scheduler.specs.Answers.{code, accepts, refusedAnswer, refusedOutcome, noTickets};
-ghost use Rattle.scheduler.specs.Opening.{opened};
+ghost use Rattle.scheduler.specs.Opening.{openingRefusal, opened};
 
 // Which rules the scheduler follows: conservative backfilling ("Promise Desk") or EASY backfilling ("Loose Desk").
 pub enum Kind {
@@ -29,10 +30,15 @@ pub struct Job {
     pub promise: u32,
 }
 
-// The live jobs stand first, in ticket order; the slots after them are unused.
-pub struct Scheduler {
+// What an opening fixes: the rules, and the machine's nodes.
+pub struct Settings {
     pub kind: Kind,
     pub nodes: u32,
+}
+
+// The live jobs stand first, in ticket order; the slots after them are unused.
+pub struct Scheduler {
+    pub settings: Settings,
     pub clock: u32,
     pub next: u32,
     pub jobs: [Job; 64],
@@ -84,8 +90,7 @@ pub struct Outcome {
 }
 
 pub struct Opening {
-    pub kind: Kind,
-    pub nodes: u32,
+    pub settings: Settings,
     pub minute: u32,
     pub ticket: u32,
 }
@@ -264,6 +269,36 @@ impl Job {
     }
 }
 
+impl Settings {
+    // What a refused opening hands back.
+    pub fn of_refused(kind: Kind) -> Settings
+        ensures { λ r. ⌜ r ≡ refusedSettings kind ⌝ }
+    {
+        Settings {
+            kind: kind,
+            nodes: 1,
+        }
+    }
+}
+
+impl Opening {
+    // Why it is refused, in document 01's order: 1, 3.
+    fn refusal(self) -> Refusal
+        ensures { λ r. ⌜ r ≡ openingRefusal self ⌝ }
+    {
+        if outside_range(self.settings.nodes, 1, Scheduler::NODES) {
+            return Refusal::NodesOutOfRange;
+        }
+        if Scheduler::HORIZON < self.minute {
+            return Refusal::OpeningOutOfRange;
+        }
+        if outside_range(self.ticket, 1, Scheduler::LAST_TICKET) {
+            return Refusal::OpeningOutOfRange;
+        }
+        Refusal::None
+    }
+}
+
 impl Scheduler {
     pub const NODES: u32 = 1024;
 
@@ -288,13 +323,12 @@ impl Scheduler {
         }
     }
 
-    fn empty(kind: Kind, nodes: u32, clock: u32, next: u32) -> Scheduler
-        ensures { λ r. ⌜ r ≡ store (empty kind nodes clock next) ⌝ }
+    fn empty(settings: Settings, clock: u32, next: u32) -> Scheduler
+        ensures { λ r. ⌜ r ≡ store (empty settings clock next) ⌝ }
     {
         let j = Job::unused();
         Scheduler {
-            kind: kind,
-            nodes: nodes,
+            settings: settings,
             clock: clock,
             next: next,
             jobs: [j; 64],
@@ -304,28 +338,18 @@ impl Scheduler {
     pub fn open(o: Opening) -> Opened
         ensures { λ r. ⌜ r ≡ opened o ⌝ }
     {
-        let kind = o.kind;
-        if outside_range(o.nodes, 1, Scheduler::NODES) {
+        let refusal = o.refusal();
+        let settings = o.settings;
+        if refusal.is_none() {
             return Opened {
-                refusal: Refusal::NodesOutOfRange,
-                scheduler: Scheduler::empty(kind, 1, 0, 1),
+                refusal: refusal,
+                scheduler: Scheduler::empty(settings, o.minute, o.ticket),
             };
         }
-        if Scheduler::HORIZON < o.minute {
-            return Opened {
-                refusal: Refusal::OpeningOutOfRange,
-                scheduler: Scheduler::empty(kind, 1, 0, 1),
-            };
-        }
-        if outside_range(o.ticket, 1, Scheduler::LAST_TICKET) {
-            return Opened {
-                refusal: Refusal::OpeningOutOfRange,
-                scheduler: Scheduler::empty(kind, 1, 0, 1),
-            };
-        }
+        let kind = settings.kind;
         Opened {
-            refusal: Refusal::None,
-            scheduler: Scheduler::empty(kind, o.nodes, o.minute, o.ticket),
+            refusal: refusal,
+            scheduler: Scheduler::empty(Settings::of_refused(kind), 0, 1),
         }
     }
 

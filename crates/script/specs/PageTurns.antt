@@ -156,14 +156,14 @@ module _ (s : List ℕ) (at : ℕ) where
 
 -- what a call gives, with the lines of its answer
 module _ (d : Scheduler) (c : Call) (r : Outcome) (e : r ≡ outcome (call (view d) c)) where
-  call-piece : (next steps : ℕ) → piece (answerText (d .kind) (r .scheduler .clock) (r .answer)) (going next steps (r .scheduler)) ≡ callPiece next steps d c
+  call-piece : (next steps : ℕ) → piece (answerText (d .settings .kind) (r .scheduler .clock) (r .answer)) (going next steps (r .scheduler)) ≡ callPiece next steps d c
   unfolding
       view
       store
   call-piece next steps =
-      ap (λ (x : Outcome). piece (answerText (d .kind) (x .scheduler .clock) (x .answer)) (going next steps (x .scheduler))) e
+      ap (λ (x : Outcome). piece (answerText (d .settings .kind) (x .scheduler .clock) (x .answer)) (going next steps (x .scheduler))) e
       ∙ ap (λ t. piece t (going next steps (outcome (call (view d) c) .scheduler)))
-      (answer-text (d .kind) (call (view d) c .model .clock) (call (view d) c .reply))
+      (answer-text (d .settings .kind) (call (view d) c .model .clock) (call (view d) c .reply))
 
   pub call-few : Premise d → (r .answer .ended .count ≤ 64) × (r .answer .started .count ≤ 64)
   unfolding tickets
@@ -187,7 +187,7 @@ module _ (s : List ℕ) (at steps : ℕ) (d : Scheduler) (n : Next) (comes : Com
     asked-piece b f = known (turn.Asks b) (e ∙ ap turn.Asks f)
 
     pub call-turned : {page after : List ℕ} {out end : ℕ} (q : Request) → a ≡ later.Call q → (o : Outcome) → o ≡ outcome (call (view d) (asked q))
-        → Wrote pageBytes page out (answerText (d .kind) (o .scheduler .clock) (o .answer)) after end
+        → Wrote pageBytes page out (answerText (d .settings .kind) (o .scheduler .clock) (o .answer)) after end
         → Turned here page out after (record { end = end; play = going (n .at) (n .steps) (o .scheduler) })
     call-turned q f o g w = turned-as (call-piece d (asked q) o g (n .at) (n .steps) ∙ asked-piece _ f) (turned _ w)
 

@@ -17,6 +17,7 @@ use scheduler::Opening;
 use scheduler::Refusal;
 use scheduler::Request;
 use scheduler::Scheduler;
+use scheduler::Settings;
 use script_play::Play;
 use script_play::Stage;
 use script_reading::Asked;
@@ -187,7 +188,8 @@ fn later(p: Play, script: &[u8], page: &mut [u8]) -> Played
         match turn {
             Turn::Asks(asked) => match asked {
                 Asked::Call(request) => {
-                    let kind = d.kind;
+                    let settings = d.settings;
+                    let kind = settings.kind;
                     let done = calls::call(d, request);
                     d = done.scheduler;
                     let answer = done.answer;
@@ -250,8 +252,7 @@ pub fn begin() -> Play
     ensures { λ r. ⌜ r ≡ beginning ⌝ }
 {
     let none = Scheduler::open(Opening {
-        kind: Kind::Conservative,
-        nodes: 1,
+        settings: Settings::of_refused(Kind::Conservative),
         minute: 0,
         ticket: 1,
     });

@@ -10,6 +10,7 @@ use Rattle.text.specs.Lines.{lineAt}
 use Rattle.scheduler.specs.declared.Kind.the-variants.{Conservative}
 use Rattle.scheduler.specs.declared.Opening.{Opening}
 use Rattle.scheduler.specs.declared.Scheduler.{Scheduler}
+use Rattle.scheduler.specs.Settings.{refusedSettings}
 use Rattle.scheduler.specs.Model.{view}
 use Rattle.scheduler.specs.Opening.{openingRefusal, opened}
 use Rattle.scheduler.specs.Answers.{accepts, code, outcome}
@@ -95,4 +96,4 @@ piece t p = record { text = t; play = p }
 
 -- a script that has not begun: its scheduler is not asked anything before an opening
 abbrev pub beginning : Play
-beginning = record { stage = First; at = 0; steps = 0; scheduler = opened (record { kind = Conservative; nodes = 1; minute = 0; ticket = 1 }) .scheduler }
+beginning = record { stage = First; at = 0; steps = 0; scheduler = opened (record { settings = refusedSettings Conservative; minute = 0; ticket = 1 }) .scheduler }

@@ -128,7 +128,7 @@ module _ {A : Type 0} where
 
 -- what the numbers of each line say
 abbrev pub openingOf : Kind → List ℕ → Option Opening
-openingOf k vs = some (record { kind = k; nodes = getD vs 0 0; minute = getD vs 1 0; ticket = getD vs 2 0 })
+openingOf k vs = some (record { settings = record { kind = k; nodes = getD vs 0 0 }; minute = getD vs 1 0; ticket = getD vs 2 0 })
 
 abbrev pub submissionOf : List ℕ → Option Command
 submissionOf vs = some (ask (submit (getD vs 0 0) (getD vs 1 0)))

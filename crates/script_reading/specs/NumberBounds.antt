@@ -20,7 +20,7 @@ abbrev pub Small : ℕ → Type 0
 Small n = n ≤ 9999999
 
 abbrev pub SmallOpening : Opening → Type 0
-SmallOpening o = Small (o .nodes) × Small (o .minute) × Small (o .ticket)
+SmallOpening o = Small (o .settings .nodes) × Small (o .minute) × Small (o .ticket)
 
 abbrev pub SmallCommand : Command → Type 0
 SmallCommand (ask (submit n e)) = Small n × Small e

@@ -5,6 +5,7 @@ ghost use Rattle.script_reading.specs.Meaning.{opens, asks, follows, for
 use scheduler::Kind;
 use scheduler::Opening;
 use scheduler::Request;
+use scheduler::Settings;
 use scheduler::Submission;
 use text::Numbers;
 
@@ -60,8 +61,10 @@ fn opening(named: Named, given: Numbers) -> FirstLine
     }
     let v = given.values;
     FirstLine::Opens(Opening {
-        kind: k,
-        nodes: v[0],
+        settings: Settings {
+            kind: k,
+            nodes: v[0],
+        },
         minute: v[1],
         ticket: v[2],
     })

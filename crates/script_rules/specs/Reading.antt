@@ -61,7 +61,7 @@ openingIn s =
     cond
     (hasForm s 5 deskWord)
     (withKind (kindOf (fieldOf s 1)) (λ k. withNumber (numberAt s 2) (λ n. withNumber (numberAt s 3) (λ m. withNumber (numberAt s 4) (λ t.
-    some (record { kind = k; nodes = n; minute = m; ticket = t }))))))
+    some (record { settings = record { kind = k; nodes = n }; minute = m; ticket = t }))))))
     none
 
 unfoldable pub commandIn : List ℕ → Option Command

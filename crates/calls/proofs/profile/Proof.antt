@@ -13,18 +13,18 @@ use Rattle.calls.proofs.profile.Tie as tie
 
 profile-of-requires : tie.Need-profile-of-requires
 profile-of-requires c κs =
-    let s = c .before .before in
+    let s = c .before .before .before in
     holds-as _ _ (s .args .d) valid-planned (premise-of (s .args .d) Conservative (c .enum-told .given .1) (s .pre))
 
 returns : tie.Need-returns
 returns c =
-    let s = c .before .before .before .before in
+    let s = c .before .before .before .before .before in
     c .show .ensures ∙ ap (λ (p : Profile). showIn p (s .args .room)) (c .before .profile-of .ensures)
     ∙ show-conservative (s .args .d) (s .args .room) (c .before .before .enum-told .given .1)
 
 returns-2 : tie.Need-returns-2
 returns-2 c =
-    let s = c .before .before .before in
+    let s = c .before .before .before .before in
     c .no-points .ensures ∙ show-easy (s .args .d) (s .args .room) (c .before .enum-told2 .given .1)
 
 pub profile-spec : {M : Type 1} → statement M

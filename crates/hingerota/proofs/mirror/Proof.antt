@@ -36,8 +36,8 @@ loop-again c =
 returns : tie.Need-returns Inv-loop μ-loop
 unfolding mirror
 returns c =
-    let l = c .before .before .loop in
-    let s = c .before .before .before .before .before in
+    let l = c .before .before .before .loop in
+    let s = c .before .before .before .before .before .before in
     let xs = s .args .t1 .jobs in
     let len = whole (s .args .t1) (s .good .0) in
     rw (c .kind-number .ensures, l .inv .1, copied-all mirrorJob unused noRecord 64 xs (l .i) len (omega arith))

@@ -89,12 +89,12 @@ less n t = omega (
 )
 
 call-turn : (c : tie.After-put-answer Inv-loop μ-loop)
-    → let n = c .before .before .before .before .before .before .before .before .before .before .before in
+    → let n = c .before .before .before .before .before .before .before .before .before .before .before .before in
     Turn n (c .put-answer .last .0) (c .put-answer .result) (n .next-turn .result .steps) (c .before .before .before .before .call .result .scheduler)
 call-turn c =
-    let n = c .before .before .before .before .before .before .before .before .before .before .before in
-    call-turned _ _ _ _ _ (n .next-turn .ensures) _ (c .before .before .before .before .before .before .before .before .before .turn .given .1) _
-    (c .before .before .before .before .before .before .asked .given .1) _ (c .before .before .before .before .call .ensures) (c .put-answer .ensures)
+    let n = c .before .before .before .before .before .before .before .before .before .before .before .before in
+    call-turned _ _ _ _ _ (n .next-turn .ensures) _ (c .before .before .before .before .before .before .before .before .before .before .turn .given .1) _
+    (c .before .before .before .before .before .before .before .asked .given .1) _ (c .before .before .before .before .call .ensures) (c .put-answer .ensures)
 
 wait-turn : (c : tie.Then2 Inv-loop μ-loop) → let n = c .before .before .before .before .before .before .before .before .before in let l =
     passed n .before .before .loop in Turn n (l .page) (l .end) (c .before .before .before .before .asked2 .given .0 .0) (found n)
@@ -139,19 +139,19 @@ sub-next-turn : tie.Need-sub-next-turn Inv-loop μ-loop
 sub-next-turn c = omega (arith, ahead (c .before .before) .few)
 
 call-requires : tie.Need-call-requires Inv-loop μ-loop
-call-requires c κs = quiet-filling (passed (c .before .before .before .before .before .before)) .ready .premise
+call-requires c κs = quiet-filling (passed (c .before .before .before .before .before .before .before)) .ready .premise
 
 put-answer-requires : tie.Need-put-answer-requires Inv-loop μ-loop
 put-answer-requires c κs =
     let f = call-few _ _ _ (c .before .before .before .call .ensures)
-    (quiet-filling (passed (c .before .before .before .before .before .before .before .before .before .before)) .ready .premise) in
-    (f .0, f .1, room (passed (c .before .before .before .before .before .before .before .before .before .before) .before))
+    (quiet-filling (passed (c .before .before .before .before .before .before .before .before .before .before .before)) .ready .premise) in
+    (f .0, f .1, room (passed (c .before .before .before .before .before .before .before .before .before .before .before) .before))
 
 loop-less : tie.Need-loop-less Inv-loop μ-loop
-loop-less c = less (c .before .before .before .before .before .before .before .before .before .before .before .before .before) (call-turn (c .before .before))
+loop-less c = less (c .before .before .before .before .before .before .before .before .before .before .before .before .before .before) (call-turn (c .before .before))
 
 loop-again : tie.Need-loop-again Inv-loop μ-loop
-loop-again c = more (c .before .before .before .before .before .before .before .before .before .before .before .before .before) (call-turn (c .before .before))
+loop-again c = more (c .before .before .before .before .before .before .before .before .before .before .before .before .before .before) (call-turn (c .before .before))
 
 wait-refusal-requires : tie.Need-wait-refusal-requires Inv-loop μ-loop
 wait-refusal-requires c κs = quiet-filling (passed (c .before .before .before .before .before .before)) .ready .premise
