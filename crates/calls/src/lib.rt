@@ -35,7 +35,7 @@ pub fn call(d: Scheduler, request: Request) -> Outcome
 // A job is submitted (document 01: "intake").
 pub fn submit(d: Scheduler, s: Submission) -> Outcome
     requires { ⌜ Premise d ⌝ }
-    ensures { λ r. ⌜ r ≡ outcome (call (view d) (calls.submit (s .nodes) (s .estimate))) ⌝ }
+    ensures { λ r. ⌜ r ≡ outcome (call (view d) (calls.submit s)) ⌝ }
 {
     call(d, Request::Submit(s))
 }
@@ -133,7 +133,7 @@ pub fn wait_refusal(d: Scheduler, minutes: u32) -> Refusal
     requires { ⌜ Premise d ⌝ }
     ensures { λ r. ⌜ r ≡ waitRefusal (view d) minutes ⌝ }
 {
-    if scheduler::outside_range(minutes, 1, Scheduler::LONGEST) {
+    if scheduler::outside_range(minutes, 1, Scheduler::LONGEST_WAIT) {
         return Refusal::MinutesOutOfRange;
     }
     if Scheduler::HORIZON < d.clock + minutes {

@@ -10,37 +10,35 @@ use lib.ListN.{length, set}
 use borrow.Author.Tests.{lt-ltb, le-ltb}
 use Rattle.lists.specs.Lists.{All, In, here, there}
 use Rattle.scheduler.specs.declared.Job.{Job}
+use Rattle.scheduler.specs.declared.Submission.{Submission}
 use Rattle.scheduler.specs.declared.State.the-variants.{Waiting}
 use Rattle.scheduler.specs.declared.Refusal.the-variants as refusal
 use Rattle.scheduler.specs.declared.Scheduler.{Scheduler}
 use Rattle.scheduler.specs.declared.Outcome.{Outcome}
-use Rattle.scheduler.specs.Limits.{lastTicket}
+use Rattle.scheduler.specs.Limits.{maxNodes, longestEstimate, lastTicket}
+use Rattle.scheduler.specs.Jobs.{fresh}
 use Rattle.scheduler.specs.Settings.{horizon, slots, holdTime, until}
+use Rattle.scheduler.specs.Times.{hold-pos, hold-le}
 use Rattle.scheduler.specs.Table.{withJobs, tickets, oneIf}
 use Rattle.scheduler.specs.Model.{Model, view}
 use Rattle.scheduler.specs.Answers.{answer, outcome, refuse, verdict, accepts, refusedOutcome}
 use Rattle.history.specs.Calls.{submit}
 use Rattle.conservative_rules.specs.Conservative.{spans, call, newJob, placed, planned, submitRefusal, submitted}
 use Rattle.lists.specs.Least.{least-to}
-use Rattle.walltime.specs.WallTime.{wallTime}
-use Rattle.walltime.specs.Laws.{wallTime-pos, wallTime-le}
 use Rattle.spans.specs.Spans.{free, lastEnd, fits, earliest}
 use Rattle.spans.specs.UsedNodes.{last-le}
 use Rattle.spans.specs.declared.Span.{Span}
 use Rattle.jobs.specs.Soundness.{Fit, submit-fit}
 use Rattle.jobs.specs.Premise.{Holds, holds-as, refused-held}
-use Rattle.job_table.specs.Parts.{sharedRefusal}
+use Rattle.job_table.specs.Parts.{refusalBy, sharedRefusal}
 use Rattle.job_table.specs.Submitting.{tests-more, withNext, enters}
 use Rattle.conservative_laws.specs.Validity.{Valid}
 use Rattle.conservative_laws.specs.Sentences.{eight-never}
 use Rattle.conservative_plan.specs.PlannedSlots.{Planned, valid-planned}
 use Rattle.conservative_plan.specs.EarliestStart.{startFor, Askable}
 
-abbrev order : Scheduler → ℕ → ℕ → ℕ → Job
-order d n e s = record { ticket = d .next; nodes = n; estimate = e; state = Waiting; start = s; promise = s }
-
-unfoldable pub accepted : Scheduler → ℕ → ℕ → ℕ → ℕ → Outcome
-accepted d n e slot s = record {
+unfoldable pub accepted : Scheduler → Submission → ℕ → ℕ → Outcome
+accepted d o slot s = record {
   answer = record {
     refusal = refusal.None;
     ticket = d .next;
@@ -50,47 +48,47 @@ accepted d n e slot s = record {
     head = 0;
     forecast = 0;
   };
-  scheduler = withNext (withJobs d (set (d .jobs) slot (placed (d .clock) s (order d n e s)))) (d .next + 1);
+  scheduler = withNext (withJobs d (set (d .jobs) slot (placed (d .clock) s (fresh (d .next) o Waiting s s)))) (d .next + 1);
 }
 
 -- ## What the call gives
 
-module _ (m : Model) (n e : ℕ) where
+module _ (m : Model) (o : Submission) where
   past : Bool
-  past = ltb (horizon (m .settings)) (planned m n e + holdTime (m .settings) e)
+  past = ltb (horizon (m .settings)) (planned m o + holdTime (m .settings) (o .estimate))
 
-  refusal-is : submitRefusal m n e (planned m n e) ≡ cond (accepts (sharedRefusal m n e)) (verdict ((past, refusal.PastHorizon) ∷ [])) (sharedRefusal m n e)
+  refusal-is : submitRefusal m o (planned m o) ≡ cond (accepts (sharedRefusal m o)) (verdict ((past, refusal.PastHorizon) ∷ [])) (sharedRefusal m o)
   unfolding past
-  refusal-is = eight-never m n e (planned m n e) ∙ tests-more m n e ((past, refusal.PastHorizon) ∷ [])
+  refusal-is = eight-never m o (planned m o) ∙ tests-more (m .settings) (length (m .jobs)) (m .next) o ((past, refusal.PastHorizon) ∷ [])
 
   -- refused by one of the tests that both kinds share
-  pub submit-checked : accepts (sharedRefusal m n e) ≡ false → call m (submit n e) ≡ refuse m (sharedRefusal m n e)
+  pub submit-checked : accepts (sharedRefusal m o) ≡ false → call m (submit o) ≡ refuse m (sharedRefusal m o)
   unfolding call
   submit-checked a = rw (refusal-is, a) (rw a)
 
-  pub submit-past : accepts (sharedRefusal m n e) ≡ true → horizon (m .settings) < planned m n e + holdTime (m .settings) e
-      → call m (submit n e) ≡ refuse m refusal.PastHorizon
+  pub submit-past : accepts (sharedRefusal m o) ≡ true → horizon (m .settings) < planned m o + holdTime (m .settings) (o .estimate)
+      → call m (submit o) ≡ refuse m refusal.PastHorizon
   unfolding call past verdict
-  submit-past a h = rw (refusal-is, a, lt-ltb (horizon (m .settings)) (planned m n e + holdTime (m .settings) e) h)
+  submit-past a h = rw (refusal-is, a, lt-ltb (horizon (m .settings)) (planned m o + holdTime (m .settings) (o .estimate)) h)
 
-  pub submit-taken : accepts (sharedRefusal m n e) ≡ true → planned m n e + holdTime (m .settings) e ≤ horizon (m .settings)
-      → call m (submit n e) ≡ submitted m n e (planned m n e)
+  pub submit-taken : accepts (sharedRefusal m o) ≡ true → planned m o + holdTime (m .settings) (o .estimate) ≤ horizon (m .settings)
+      → call m (submit o) ≡ submitted m o (planned m o)
   unfolding call past verdict
-  submit-taken a h = rw (refusal-is, a, le-ltb (horizon (m .settings)) (planned m n e + holdTime (m .settings) e) h)
+  submit-taken a h = rw (refusal-is, a, le-ltb (horizon (m .settings)) (planned m o + holdTime (m .settings) (o .estimate)) h)
 
 -- ## What the code computes, on a scheduler that holds a valid model
 
-module _ (d : Scheduler) (n e : ℕ) (h : Holds Valid d) where
+module _ (d : Scheduler) (o : Submission) (h : Holds Valid d) where
   abbrev m : Model
   m = view d
 
-  pub planned-low : planned m n e ≤ horizon (m .settings)
+  pub planned-low : planned m o ≤ horizon (m .settings)
   unfolding planned earliest
   planned-low =
       let xs = spans (m .settings) (m .jobs) in
       omega (
         arith,
-        least-to (fits (free (m .settings .nodes) xs) n (holdTime (m .settings) e)) (lastEnd xs - m .clock) (m .clock),
+        least-to (fits (free (m .settings .nodes) xs) (o .nodes) (holdTime (m .settings) (o .estimate))) (lastEnd xs - m .clock) (m .clock),
         last-le (horizon (m .settings)) xs (ends (m .jobs) (λ j i. h .holds .sound .each j i .ends)),
         h .holds .sound .clock-to,
       )
@@ -100,42 +98,52 @@ module _ (d : Scheduler) (n e : ℕ) (h : Holds Valid d) where
       ends [] f = tt
       ends (j ∷ js) f = (f j (here refl), ends js (λ k i. f k (there i)))
 
-  module _ (a : accepts (sharedRefusal m n e) ≡ true) where
-    pub fit-held : Fit m n e
-    unfolding sharedRefusal
-    fit-held = submit-fit m n e [] a .0
+  pub shared-held : (slot : ℕ) → slot ≡ length (m .jobs) → refusalBy (d .settings) slot (d .next) o ≡ sharedRefusal m o
+  unfolding view
+  shared-held slot q = ap (λ (live : ℕ). refusalBy (d .settings) live (d .next) o) q
 
-    pub room-held : (slot : ℕ) → slot ≡ length (m .jobs) → (slot < slots (m .settings)) × (d .next ≤ lastTicket)
+  module _ (a : accepts (sharedRefusal m o) ≡ true) where
+    pub fit-held : Fit m o
+    unfolding refusalBy
+    fit-held = submit-fit m o [] a .0
+
+    pub room-held : (slot : ℕ) → slot ≡ length (m .jobs)
+        → (slot < slots (m .settings)) × (d .next ≤ lastTicket) × (o .nodes ≤ maxNodes) × (o .estimate ≤ longestEstimate)
     unfolding view
-    room-held slot q = (omega (arith, fit-held .room), fit-held .ticket-left)
+    room-held slot q = (
+      omega (arith, fit-held .room),
+      fit-held .ticket-left,
+      omega (arith, fit-held .nodes-to, h .holds .sound .nodes-to),
+      fit-held .estimate-to,
+    )
 
-    pub askable : Askable d n (wallTime e)
+    pub askable : Askable d (o .nodes) (holdTime (m .settings) (o .estimate))
     askable = record {
       planned = holds-as Valid Planned d valid-planned h;
       nodes-to = fit-held .nodes-to;
       hold-from =
-          wallTime-pos e (fit-held .estimate-from);
-      hold-to = wallTime-le e;
+          hold-pos (m .settings) (o .estimate) (fit-held .estimate-from);
+      hold-to = hold-le (m .settings) (o .estimate);
     }
 
-    pub start-held : startFor m n (wallTime e) ≡ planned m n e
+    pub start-held : startFor m (o .nodes) (holdTime (m .settings) (o .estimate)) ≡ planned m o
     unfolding planned
     start-held = refl
 
-    accepted-held : (slot s : ℕ) → slot ≡ length (m .jobs) → accepted d n e slot s ≡ outcome (submitted m n e s)
+    accepted-held : (slot s : ℕ) → slot ≡ length (m .jobs) → accepted d o slot s ≡ outcome (submitted m o s)
     unfolding accepted submitted view
     accepted-held slot s q = λ i. record {
-      answer = answer (submitted m n e s .reply);
+      answer = answer (submitted m o s .reply);
       scheduler =
-          enters d slot q (h .stored) (fit-held .room) (newJob m n e s) i;
+          enters d slot q (h .stored) (fit-held .room) (newJob m o s) i;
     }
 
-    pub taken-held : (slot : ℕ) → slot ≡ length (m .jobs) → planned m n e + wallTime e ≤ horizon (m .settings)
-        → accepted d n e slot (planned m n e) ≡ outcome (call m (submit n e))
-    taken-held slot q l = accepted-held slot (planned m n e) q ∙ ap outcome (sym (submit-taken m n e a l))
+    pub taken-held : (slot : ℕ) → slot ≡ length (m .jobs) → planned m o + holdTime (m .settings) (o .estimate) ≤ horizon (m .settings)
+        → accepted d o slot (planned m o) ≡ outcome (call m (submit o))
+    taken-held slot q l = accepted-held slot (planned m o) q ∙ ap outcome (sym (submit-taken m o a l))
 
-    pub past-held : horizon (m .settings) < planned m n e + wallTime e → refusedOutcome d refusal.PastHorizon ≡ outcome (call m (submit n e))
-    past-held l = refused-held Valid d refusal.PastHorizon h ∙ ap outcome (sym (submit-past m n e a l))
+    pub past-held : horizon (m .settings) < planned m o + holdTime (m .settings) (o .estimate) → refusedOutcome d refusal.PastHorizon ≡ outcome (call m (submit o))
+    past-held l = refused-held Valid d refusal.PastHorizon h ∙ ap outcome (sym (submit-past m o a l))
 
-  pub tests-held : accepts (sharedRefusal m n e) ≡ false → refusedOutcome d (sharedRefusal m n e) ≡ outcome (call m (submit n e))
-  tests-held a = refused-held Valid d (sharedRefusal m n e) h ∙ ap outcome (sym (submit-checked m n e a))
+  pub tests-held : accepts (sharedRefusal m o) ≡ false → refusedOutcome d (sharedRefusal m o) ≡ outcome (call m (submit o))
+  tests-held a = refused-held Valid d (sharedRefusal m o) h ∙ ap outcome (sym (submit-checked m o a))

@@ -15,12 +15,11 @@ use Rattle.lists.specs.Pads.{pad, pad-push}
 use Rattle.scheduler.specs.declared.Job.{Job}
 use Rattle.scheduler.specs.declared.Refusal.{Refusal}
 use Rattle.scheduler.specs.declared.Scheduler.{Scheduler}
-use Rattle.scheduler.specs.declared.Select.the-variants as select
 use Rattle.scheduler.specs.declared.Outcome.{Outcome}
 use Rattle.scheduler.specs.Limits as limit
 use Rattle.scheduler.specs.Jobs.{unused, isWaiting}
 use Rattle.scheduler.specs.Table.{withJobs, ticketsOf, tickets}
-use Rattle.scheduler.specs.Model.{Model, store, without, withModelJobs}
+use Rattle.scheduler.specs.Model.{Model, ending, store, without, withModelJobs}
 use Rattle.scheduler.specs.Answers.{outcome, refuse, accepts}
 use Rattle.scheduler.specs.Refusals.{tickRefusal}
 use Rattle.job_table.specs.declared.Part.{Part}
@@ -62,17 +61,17 @@ module _ (m : Model) where
   n = suc (m .clock)
 
   abbrev rest : Model
-  rest = without m n (select.EndingAt n)
+  rest = without m n (ending m)
 
   turned-rest : withJobs (store rest) (map (turned (store rest .clock)) (store rest .jobs)) ≡ store (withModelJobs rest (map (turned n) (rest .jobs)))
   unfolding store
   turned-rest = turned-stored n rest
 
-  taken-is : startedBy (part (leaving m n (select.EndingAt n))) ≡ outcome (ticked m)
+  taken-is : startedBy (part (leaving m n (ending m))) ≡ outcome (ticked m)
   unfolding ticked
   taken-is =
-      ap (advancedBy (part (leaving m n (select.EndingAt n)))) turned-rest
-      ∙ advanced-stored m n (select.EndingAt n) (map (turned n) (rest .jobs)) (sym (length-map (rest .jobs) (turned n)))
+      ap (advancedBy (part (leaving m n (ending m)))) turned-rest
+      ∙ advanced-stored m n (ending m) (map (turned n) (rest .jobs)) (sym (length-map (rest .jobs) (turned n)))
 
   module _ (v : Valid m) where
     -- nobody is planned for the minute that is now

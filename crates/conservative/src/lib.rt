@@ -2,7 +2,7 @@
 // profile, are in `conservative_plan`.
 ghost use mathlib.Core.Path.{_≡_};
 ghost use Prim.Native.Nat.{_≤_, _<_};
-ghost use Rattle.scheduler.specs.Limits.{slots, lastTicket};
+ghost use Rattle.scheduler.specs.Limits.{maxNodes, longestEstimate, slots, lastTicket};
 ghost use Rattle.scheduler.specs.Table.{tickets};
 ghost use Rattle.scheduler.specs.Model.{view};
 ghost use Rattle.scheduler.specs.Answers.{outcome};
@@ -96,19 +96,12 @@ pub fn complete(d: Scheduler, ticket: u32) -> Outcome
 
 // The outcome of a submission that is taken into the slot with the planned start: that start is its promise.
 fn accept(d: Scheduler, s: Submission, slot: usize, start: u32) -> Outcome
-    requires { ⌜ (slot < slots) × (d .next ≤ lastTicket) ⌝ }
-    ensures { λ r. ⌜ r ≡ accepted d (s .nodes) (s .estimate) slot start ⌝ }
+    requires { ⌜ (slot < slots) × (d .next ≤ lastTicket) × (s .nodes ≤ maxNodes) × (s .estimate ≤ longestEstimate) ⌝ }
+    ensures { λ r. ⌜ r ≡ accepted d s slot start ⌝ }
 {
     let now = d.clock;
     let ticket = d.next;
-    let order = Job {
-        ticket: ticket,
-        nodes: s.nodes,
-        estimate: s.estimate,
-        state: State::Waiting,
-        start: start,
-        promise: start,
-    };
+    let order = Job::fresh(ticket, s, State::Waiting, start, start);
     let job = conservative_plan::place(order, now, start);
     let mut e = d;
     e.jobs[slot] = job;
@@ -132,12 +125,13 @@ fn accept(d: Scheduler, s: Submission, slot: usize, start: u32) -> Outcome
 
 pub fn submit(d: Scheduler, s: Submission) -> Outcome
     requires { ⌜ Holds Valid d ⌝ }
-    ensures { λ r. ⌜ r ≡ outcome (call (view d) (calls.submit (s .nodes) (s .estimate))) ⌝ }
+    ensures { λ r. ⌜ r ≡ outcome (call (view d) (calls.submit s)) ⌝ }
 {
+    let settings = d.settings;
     let slot = job_table::first_unused(d);
-    let refusal = job_table::submit_refusal(s, d.settings.nodes, slot, d.next);
+    let refusal = job_table::submit_refusal(s, settings, slot, d.next);
     if refusal.is_none() {
-        let hold = walltime::wall_time(s.estimate);
+        let hold = settings.hold_time(s.estimate);
         let start = conservative_plan::earliest(d, s.nodes, hold);
         if Scheduler::HORIZON < start + hold {
             return d.refused(Refusal::PastHorizon);

@@ -12,6 +12,7 @@ use lib.Dec.{eqb}
 use borrow.Author.Tests.{eqb-true, eq-eqb, ne-eqb}
 use Rattle.lists.specs.Tests.{case, true-false}
 use Rattle.lists.specs.Lists.{keep, elem, In, here, there, in-nil, in-cons, in-left, in-right, keep-in, in-keep}
+use Rattle.scheduler.specs.declared.Submission.{Submission}
 use Rattle.scheduler.specs.declared.Kind.the-variants.{Conservative}
 use Rattle.scheduler.specs.declared.State.{State}
 use Rattle.scheduler.specs.declared.State.the-variants.{Unused, Waiting, Running}
@@ -112,10 +113,10 @@ module _ (m : Model) (c : ℕ) (s : Select) (ks : List Job) (v : Valid m) (g : M
 outcome-tells : (m : Model) {c : Call} {r : Result} → Valid m → CameOut m c r → Tells m (newsOf c (r .reply)) (r .model)
 unfolding submitted advanced
 outcome-tells m v (idle c r n) = tells-nothing m (newsOf c (refusing r)) n
-outcome-tells m v (joins n e f l) =
-    let s = planned m n e in
+outcome-tells m v (joins o f l) =
+    let s = planned m o in
     let now = m .clock in
-    tells-stay now (newsOf (submit n e) (submitted m n e s .reply)) (m .jobs) (newJob m n e s ∷ []) refl
+    tells-stay now (newsOf (submit o) (submitted m o s .reply)) (m .jobs) (newJob m o s ∷ []) refl
     (λ j i. not-new s now (j .ticket) (m .next) (v .sound .below j i))
     (case (eqb s now) (λ q. rw (q, eq-eqb (m .next) (m .next) refl, eqb-true s now q)) (λ q. rw q))
 outcome-tells m v (leaves c clock s after l g p q) =
@@ -169,8 +170,8 @@ leaves-keeps m c s ks u b v l g o =
 outcome-keeps : (m : Model) {c : Call} {r : Result} (u b : ℕ) → Valid m → OnCourse m u b → CameOut m c r → StartsBy u b r
 unfolding submitted advanced
 outcome-keeps m u b v o (idle c r n) = inr (refl, o)
-outcome-keeps m u b v o (joins n e f l) = inr (
-  rw (← o .is-u) (not-new (planned m n e) (m .clock) (o .job .ticket) (m .next) (v .sound .below (o .job) (o .inside))),
+outcome-keeps m u b v o (joins w f l) = inr (
+  rw (← o .is-u) (not-new (planned m w) (m .clock) (o .job .ticket) (m .next) (v .sound .below (o .job) (o .inside))),
   record { job = o .job; inside = in-left _ (o .inside); waits = o .waits; is-u = o .is-u; by = o .by },
 )
 outcome-keeps m u b v o (leaves c clock s after l g p q) = leaves-keeps m clock s after u b v l g o
@@ -180,25 +181,25 @@ outcome-joins : (m : Model) {c : Call} {r : Result} (o : Newcomer) → CameOut m
     → (o .ticket ≡ m .next) × StartsBy (o .ticket) (o .promise) r
 unfolding submitted advanced planned
 outcome-joins m o (idle c r n) i = in-nil (subst (λ (e : News). In o (e .came)) n i)
-outcome-joins m o (joins n e f l) i = one (in-cons i)
+outcome-joins m o (joins w f l) i = one (in-cons i)
   where
     now : ℕ
     now = m .clock
 
     s : ℕ
-    s = planned m n e
+    s = planned m w
 
     new : Newcomer
-    new = record { ticket = m .next; nodes = n; promise = s }
+    new = record { ticket = m .next; nodes = w .nodes; promise = s }
 
-    one : (o ≡ new) ⊎ In o [] → (o .ticket ≡ m .next) × StartsBy (o .ticket) (o .promise) (submitted m n e s)
+    one : (o ≡ new) ⊎ In o [] → (o .ticket ≡ m .next) × StartsBy (o .ticket) (o .promise) (submitted m w s)
     one (inr k) = in-nil k
     one (inl q) =
-        subst (λ (x : Newcomer). (x .ticket ≡ m .next) × StartsBy (x .ticket) (x .promise) (submitted m n e s)) (sym q) (
+        subst (λ (x : Newcomer). (x .ticket ≡ m .next) × StartsBy (x .ticket) (x .promise) (submitted m w s)) (sym q) (
           refl,
           case (eqb s now)
               (λ q. inl (rw (q, eq-eqb (m .next) (m .next) refl), omega (arith, eqb-true s now q)))
-              (λ q. inr (rw q, record { job = newJob m n e s; inside = in-right (m .jobs) (here refl); waits = rw q; is-u = refl; by = omega arith })),
+              (λ q. inr (rw q, record { job = newJob m w s; inside = in-right (m .jobs) (here refl); waits = rw q; is-u = refl; by = omega arith })),
         )
 outcome-joins m o (leaves c clock s after l g p q) i = in-nil (subst (In o) q i)
 
@@ -207,19 +208,19 @@ outcome-joins m o (leaves c clock s after l g p q) i = in-nil (subst (In o) q i)
 outcome-settings : (m : Model) {c : Call} {r : Result} → CameOut m c r → r .model .settings ≡ m .settings
 unfolding submitted advanced
 outcome-settings m (idle c r n) = refl
-outcome-settings m (joins n e f l) = refl
+outcome-settings m (joins o f l) = refl
 outcome-settings m (leaves c clock s after l g p q) = refl
 
 outcome-clock : (m : Model) {c : Call} {r : Result} → CameOut m c r → r .model .clock ≡ clockAfter (newsOf c (r .reply)) (m .clock)
 unfolding submitted advanced
 outcome-clock m (idle c r n) = ap (λ (e : News). clockAfter e (m .clock)) (sym n)
-outcome-clock m (joins n e f l) = refl
+outcome-clock m (joins o f l) = refl
 outcome-clock m (leaves c clock s after l g p q) = sym p
 
 outcome-head : (m : Model) {c : Call} {r : Result} → CameOut m c r → r .reply .head ≡ none
 unfolding submitted advanced
 outcome-head m (idle c r n) = refl
-outcome-head m (joins n e f l) = refl
+outcome-head m (joins o f l) = refl
 outcome-head m (leaves c clock s after l g p q) = refl
 
 -- the lowest of some tickets is none above them all

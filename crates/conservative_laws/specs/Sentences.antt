@@ -19,16 +19,17 @@ use Rattle.spans.specs.ProfileLaws.{profile-is, profile-agrees, profile-length}
 use Rattle.scheduler.specs.declared.State.{State}
 use Rattle.scheduler.specs.declared.State.the-variants.{Unused, Waiting, Running}
 use Rattle.scheduler.specs.declared.Job.{Job}
+use Rattle.scheduler.specs.declared.Submission.{Submission}
 use Rattle.scheduler.specs.declared.Refusal.{Refusal}
 use Rattle.scheduler.specs.declared.Refusal.the-variants as refusal
 use Rattle.scheduler.specs.declared.Select.{Select}
 use Rattle.scheduler.specs.declared.Select.the-variants as select
 use Rattle.scheduler.specs.Limits as limit
-use Rattle.scheduler.specs.Jobs.{isWaiting, isRunning, waiting?, running?, live?, picks, runsAs}
+use Rattle.scheduler.specs.Jobs.{fresh, isWaiting, isRunning, isHolding, waiting?, running?, holding?, live?, picks, runsAs}
 use Rattle.scheduler.specs.declared.Settings.{Settings}
 use Rattle.scheduler.specs.Settings.{horizon, holdTime, until}
 use Rattle.scheduler.specs.Table.{ticketsOf, staying}
-use Rattle.scheduler.specs.Model.{Model}
+use Rattle.scheduler.specs.Model.{Model, ending}
 use Rattle.scheduler.specs.Answers.{Result, verdict, accepts, refuse}
 use Rattle.scheduler.specs.Refusals.{judged, submitTests, completeRefusal, tickRefusal}
 use Rattle.jobs.specs.Order.{Asc, asc-keep, asc-one}
@@ -49,7 +50,7 @@ use Rattle.conservative_laws.specs.PassLoop.{loop, pass-as-loop}
 
 -- "those of running stacks whose end is after t"
 abbrev pub runningAfter : Settings → ℕ → Job → ℕ
-runningAfter S t j = on (isRunning j && ltb t (until S j)) (j .nodes)
+runningAfter S t j = on (isHolding j && ltb t (until S j)) (j .nodes)
 
 -- "those of waiting stacks with start ≤ t < start + held"
 abbrev pub waitingOver : Settings → ℕ → Job → ℕ
@@ -69,14 +70,14 @@ used-as-written S now t (j ∷ js) l f = omega (arith, one (f j (here refl)), us
     over : Bool
     over = ltb t (until S j)
 
-    by : (x : State) → live? x ≡ true → (running? x ≡ true → leb (j .start) t ≡ true)
-        → on (leb (j .start) t && over) (j .nodes) ≡ on (running? x && over) (j .nodes) + on (waiting? x && (leb (j .start) t && over)) (j .nodes)
+    by : (x : State) → live? x ≡ true → (holding? x ≡ true → leb (j .start) t ≡ true)
+        → on (leb (j .start) t && over) (j .nodes) ≡ on (holding? x && over) (j .nodes) + on (waiting? x && (leb (j .start) t && over)) (j .nodes)
     by Unused a r = true-false false a refl
     by Waiting a r = omega arith
     by Running a r = rw (r refl) (omega arith)
 
     one : SoundJob S now j → takes t (span S j) ≡ runningAfter S t j + waitingOver S t j
-    one s = by (j .state) (s .is-live) (λ r. le-leb (j .start) t (omega (arith, s .runs r)))
+    one s = by (j .state) (s .is-live) (λ r. le-leb (j .start) t (omega (arith, s .holds r)))
 
 -- the free nodes that the plan goes by are these
 pub free-as-written : (m : Model) (t : ℕ) → Valid m → m .clock ≤ t → free (m .settings .nodes) (spans (m .settings) (m .jobs)) t ≡ freeNodes m t
@@ -85,16 +86,16 @@ free-as-written m t v l = omega (arith, used-as-written (m .settings) (m .clock)
 -- ## Submission
 
 -- "The planned start is the smallest minute, now or later, such that the stack's nodes are free in every minute of its held time."
-pub planned-is : (m : Model) (n e : ℕ) → n ≤ m .settings .nodes
-    → Earliest (free (m .settings .nodes) (spans (m .settings) (m .jobs))) (m .clock) n (holdTime (m .settings) e) (planned m n e)
+pub planned-is : (m : Model) (o : Submission) → o .nodes ≤ m .settings .nodes
+    → Earliest (free (m .settings .nodes) (spans (m .settings) (m .jobs))) (m .clock) (o .nodes) (holdTime (m .settings) (o .estimate)) (planned m o)
 unfolding planned
-planned-is m n e l = earliest-is (m .settings .nodes) (spans (m .settings) (m .jobs)) (m .clock) n (holdTime (m .settings) e) l
+planned-is m o l = earliest-is (m .settings .nodes) (spans (m .settings) (m .jobs)) (m .clock) (o .nodes) (holdTime (m .settings) (o .estimate)) l
 
 -- the same of the free nodes as document 01 writes them
-pub planned-as-written : (m : Model) (n e : ℕ) → Valid m → n ≤ m .settings .nodes
-    → Earliest (freeNodes m) (m .clock) n (holdTime (m .settings) e) (planned m n e)
-planned-as-written m n e v l =
-    let E = planned-is m n e l in
+pub planned-as-written : (m : Model) (o : Submission) → Valid m → o .nodes ≤ m .settings .nodes
+    → Earliest (freeNodes m) (m .clock) (o .nodes) (holdTime (m .settings) (o .estimate)) (planned m o)
+planned-as-written m o v l =
+    let E = planned-is m o l in
     record {
       later = E .later;
       fit = λ t a b. omega (arith, E .fit t a b, free-as-written m t v (omega (arith, E .later)));
@@ -102,30 +103,23 @@ planned-as-written m n e v l =
     }
 
 -- "This start is its promise. If it is now, the stack starts." "Tickets are numbered upward by one from the first."
-pub record Taken (m : Model) (n e s : ℕ) (r : Result) : Type 0 where
+pub record Taken (m : Model) (o : Submission) (s : ℕ) (r : Result) : Type 0 where
   pub ticket-is : r .reply .ticket ≡ m .next
   pub next-is : r .model .next ≡ suc (m .next)
   pub promise-is : r .reply .promise ≡ s
   pub started-is : r .reply .started ≡ cond (eqb s (m .clock)) (r .reply .ticket ∷ []) []
   pub ended-is : r .reply .ended ≡ []
-  pub jobs-are : r .model .jobs ≡ m .jobs ++ (record {
-    ticket = r .reply .ticket;
-    nodes = n;
-    estimate = e;
-    state = cond (eqb s (m .clock)) Running Waiting;
-    start = s;
-    promise = s;
-  } ∷ [])
+  pub jobs-are : r .model .jobs ≡ m .jobs ++ (fresh (r .reply .ticket) o (cond (eqb s (m .clock)) Running Waiting) s s ∷ [])
 
 -- what holds of an outcome holds of the call that is not refused
 judged-taken : (P : Result → Type 0) (m : Model) (r : Refusal) (o : Result) → P o → accepts (judged m r o .reply .refusal) ≡ true → P (judged m r o)
 judged-taken P m r o p = judged-by (λ (x : Result). accepts (x .reply .refusal) ≡ true → P x) m r o (λ e a. p) (λ e a. true-false (accepts r) a e)
 
-pub submit-taken : (m : Model) (n e : ℕ) → accepts (call m (submit n e) .reply .refusal) ≡ true → Taken m n e (planned m n e) (call m (submit n e))
+pub submit-taken : (m : Model) (o : Submission) → accepts (call m (submit o) .reply .refusal) ≡ true → Taken m o (planned m o) (call m (submit o))
 unfolding call submitted
-submit-taken m n e a =
-    let s = planned m n e in
-    judged-taken (Taken m n e s) m (submitRefusal m n e s) (submitted m n e s)
+submit-taken m o a =
+    let s = planned m o in
+    judged-taken (Taken m o s) m (submitRefusal m o s) (submitted m o s)
     (record { ticket-is = refl; next-is = refl; promise-is = refl; started-is = refl; ended-is = refl; jobs-are = refl }) a
 
 -- ## Early end
@@ -246,7 +240,7 @@ tick-taken m a = judged-taken (Ticked m) m (tickRefusal m) (ticked m) (record {
     now = suc (m .clock)
 
     u : Select
-    u = select.EndingAt now
+    u = ending m
 
     all : (js : List Job) → map (turned now) js ≡ map (λ (j : Job). cond (startsAt now j) (withState Running j) j) js
     all [] = refl
@@ -264,7 +258,7 @@ outcome-still : (m : Model) {c : Call} {r : Result} (j : Job) → CameOut m c r 
     → (k : Job) × In k (r .model .jobs) × Still j k
 unfolding submitted advanced
 outcome-still m j (idle c r n) i w = (j, i, record { ticket = refl; start = omega arith; promise = refl })
-outcome-still m j (joins n e f l) i w = (j, in-left _ i, record { ticket = refl; start = omega arith; promise = refl })
+outcome-still m j (joins o f l) i w = (j, in-left _ i, record { ticket = refl; start = omega arith; promise = refl })
 outcome-still m j (leaves c clock s after l g p q) i w =
     let z = zip-left (Follows clock) (staying s (m .jobs)) after (g .follow)
     (in-keep (λ (j : Job). not (picks s j)) i (ap not (waits-stays m clock s l j w))) in
@@ -312,7 +306,7 @@ begun-rises lo (j ∷ js) (k ∷ ks) a =
 outcome-rises : (m : Model) {c : Call} {r : Result} → Valid m → CameOut m c r → Rising 1 (r .reply .ended) × Rising 1 (r .reply .started)
 unfolding submitted advanced
 outcome-rises m v (idle c r n) = (tt, tt)
-outcome-rises m v (joins n e f l) = (tt, case (eqb (planned m n e) (m .clock)) (λ q. rw q (v .sound .next-from, tt)) (λ q. rw q tt))
+outcome-rises m v (joins o f l) = (tt, case (eqb (planned m o) (m .clock)) (λ q. rw q (v .sound .next-from, tt)) (λ q. rw q tt))
 outcome-rises m v (leaves c clock s after l g p q) = (
   tickets-rise 1 (keep (picks s) (m .jobs)) (asc-keep (picks s) 1 (m .jobs) (v .sound .asc)),
   begun-rises 1 (staying s (m .jobs)) after (asc-keep (λ (j : Job). not (picks s j)) 1 (m .jobs) (v .sound .asc)),
@@ -344,8 +338,8 @@ begun-waited t (j ∷ js) (k ∷ ks) e =
 outcome-waited : (m : Model) {c : Call} {r : Result} (t : ℕ) → CameOut m c r → elem t (r .reply .started) ≡ true → Waited m t ⊎ (t ≡ r .reply .ticket)
 unfolding submitted advanced
 outcome-waited m t (idle c r n) e = true-false false e refl
-outcome-waited m t (joins n e f l) x =
-    case (eqb (planned m n e) (m .clock))
+outcome-waited m t (joins o f l) x =
+    case (eqb (planned m o) (m .clock))
     (λ q. case (eqb t (m .next)) (λ y. inr (eqb-true t (m .next) y)) (λ y. true-false false (rw (q, y) at x) refl))
     (λ q. true-false false (rw q at x) refl)
 outcome-waited m t (leaves c clock s after l g p q) e =
@@ -361,9 +355,9 @@ Given m c x = x .model .next ≡ nextAfter (newsOf c (x .reply) .came) (m .next)
 
 pub next-is : (m : Model) (c : Call) → Given m c (call m c)
 unfolding call submitted completed ticked advanced
-next-is m (submit n e) =
-    let s = planned m n e in
-    judged-by (Given m (submit n e)) m (submitRefusal m n e s) (submitted m n e s) (λ a. refl) (λ a. rw a)
+next-is m (submit o) =
+    let s = planned m o in
+    judged-by (Given m (submit o)) m (submitRefusal m o s) (submitted m o s) (λ a. refl) (λ a. rw a)
 next-is m (complete t) = judged-by (Given m (complete t)) m (completeRefusal m t) (completed m t) (λ a. refl) (λ a. rw a)
 next-is m tick = judged-by (Given m tick) m (tickRefusal m) (ticked m) (λ a. refl) (λ a. rw a)
 next-is m (unchanged w) = case (accepts w) (λ a. rw a) (λ a. rw a)
@@ -383,40 +377,40 @@ points-as-written m v = profile-agrees (m .clock) (points m) (λ t h. free-as-wr
 -- "A refusal gives its number, no tickets, and the desk .. unchanged": a refused call is its refusal and nothing else
 pub refused-is : (m : Model) (c : Call) → accepts (call m c .reply .refusal) ≡ false → call m c ≡ refuse m (call m c .reply .refusal)
 unfolding call submitted completed ticked advanced
-refused-is m (submit n e) = let s = planned m n e in judged-refused m (submitRefusal m n e s) (submitted m n e s) refl
+refused-is m (submit o) = let s = planned m o in judged-refused m (submitRefusal m o s) (submitted m o s) refl
 refused-is m (complete t) = judged-refused m (completeRefusal m t) (completed m t) refl
 refused-is m tick = judged-refused m (tickRefusal m) (ticked m) refl
 refused-is m (unchanged w) = λ a. refl
 
 -- 8 is "none known": 64 live jobs make at most 129 points, so the test that comes after "64 stacks live" never refuses
-few-points : (m : Model) (n e s : ℕ) → length (m .jobs) < limit.slots → length (points (withNew m n e s)) ≤ maxPoints
-few-points m n e s l =
+few-points : (m : Model) (o : Submission) (s : ℕ) → length (m .jobs) < limit.slots → length (points (withNew m o s)) ≤ maxPoints
+few-points m o s l =
     omega (
       arith,
-      profile-length (m .settings .nodes) (spans (m .settings) (withNew m n e s .jobs)) (m .clock),
-      length-map (withNew m n e s .jobs) (span (m .settings)),
-      length-append (m .jobs) (newJob m n e s ∷ []),
+      profile-length (m .settings .nodes) (spans (m .settings) (withNew m o s .jobs)) (m .clock),
+      length-map (withNew m o s .jobs) (span (m .settings)),
+      length-append (m .jobs) (newJob m o s ∷ []),
     )
 
-pub eight-never : (m : Model) (n e s : ℕ) → submitRefusal m n e s ≡ verdict
-    (submitTests m n e ((ltb (horizon (m .settings)) (s + holdTime (m .settings) e), refusal.PastHorizon) ∷ []))
+pub eight-never : (m : Model) (o : Submission) (s : ℕ) → submitRefusal m o s ≡ verdict
+    (submitTests m o ((ltb (horizon (m .settings)) (s + holdTime (m .settings) (o .estimate)), refusal.PastHorizon) ∷ []))
 unfolding submitRefusal verdict
-eight-never m n e s =
+eight-never m o s =
     case (leb limit.slots (length (m .jobs)))
     (λ q. rw q)
-    (λ q. rw (q, le-ltb maxPoints (length (points (withNew m n e s))) (few-points m n e s (leb-false limit.slots (length (m .jobs)) q))))
+    (λ q. rw (q, le-ltb maxPoints (length (points (withNew m o s))) (few-points m o s (leb-false limit.slots (length (m .jobs)) q))))
 
 -- Each refusal, with its conditions in document 01's order and no others. 1: "stack nodes 0 or above the rack's"; 2: "estimate ..
 -- outside 1 to 10,080"; 4: "64 stacks live"; 5: "ticket 999,999 has been given"; 6: "start + held above 1,000,000"
-pub submit-refusal : (m : Model) (n e : ℕ) → call m (submit n e) .reply .refusal ≡ verdict
-    ((ltb n 1 || ltb (m .settings .nodes) n, refusal.NodesOutOfRange)
-    ∷ (ltb e 1 || ltb 10080 e, refusal.MinutesOutOfRange)
+pub submit-refusal : (m : Model) (o : Submission) → call m (submit o) .reply .refusal ≡ verdict
+    ((ltb (o .nodes) 1 || ltb (m .settings .nodes) (o .nodes), refusal.NodesOutOfRange)
+    ∷ (ltb (o .estimate) 1 || ltb 10080 (o .estimate), refusal.MinutesOutOfRange)
     ∷ (leb 64 (length (m .jobs)), refusal.Full)
     ∷ (ltb 999999 (m .next), refusal.NoTicketLeft)
-    ∷ (ltb 1000000 (planned m n e + wallTime e), refusal.PastHorizon)
+    ∷ (ltb 1000000 (planned m o + wallTime (o .estimate)), refusal.PastHorizon)
     ∷ [])
-unfolding call submitted
-submit-refusal m n e = let s = planned m n e in judged-refusal m (submitRefusal m n e s) (submitted m n e s) refl ∙ eight-never m n e s
+unfolding call submitted holdTime
+submit-refusal m o = let s = planned m o in judged-refusal m (submitRefusal m o s) (submitted m o s) refl ∙ eight-never m o s
 
 -- 7: "the ended ticket is not running: waiting, over or never given"
 pub complete-refusal : (m : Model) (t : ℕ) → call m (complete t) .reply .refusal ≡ verdict

@@ -4,7 +4,7 @@
 use Prim.Native.Nat.{ℕ, suc, _+_, _≤_, _<_}
 use native.Mathlib.Omega.{arith}
 use mathlib.Core.Path.{_≡_, refl, ap}
-use mathlib.Core.Bool.{true, false, not}
+use mathlib.Core.Bool.{Bool, true, false, not}
 use mathlib.Core.List.{List, [], _∷_, _++_, map, map-append}
 use mathlib.Core.Logic.{_⊎_, inl, inr}
 use lib.Dec.{ltb, eqb}
@@ -12,23 +12,26 @@ use lib.ListN.{length}
 use borrow.Author.Tests.{ltb-false, eqb-true, eqb-false}
 use Rattle.lists.specs.Tests.{case, true-false, le-or}
 use Rattle.lists.specs.Lists.{sum, In, here, there, in-nil, in-cons, in-append, keep-in, sum-append, sum-map, sum-keep, sum-le}
-use Rattle.walltime.specs.Laws.{wallTime-pos}
 use Rattle.spans.specs.declared.Span.{Span}
 use Rattle.spans.specs.Spans.{takes, used, free, earliest, Fits, Earliest}
 use Rattle.spans.specs.UsedNodes.{takes-in, takes-before, takes-after}
 use Rattle.spans.specs.EarliestStart.{earliest-is}
 use Rattle.scheduler.specs.declared.Kind.the-variants.{Conservative}
+use Rattle.scheduler.specs.declared.State.{State}
+use Rattle.scheduler.specs.declared.State.the-variants.{Waiting}
 use Rattle.scheduler.specs.declared.Job.{Job}
+use Rattle.scheduler.specs.declared.Submission.{Submission}
 use Rattle.scheduler.specs.declared.Refusal.{Refusal}
 use Rattle.scheduler.specs.declared.Refusal.the-variants as refusal
 use Rattle.scheduler.specs.declared.Opening.{Opening}
 use Rattle.scheduler.specs.declared.Select.{Select}
 use Rattle.scheduler.specs.declared.Select.the-variants as select
-use Rattle.scheduler.specs.Jobs.{isWaiting, isRunning, waiting?, running?, live?, held, picks}
+use Rattle.scheduler.specs.Jobs.{isWaiting, isRunning, isHolding, waiting?, running?, holding?, live?, held, picks}
 use Rattle.scheduler.specs.declared.Settings.{Settings}
 use Rattle.scheduler.specs.Settings.{refusedSettings, horizon, holdTime, until}
+use Rattle.scheduler.specs.Times.{hold-pos, until-is, until-at, until-still, until-fresh}
 use Rattle.scheduler.specs.Table.{nodesHeld, ticketsOf, staying}
-use Rattle.scheduler.specs.Model.{Model, empty, without}
+use Rattle.scheduler.specs.Model.{Model, ending, empty, without}
 use Rattle.scheduler.specs.Answers.{Result, accepts, refuse, refusing}
 use Rattle.scheduler.specs.Refusals.{completeRefusal, tickRefusal}
 use Rattle.scheduler.specs.Opening.{openingRefusal, opening}
@@ -113,14 +116,14 @@ module _ (S : Settings) (t : ℕ) where
   pub used-staying : (s : Select) (js : List Job) → used t (spans S (staying s js)) ≤ used t (spans S js)
   used-staying s js = omega (arith, used-jobs js, used-jobs (staying s js), sum-keep taken (picks s) js)
 
--- the nodes that run now are taken now
+-- the nodes that are held now are taken now
 pub held-used : (S : Settings) (clock : ℕ) (js : List Job) → ((j : Job) → In j js → SoundJob S clock j) → nodesHeld js ≤ used clock (spans S js)
 held-used S clock js f = omega (arith, used-jobs S clock js, sum-le held (taken S clock) js (λ j i. one j (f j i)))
   where
     one : (j : Job) → SoundJob S clock j → held j ≤ taken S clock j
     one j s =
-        case (isRunning j)
-        (λ r. rw r (omega (arith, takes-in clock (span S j) (s .runs r .0) (s .runs r .1))))
+        case (isHolding j)
+        (λ r. rw r (omega (arith, takes-in clock (span S j) (s .holds r .0) (s .holds r .1))))
         (λ r. rw r (omega arith))
 
 -- a job put where it fits leaves no minute with more than there is
@@ -145,8 +148,9 @@ pub data Follows (now : ℕ) (j : Job) : Job → Type 0 where
 state-live : (now s : ℕ) → live? (stateAt now s) ≡ true
 state-live now s = case (eqb s now) (λ e. rw e) (λ e. rw e)
 
-state-runs : (now s : ℕ) → running? (stateAt now s) ≡ true → s ≡ now
-state-runs now s r = case (eqb s now) (λ e. eqb-true s now e) (λ e. true-false false (rw e at r) refl)
+-- one that does not wait starts now
+state-now : (p : State → Bool) → p Waiting ≡ false → (now s : ℕ) → p (stateAt now s) ≡ true → s ≡ now
+state-now p w now s r = case (eqb s now) (λ e. eqb-true s now e) (λ e. true-false (p Waiting) (rw e at r) w)
 
 state-waits : (now s : ℕ) → now ≤ s → waiting? (stateAt now s) ≡ true → now < s
 state-waits now s l w = case (eqb s now) (λ e. true-false false (rw e at w) refl) (λ e. omega (arith, eqb-false s now e))
@@ -170,7 +174,7 @@ follows-ahead now j k (moves s e a b) w = state-waits now s a w
 -- a job that waits and comes to run has its start now
 pub follows-begins : (now : ℕ) (j k : Job) → Follows now j k → isWaiting j ≡ true → isRunning k ≡ true → k .start ≡ now
 follows-begins now j k (stays e) w r = true-false (isWaiting j) w e
-follows-begins now j k (moves s e a b) w r = state-runs now s r
+follows-begins now j k (moves s e a b) w r = state-now running? refl now s r
 
 follows-sound : (S : Settings) (now : ℕ) (j k : Job) → SoundJob S now j → Follows now j k → SoundJob S now k
 follows-sound S now j k o (stays e) = o
@@ -180,8 +184,8 @@ follows-sound S now j k o (moves s e a b) = record {
   nodes-to = o .nodes-to;
   estimate-from = o .estimate-from;
   estimate-to = o .estimate-to;
-  ends = omega (arith, o .ends);
-  runs = λ r. omega (arith, state-runs now s r, wallTime-pos (j .estimate) (o .estimate-from));
+  ends = omega (arith, o .ends, until-is S j, until-at S (stateAt now s) s j);
+  holds = λ r. omega (arith, state-now holding? refl now s r, until-at S (stateAt now s) s j, hold-pos S (j .estimate) (o .estimate-from));
 }
 
 -- the jobs after a call, beside those that stay
@@ -195,7 +199,7 @@ pub data CameOut (m : Model) : Call → Result → Type 0 where
   -- refused, or a profile: nothing changes
   idle : (c : Call) (r : Refusal) → newsOf c (refusing r) ≡ nothing → CameOut m c (refuse m r)
   -- a submission is taken
-  joins : (n e : ℕ) → Fit m n e → planned m n e + holdTime (m .settings) e ≤ horizon (m .settings) → CameOut m (submit n e) (submitted m n e (planned m n e))
+  joins : (o : Submission) → Fit m o → planned m o + holdTime (m .settings) (o .estimate) ≤ horizon (m .settings) → CameOut m (submit o) (submitted m o (planned m o))
   -- an early end, or a tick: jobs leave, and those that stay come to be `after`
   leaves : (c : Call) (clock : ℕ) (s : Select) (after : List Job) → Leaving m clock s → Moved (m .settings) clock (staying s (m .jobs)) after
       → clockAfter (newsOf c (advanced m clock s after .reply)) (m .clock) ≡ clock → newsOf c (advanced m clock s after .reply) .came ≡ []
@@ -220,13 +224,13 @@ module _ (S : Settings) (now : ℕ) where
 
       -- where it was it fits still
       old : now < j .start → Fits (free (S .nodes) (spans S others)) (j .nodes) h (j .start)
-      old b t p q = omega (arith, f t (omega arith), takes-in t (span S j) p q)
+      old b t p q = omega (arith, f t (omega arith), takes-in t (span S j) p (omega (arith, until-is S j)))
 
       at : isWaiting j ≡ true
           → Follows now j (placed now s j) × ((t : ℕ) → now ≤ t → takes t (span S (placed now s j)) + used t (spans S others) ≤ S .nodes)
       at q = (
         moves s q (E .later) (E .smallest (j .start) (omega (arith, w q)) (old (w q))),
-        room-with (S .nodes) (spans S others) (span S (placed now s j)) now (j .nodes) h s refl refl refl E (λ t a. omega (arith, f t a)),
+        room-with (S .nodes) (spans S others) (span S (placed now s j)) now (j .nodes) h s refl (until-at S (stateAt now s) s j) refl E (λ t a. omega (arith, f t a)),
       )
 
   pass-follows : (done js : List Job) → ((j : Job) → In j js → j .nodes ≤ S .nodes) → ((j : Job) → In j js → isWaiting j ≡ true → now < j .start)
@@ -247,7 +251,7 @@ turned-follows : (now : ℕ) (j : Job) → (isWaiting j ≡ true → now ≤ j .
 turned-follows now j w = case (isWaiting j) (λ q. rw q (moves (j .start) q (w q) (omega arith))) (λ q. rw q (stays q))
 
 turned-takes : (S : Settings) (now t : ℕ) (j : Job) → takes t (span S (turned now j)) ≡ takes t (span S j)
-turned-takes S now t j = case (isWaiting j) (λ q. rw q) (λ q. rw q)
+turned-takes S now t j = case (isWaiting j) (λ q. rw (q, until-still S (stateAt now (j .start)) j)) (λ q. rw q)
 
 module _ (S : Settings) (now : ℕ) where
   turns-follow : (js : List Job) → ((j : Job) → In j js → isWaiting j ≡ true → now ≤ j .start) → Zip (Follows now) js (map (turned now) js)
@@ -262,16 +266,16 @@ module _ (S : Settings) (now : ℕ) where
 
 pub outcome : (m : Model) (c : Call) → Valid m → CameOut m c (call m c)
 unfolding call submitRefusal completeRefusal tickRefusal completed ticked advanced
-outcome m (submit n e) v =
-    let s = planned m n e in
-    judged-by (CameOut m (submit n e)) m (submitRefusal m n e s) (submitted m n e s) (λ a. taken a)
-    (λ a. idle (submit n e) _ (refused-news (submit n e) (submitRefusal m n e s) a))
+outcome m (submit o) v =
+    let s = planned m o in
+    judged-by (CameOut m (submit o)) m (submitRefusal m o s) (submitted m o s) (λ a. taken a)
+    (λ a. idle (submit o) _ (refused-news (submit o) (submitRefusal m o s) a))
   where
-    taken : accepts (submitRefusal m n e (planned m n e)) ≡ true → CameOut m (submit n e) (submitted m n e (planned m n e))
+    taken : accepts (submitRefusal m o (planned m o)) ≡ true → CameOut m (submit o) (submitted m o (planned m o))
     taken a =
-        let f = submit-fit m n e _ a in
-        let b = passed (ltb (horizon (m .settings)) (planned m n e + holdTime (m .settings) e)) refusal.PastHorizon _ refl (f .1) in
-        joins n e (f .0) (ltb-false (horizon (m .settings)) (planned m n e + holdTime (m .settings) e) (b .0))
+        let f = submit-fit m o _ a in
+        let b = passed (ltb (horizon (m .settings)) (planned m o + holdTime (m .settings) (o .estimate))) refusal.PastHorizon _ refl (f .1) in
+        joins o (f .0) (ltb-false (horizon (m .settings)) (planned m o + holdTime (m .settings) (o .estimate)) (b .0))
 outcome m (complete t) v =
     judged-by (CameOut m (complete t)) m (completeRefusal m t) (completed m t) (λ a. taken)
     (λ a. idle (complete t) _ (refused-news (complete t) (completeRefusal m t) a))
@@ -303,7 +307,7 @@ outcome m tick v =
     now = suc (m .clock)
 
     u : Select
-    u = select.EndingAt now
+    u = ending m
 
     js : List Job
     js = staying u (m .jobs)
@@ -340,12 +344,12 @@ opening-valid o k =
     (λ e. rw e (empty-valid (o .settings) (o .minute) (o .ticket) k (rw e at (opening-sound o))))
     (λ e. rw e (empty-valid (refusedSettings (o .settings .kind)) 0 1 k (rw e at (opening-sound o))))
 
-joins-valid : (m : Model) (n e : ℕ) → Valid m → Fit m n e → planned m n e + holdTime (m .settings) e ≤ horizon (m .settings)
-    → Valid (withNew m n e (planned m n e))
+joins-valid : (m : Model) (o : Submission) → Valid m → Fit m o → planned m o + holdTime (m .settings) (o .estimate) ≤ horizon (m .settings)
+    → Valid (withNew m o (planned m o))
 unfolding planned
-joins-valid m n e v f l = record {
+joins-valid m o v f l = record {
   kind = v .kind;
-  sound = sound-join m n e j (v .sound) f one refl
+  sound = sound-join m o j (v .sound) f one refl
       (omega (arith, held-used S now (m .jobs ++ (j ∷ [])) each, sum-append held (m .jobs) (j ∷ []), room now (omega arith)));
   room = room;
   promised = λ k i. by-place (λ (x : Job). x .start ≤ x .promise) (v .promised) (omega arith) k i;
@@ -359,19 +363,22 @@ joins-valid m n e v f l = record {
     now = m .clock
 
     s : ℕ
-    s = planned m n e
+    s = planned m o
 
     j : Job
-    j = newJob m n e s
+    j = newJob m o s
 
-    E : Earliest (free (S .nodes) (spans S (m .jobs))) now n (holdTime S e) s
-    E = earliest-is (S .nodes) (spans S (m .jobs)) now n (holdTime S e) (f .nodes-to)
+    until-new : until S j ≡ s + holdTime S (o .estimate)
+    until-new = until-fresh S (m .next) o (stateAt now s) s s
+
+    E : Earliest (free (S .nodes) (spans S (m .jobs))) now (o .nodes) (holdTime S (o .estimate)) s
+    E = earliest-is (S .nodes) (spans S (m .jobs)) now (o .nodes) (holdTime S (o .estimate)) (f .nodes-to)
 
     room : (t : ℕ) → now ≤ t → used t (spans S (m .jobs ++ (j ∷ []))) ≤ S .nodes
     room t a = omega (
       arith,
       used-append S t (m .jobs) (j ∷ []),
-      room-with (S .nodes) (spans S (m .jobs)) (span S j) now n (holdTime S e) s refl refl refl E (v .room) t a,
+      room-with (S .nodes) (spans S (m .jobs)) (span S j) now (o .nodes) (holdTime S (o .estimate)) s refl until-new refl E (v .room) t a,
     )
 
     one : SoundJob S now j
@@ -381,8 +388,8 @@ joins-valid m n e v f l = record {
       nodes-to = f .nodes-to;
       estimate-from = f .estimate-from;
       estimate-to = f .estimate-to;
-      ends = l;
-      runs = λ r. omega (arith, state-runs now s r, wallTime-pos e (f .estimate-from));
+      ends = omega (arith, l, until-new);
+      holds = λ r. omega (arith, state-now holding? refl now s r, until-new, hold-pos S (o .estimate) (f .estimate-from));
     }
 
     by-place : (P : Job → Type 0) → ((k : Job) → In k (m .jobs) → P k) → P j → (k : Job) → In k (m .jobs ++ (j ∷ [])) → P k
@@ -442,7 +449,7 @@ leaves-valid m c s ks v l g = record {
 outcome-valid : (m : Model) {c : Call} {r : Result} → Valid m → CameOut m c r → Valid (r .model)
 unfolding submitted advanced
 outcome-valid m v (idle c r n) = v
-outcome-valid m v (joins n e f l) = joins-valid m n e v f l
+outcome-valid m v (joins o f l) = joins-valid m o v f l
 outcome-valid m v (leaves c clock s after l g p q) = leaves-valid m clock s after v l g
 
 pub call-valid : (m : Model) (c : Call) → Valid m → Valid (call m c .model)

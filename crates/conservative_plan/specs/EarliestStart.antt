@@ -8,7 +8,7 @@ use lib.ListN.{getD}
 use Rattle.spans.specs.Spans.{free, lastEnd, earliest}
 use Rattle.spans.specs.UsedNodes.{used-last}
 use Rattle.scheduler.specs.declared.Scheduler.{Scheduler}
-use Rattle.scheduler.specs.Limits.{longest}
+use Rattle.scheduler.specs.Limits.{longestHold}
 use Rattle.scheduler.specs.Model.{Model, view}
 use Rattle.jobs.specs.Premise.{Holds}
 use Rattle.conservative_table.specs.Search.{Seeks, Found}
@@ -23,7 +23,7 @@ pub record Askable (d : Scheduler) (n h : ℕ) : Type 0 where
   pub planned : Holds Planned d
   pub nodes-to : n ≤ view d .settings .nodes
   pub hold-from : 1 ≤ h
-  pub hold-to : h ≤ longest
+  pub hold-to : h ≤ longestHold
 
 module _ {d : Scheduler} {n h : ℕ} (a : Askable d n h) {k : ℕ} {ms fs : List ℕ} (t : Tabulated d k ms fs) where
   -- from the last place on all nodes are free

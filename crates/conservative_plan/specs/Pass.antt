@@ -13,13 +13,13 @@ use Rattle.lists.specs.Tests.{true-false}
 use Rattle.lists.specs.Lists.{All, In, all-of, all-in, all-at}
 use Rattle.lists.specs.Pads.{pad, all-pad}
 use Rattle.spans.specs.Spans.{used, free}
-use Rattle.walltime.specs.WallTime.{wallTime}
-use Rattle.walltime.specs.Laws.{wallTime-pos}
 use Rattle.scheduler.specs.declared.Job.{Job}
 use Rattle.scheduler.specs.declared.Scheduler.{Scheduler}
 use Rattle.scheduler.specs.Limits.{slots}
 use Rattle.scheduler.specs.Jobs.{unused, isWaiting}
 use Rattle.scheduler.specs.declared.Settings.{Settings}
+use Rattle.scheduler.specs.Settings.{holdTime}
+use Rattle.scheduler.specs.Times.{hold-pos}
 use Rattle.scheduler.specs.Table.{withJobs}
 use Rattle.scheduler.specs.Model.{Model, store, view, withModelJobs}
 use Rattle.jobs.specs.Premise.{Holds}
@@ -39,7 +39,7 @@ pub record Replannable (m : Model) : Type 0 where
 pub record SlotJob (S : Settings) (now : ℕ) (j : Job) : Type 0 where
   pub nodes-to : j .nodes ≤ S .nodes
   pub ahead : isWaiting j ≡ true → now < j .start
-  pub hold-from : isWaiting j ≡ true → 1 ≤ wallTime (j .estimate)
+  pub hold-from : isWaiting j ≡ true → 1 ≤ holdTime S (j .estimate)
 
 slot-jobs : (m : Model) → Replannable m → All (SlotJob (m .settings) (m .clock)) (store m .jobs)
 unfolding store
@@ -51,7 +51,7 @@ slot-jobs m r = all-pad slots unused (SlotJob (m .settings) (m .clock)) (m .jobs
     one : (j : Job) → In j (m .jobs) → SlotJob (m .settings) (m .clock) j
     one j i =
         let s = r .planned .sound .each j i in
-        record { nodes-to = s .nodes-to; ahead = λ e. r .ahead j i e; hold-from = λ e. wallTime-pos (j .estimate) (s .estimate-from) }
+        record { nodes-to = s .nodes-to; ahead = λ e. r .ahead j i e; hold-from = λ e. hold-pos (m .settings) (j .estimate) (s .estimate-from) }
 
 -- the slots from which a pass begins
 pub record Before (S : Settings) (now : ℕ) (js : List Job) : Type 0 where
@@ -98,7 +98,7 @@ module _ {S : Settings} {now : ℕ} {js₀ js : List Job} {i n : ℕ} {ms fs : L
   split = split-at js i unused in₀ ∙ rw (← add-one i)
 
   -- the turn of a waiting job
-  pub replans : isWaiting j ≡ true → Replans ms fs n j now
+  replans : isWaiting j ≡ true → Replans ms fs n j now
   replans w =
       let s = subst (SlotJob S now) here-is (all-at (SlotJob S now) js₀ i unused (b .each) (omega (arith, b .fits .all))) in
       record {
@@ -114,8 +114,13 @@ module _ {S : Settings} {now : ℕ} {js₀ js : List Job} {i n : ℕ} {ms fs : L
         hold-from = s .hold-from w;
       }
 
-  pub hold-is : {hs : List ℕ} → HoldsTo js₀ slots hs → isWaiting j ≡ true → getD hs i 0 ≡ wallTime (j .estimate)
-  hold-is h w = h .are i l (waiting-live (getD js₀ i unused) (ap isWaiting here-is ∙ w)) ∙ ap (λ (k : Job). wallTime (k .estimate)) here-is
+  hold-is : {hs : List ℕ} → HoldsTo S js₀ slots hs → isWaiting j ≡ true → getD hs i 0 ≡ holdTime S (j .estimate)
+  hold-is h w = h .are i l (waiting-live (getD js₀ i unused) (ap isWaiting here-is ∙ w)) ∙ ap (λ (k : Job). holdTime S (k .estimate)) here-is
+
+  pub turn-asked : {hs : List ℕ} → HoldsTo S js₀ slots hs → isWaiting j ≡ true
+      → (q : Replans ms fs n j now) × (getD hs i 0 ≡ holdTime (q .settings) (j .estimate))
+  unfolding replans
+  turn-asked h w = (replans w, hold-is h w)
 
   more : slots - i ≡ suc (slots - (i + 1))
   more = omega arith
@@ -132,20 +137,22 @@ module _ {S : Settings} {now : ℕ} {js₀ js : List Job} {i n : ℕ} {ms fs : L
   unfolding loop
   loop-turn = rw more at (v .rest)
 
-  pub turn-taken : (w : isWaiting j ≡ true) (r : Replanned) {ms′ fs′ : List ℕ} → ((q : Replans ms fs n j now) → TurnDone q r ms′ fs′)
+  pub turn-taken : {hs : List ℕ} → HoldsTo S js₀ slots hs → (w : isWaiting j ≡ true) (r : Replanned) {ms′ fs′ : List ℕ}
+      → ((q : Replans ms fs n j now) → getD hs i 0 ≡ holdTime (q .settings) (j .estimate) → TurnDone q r ms′ fs′)
       → Passing S now js₀ (set js i (r .job)) (i + 1) (r .count) ms′ fs′
   unfolding replans
-  turn-taken w r {ms′} {fs′} f =
+  turn-taken h w r {ms′} {fs′} f =
       let q = replans w in
-      let job-is : r .job ≡ movedTo q = f q .job-is in
+      let done = f q (hold-is h w) in
+      let job-is : r .job ≡ movedTo q = done .job-is in
       let set-is : set js i (r .job) ≡ take i js ++ movedTo q ∷ drop (i + 1) js = ap (set js i) job-is ∙ set-split js i (movedTo q) in₀ ∙ rw (← add-one i) in
       record {
         low = omega arith;
         fits = subst (Slots S now) (sym set-is) (fits-after q);
         same = same-next (r .job);
         rest = ap (λ (k : Job). loop S now unused (slots - (i + 1)) (i + 1) (set js i k)) job-is ∙ loop-turn;
-        table = subst (λ (ks : List Job). Table (free (S .nodes) (spans S ks)) now (r .count) ms′ fs′) (sym set-is) (f q .table);
-        most = omega (arith, f q .most, v .most);
+        table = subst (λ (ks : List Job). Table (free (S .nodes) (spans S ks)) now (r .count) ms′ fs′) (sym set-is) (done .table);
+        most = omega (arith, done .most, v .most);
       }
 
   pub turn-passed : isWaiting j ≡ false → Passing S now js₀ js (i + 1) n ms fs

@@ -16,7 +16,6 @@ use Rattle.spans.specs.declared.Span.{Span}
 use Rattle.spans.specs.Spans.{takes, used, free, profile}
 use Rattle.spans.specs.UsedNodes.{takes-le, free-less}
 use Rattle.spans.specs.ProfileLaws.{profile-same, profile-length}
-use Rattle.walltime.specs.WallTime.{wallTime}
 use Rattle.scheduler.specs.declared.Job.{Job}
 use Rattle.scheduler.specs.declared.Scheduler.{Scheduler}
 use Rattle.scheduler.specs.Limits.{maxNodes, slots}
@@ -24,7 +23,8 @@ use Rattle.scheduler.specs.declared.State.{State}
 use Rattle.scheduler.specs.declared.State.the-variants.{Unused, Waiting, Running}
 use Rattle.scheduler.specs.Jobs.{unused, isLive, isWaiting, live?, waiting?}
 use Rattle.scheduler.specs.declared.Settings.{Settings}
-use Rattle.scheduler.specs.Settings.{horizon, until}
+use Rattle.scheduler.specs.Settings.{horizon, holdTime, until}
+use Rattle.scheduler.specs.Times.{hold-le, until-is, until-from}
 use Rattle.scheduler.specs.Model.{Model, store, view}
 use Rattle.jobs.specs.Soundness.{Sound}
 use Rattle.jobs.specs.Premise.{Holds}
@@ -38,6 +38,9 @@ use Rattle.conservative_laws.specs.Validity.{Valid}
 
 abbrev pub spanAt : ℕ → ℕ → ℕ → Span
 spanAt nodes from hold = record { from = from; until = from + hold; nodes = nodes }
+
+pub span-at : (S : Settings) (j : Job) → span S j ≡ spanAt (j .nodes) (j .start) (holdTime S (j .estimate))
+span-at S j = rw (until-is S j)
 
 -- a model whose jobs fit the machine in every minute from now on
 pub record Planned (m : Model) : Type 0 where
@@ -72,8 +75,8 @@ planned-slots m p = record {
   nodes-to = p .sound .nodes-to;
   clock-to = p .sound .clock-to;
   all = length-pad slots unused (m .jobs) (p .sound .few);
-  ends = all-pad slots unused (λ (j : Job). until (m .settings) j ≤ horizon (m .settings)) (m .jobs) (omega arith)
-      (all-of _ (m .jobs) (λ j i. p .sound .each j i .ends));
+  ends = all-pad slots unused (λ (j : Job). until (m .settings) j ≤ horizon (m .settings)) (m .jobs)
+      (omega (arith, until-is (m .settings) unused, hold-le (m .settings) 0)) (all-of _ (m .jobs) (λ j i. p .sound .each j i .ends));
   idle = all-pad slots unused (λ (j : Job). isLive j ≡ false → j .nodes ≡ 0) (m .jobs) (λ e. refl)
       (all-of _ (m .jobs) (λ j i e. true-false (isLive j) (p .sound .each j i .is-live) e));
   room = λ t l. omega (arith, used-slots (m .settings) t (m .jobs), p .room t l);
@@ -85,7 +88,8 @@ held-slots d h = subst (λ (e : Scheduler). Slots (view d .settings) (d .clock) 
 
 -- every start is a minute of the clock
 pub start-low : {S : Settings} {now : ℕ} {js : List Job} → Slots S now js → (i : ℕ) → i < slots → getD js i unused .start ≤ horizon S
-start-low {S} {js = js} s i h = omega (arith, all-at (λ (k : Job). until S k ≤ horizon S) js i unused (s .ends) (omega (arith, s .all)))
+start-low {S} {js = js} s i h =
+    omega (arith, all-at (λ (k : Job). until S k ≤ horizon S) js i unused (s .ends) (omega (arith, s .all)), until-from S (getD js i unused))
 
 -- ## The profile of the slots
 
@@ -147,33 +151,33 @@ module _ {S : Settings} {now : ℕ} {js : List Job} (s : Slots S now js) {i : �
       let none : j .nodes ≡ 0 = all-at (λ (k : Job). isLive k ≡ false → k .nodes ≡ 0) js i unused (s .idle) in₀ e in
       record { table = table-same (λ t l. omega (arith, used-more t, takes-le t (span S j))) (v .table); most = omega (arith, v .most) }
 
--- the wall times of the live jobs in the slots before i
-pub record HoldsTo (js : List Job) (i : ℕ) (hs : List ℕ) : Type 0 where
+-- the hold times of the live jobs in the slots before i
+pub record HoldsTo (S : Settings) (js : List Job) (i : ℕ) (hs : List ℕ) : Type 0 where
   pub long : length hs ≡ slots
-  pub are : (n : ℕ) → n < i → isLive (getD js n unused) ≡ true → getD hs n 0 ≡ wallTime (getD js n unused .estimate)
+  pub are : (n : ℕ) → n < i → isLive (getD js n unused) ≡ true → getD hs n 0 ≡ holdTime S (getD js n unused .estimate)
 
-pub holds-none : (js : List Job) (hs : List ℕ) → length hs ≡ slots → HoldsTo js 0 hs
-holds-none js hs e = record { long = e; are = λ n l. absurd (omega arith) }
+pub holds-none : (S : Settings) (js : List Job) (hs : List ℕ) → length hs ≡ slots → HoldsTo S js 0 hs
+holds-none S js hs e = record { long = e; are = λ n l. absurd (omega arith) }
 
-module _ {js : List Job} {i : ℕ} {hs : List ℕ} (h : HoldsTo js i hs) where
+module _ {S : Settings} {js : List Job} {i : ℕ} {hs : List ℕ} (h : HoldsTo S js i hs) where
   -- one slot more, live or unused
-  pub holds-more : i < slots → HoldsTo js (i + 1) (set hs i (wallTime (getD js i unused .estimate)))
+  pub holds-more : i < slots → HoldsTo S js (i + 1) (set hs i (holdTime S (getD js i unused .estimate)))
   holds-more l = record { long = length-set hs i w ∙ h .long; are = λ n a e. go n a e (le-or i n) }
     where
       w : ℕ
-      w = wallTime (getD js i unused .estimate)
+      w = holdTime S (getD js i unused .estimate)
 
-      go : (n : ℕ) → n < i + 1 → isLive (getD js n unused) ≡ true → (i ≤ n) ⊎ (n < i) → getD (set hs i w) n 0 ≡ wallTime (getD js n unused .estimate)
+      go : (n : ℕ) → n < i + 1 → isLive (getD js n unused) ≡ true → (i ≤ n) ⊎ (n < i) → getD (set hs i w) n 0 ≡ holdTime S (getD js n unused .estimate)
       go n a e (inl b) =
           let q : n ≡ i = omega arith in
           ap (λ (k : ℕ). getD (set hs i w) k 0) q ∙ getD-set-same hs i w 0 (omega (arith, h .long))
-          ∙ ap (λ (k : ℕ). wallTime (getD js k unused .estimate)) (sym q)
+          ∙ ap (λ (k : ℕ). holdTime S (getD js k unused .estimate)) (sym q)
       go n a e (inr b) = getD-set-other hs i n w 0 (λ q. omega arith) ∙ h .are n b e
 
-  pub holds-skip : isLive (getD js i unused) ≡ false → HoldsTo js (i + 1) hs
+  pub holds-skip : isLive (getD js i unused) ≡ false → HoldsTo S js (i + 1) hs
   holds-skip e = record { long = h .long; are = λ n a q. go n a q (le-or i n) }
     where
-      go : (n : ℕ) → n < i + 1 → isLive (getD js n unused) ≡ true → (i ≤ n) ⊎ (n < i) → getD hs n 0 ≡ wallTime (getD js n unused .estimate)
+      go : (n : ℕ) → n < i + 1 → isLive (getD js n unused) ≡ true → (i ≤ n) ⊎ (n < i) → getD hs n 0 ≡ holdTime S (getD js n unused .estimate)
       go n a q (inl b) =
           let same : n ≡ i = omega arith in
           true-false (isLive (getD js n unused)) q (ap (λ (k : ℕ). isLive (getD js k unused)) same ∙ e)

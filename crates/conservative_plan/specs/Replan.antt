@@ -12,21 +12,20 @@ use Rattle.lists.specs.Tests.{case, true-false}
 use Rattle.lists.specs.Lists.{All, here, all-in, in-right}
 use Rattle.spans.specs.Spans.{takes, used, free, earliest}
 use Rattle.spans.specs.UsedNodes.{used-among, takes-before, takes-in, free-less, free-more}
-use Rattle.walltime.specs.WallTime.{wallTime}
-use Rattle.walltime.specs.Laws.{wallTime-le}
 use Rattle.scheduler.specs.declared.Job.{Job}
 use Rattle.scheduler.specs.Jobs.{isWaiting, isLive}
 use Rattle.scheduler.specs.declared.Settings.{Settings}
-use Rattle.scheduler.specs.Settings.{horizon, until}
+use Rattle.scheduler.specs.Settings.{horizon, holdTime, until}
+use Rattle.scheduler.specs.Times.{hold-le, until-is, until-at, until-from}
 use Rattle.conservative_table.specs.declared.Row.{Row}
 use Rattle.conservative_table.specs.ListChanges.{rows}
 use Rattle.conservative_table.specs.Table.{Table, Ascends, Split}
 use Rattle.conservative_table.specs.LaidSpans.{LaysAt, Shifts, Shifted}
 use Rattle.conservative_table.specs.Search.{Seeks, Found}
-use Rattle.conservative_rules.specs.Conservative.{span, spans, placed, moved}
+use Rattle.conservative_rules.specs.Conservative.{span, spans, stateAt, placed, moved}
 use Rattle.conservative_laws.specs.Validity.{Follows, follows-start, moved-follows}
 use Rattle.conservative_plan.specs.declared.Replanned.{Replanned}
-use Rattle.conservative_plan.specs.PlannedSlots.{spanAt, Slots}
+use Rattle.conservative_plan.specs.PlannedSlots.{spanAt, span-at, Slots}
 use Rattle.conservative_laws.specs.TickedJob.{turned-other}
 
 -- the lists are a table of the slots xs, j and ys, and j waits
@@ -40,15 +39,15 @@ pub record Replans (ms fs : List ℕ) (n : ℕ) (j : Job) (now : ℕ) : Type 0 w
   pub waits : isWaiting j ≡ true
   pub ahead : now < j .start
   pub nodes-to : j .nodes ≤ settings .nodes
-  pub hold-from : 1 ≤ wallTime (j .estimate)
+  pub hold-from : 1 ≤ holdTime settings (j .estimate)
 
 -- another element in the place of one
 all-instead : {A : Type 0} (P : A → Type 0) (xs : List A) (x y : A) (ys : List A) → All P (xs ++ x ∷ ys) → P y → All P (xs ++ y ∷ ys)
 all-instead P [] x y ys a h = (h, a .1)
 all-instead P (z ∷ xs) x y ys a h = (a .0, all-instead P xs x y ys (a .1) h)
 
-placed-span : (S : Settings) (now s : ℕ) (j : Job) → span S (placed now s j) ≡ spanAt (j .nodes) s (wallTime (j .estimate))
-placed-span S now s j = refl
+placed-span : (S : Settings) (now s : ℕ) (j : Job) → span S (placed now s j) ≡ spanAt (j .nodes) s (holdTime S (j .estimate))
+placed-span S now s j = rw (until-at S (stateAt now s) s j)
 
 module _ {ms fs : List ℕ} {n : ℕ} {j : Job} {now : ℕ} (q : Replans ms fs n j now) where
   abbrev S : Settings
@@ -90,11 +89,11 @@ module _ {ms fs : List ℕ} {n : ℕ} {j : Job} {now : ℕ} (q : Replans ms fs n
   end-of = all-in (λ (k : Job). until S k ≤ horizon S) (q .fits .ends) (in-right (q .xs) (here refl))
 
   pub start-of : j .start ≤ horizon S
-  start-of = omega (arith, end-of)
+  start-of = omega (arith, end-of, until-from S j)
 
   -- where it is put in again
   abbrev pub startAt : ℕ
-  startAt = earliest (S .nodes) (spans S others) now (j .nodes) (wallTime (j .estimate))
+  startAt = earliest (S .nodes) (spans S others) now (j .nodes) (holdTime S (j .estimate))
 
   -- its start gets a place
   pub ascends : Ascends ms 1 n (j .start)
@@ -110,7 +109,7 @@ module _ {ms fs : List ℕ} {n : ℕ} {j : Job} {now : ℕ} (q : Replans ms fs n
     pub own-table : Table (with j) now (r .count) ms₁ fs₁
     own-table = s .same (with j) now (q .table) start-of
 
-    pub seeks : Seeks ms₁ fs₁ (r .at) (j .nodes) (wallTime (j .estimate))
+    pub seeks : Seeks ms₁ fs₁ (r .at) (j .nodes) (holdTime S (j .estimate))
     seeks = record {
       nodes = S .nodes;
       before = spans S (q .xs ++ j ∷ q .ys);
@@ -123,8 +122,8 @@ module _ {ms fs : List ℕ} {n : ℕ} {j : Job} {now : ℕ} (q : Replans ms fs n
       enough = q .nodes-to;
       some = q .hold-from;
       early = λ t l b. omega (arith, among t j, takes-before t (span S j) (omega (arith, s .minute)));
-      late = λ t l b. omega (arith, room t (omega (arith, q .ahead, s .minute)), takes-in t (span S j) (omega (arith, s .minute)) (omega (arith, s .minute)));
-      hold-to = wallTime-le (j .estimate);
+      late = λ t l b. omega (arith, room t (omega (arith, q .ahead, s .minute)), takes-in t (span S j) (omega (arith, s .minute)) (omega (arith, s .minute, until-is S j)));
+      hold-to = hold-le S (j .estimate);
     }
 
   pub moved-is : movedTo ≡ placed now startAt j
@@ -144,11 +143,14 @@ module _ {ms fs : List ℕ} {n : ℕ} {j : Job} {now : ℕ} (q : Replans ms fs n
   pub moved-low : startAt ≤ horizon S
   moved-low = omega (arith, start-low, start-of, ap (λ (k : Job). k .start) moved-is)
 
-  same-hold : movedTo .estimate ≡ j .estimate
-  same-hold = ap (λ (k : Job). k .estimate) moved-is
+  moved-until : until S movedTo ≡ startAt + holdTime S (j .estimate)
+  moved-until = ap (until S) moved-is ∙ until-at S (stateAt now startAt) startAt j
+
+  moved-start : movedTo .start ≡ startAt
+  moved-start = ap (λ (k : Job). k .start) moved-is
 
   end-after : until S movedTo ≤ horizon S
-  end-after = omega (arith, start-low, end-of, ap wallTime same-hold)
+  end-after = omega (arith, start-low, end-of, moved-until, moved-start, until-is S j)
 
   -- taken out, from the place of its start
   pub take-out : {r : Row} {ms₁ fs₁ : List ℕ} → Split ms fs n (j .start) r ms₁ fs₁ → LaysAt ms₁ fs₁ r (span S j) true
@@ -162,11 +164,11 @@ module _ {ms fs : List ℕ} {n : ℕ} {j : Job} {now : ℕ} (q : Replans ms fs n
     until = end-of;
     inside = s .inside;
     begins = omega (arith, s .minute, q .ahead);
-    some = omega (arith, s .minute, q .hold-from);
+    some = omega (arith, s .minute, q .hold-from, until-is S j);
     fits = omega (arith, q .room-left, s .most);
   }
 
-  pub moved-span : span S movedTo ≡ spanAt (j .nodes) startAt (wallTime (j .estimate))
+  pub moved-span : span S movedTo ≡ spanAt (j .nodes) startAt (holdTime S (j .estimate))
   moved-span = ap (span S) moved-is ∙ placed-span S now startAt j
 
   -- after the turn: the job at its place, and the table with it there
@@ -195,11 +197,11 @@ pub record Moves (ms₁ fs₁ : List ℕ) (r : Row) (k : ℕ) (j : Job) (hold no
   pub fs : List ℕ
   pub n : ℕ
   pub replans : Replans ms fs n j now
-  pub hold-is : hold ≡ wallTime (j .estimate)
+  pub hold-is : hold ≡ holdTime (replans .settings) (j .estimate)
   pub split : Split ms fs n (j .start) r ms₁ fs₁
   pub place : Found (seeks replans split) k
 
-module _ {ms fs : List ℕ} {n : ℕ} {j : Job} {hold now : ℕ} (q : Replans ms fs n j now) (w : hold ≡ wallTime (j .estimate))
+module _ {ms fs : List ℕ} {n : ℕ} {j : Job} {hold now : ℕ} (q : Replans ms fs n j now) (w : hold ≡ holdTime (q .settings) (j .estimate))
     {r : Row} {ms₁ fs₁ : List ℕ} (s : Split ms fs n (j .start) r ms₁ fs₁) where
   pub seeks-hold : Seeks ms₁ fs₁ (r .at) (j .nodes) hold
   seeks-hold = rw w (seeks q s)
@@ -245,7 +247,7 @@ module _ {ms₁ fs₁ : List ℕ} {r : Row} {k : ℕ} {j : Job} {hold now : ℕ}
     until = end-after q;
     earlier = m .place .inside;
     begins = start-is ∙ sym (ap (λ (i : Job). i .start) (moved-is q));
-    some = omega (arith, q .hold-from, ap wallTime (same-hold q));
+    some = omega (arith, q .hold-from, moved-until q, moved-start q);
     fits = omega (arith, m .split .most, q .room-left);
   }
 
@@ -253,11 +255,11 @@ module _ {ms₁ fs₁ : List ℕ} {r : Row} {k : ℕ} {j : Job} {hold now : ℕ}
   Shift = Shifts ms₁ fs₁ r (spanAt (j .nodes) (j .start) hold) k (spanAt (j .nodes) (getD ms₁ k 0) hold)
 
   pub shifts : Shift
-  shifts = rw (m .hold-is, start-is, ← moved-span q) from-own
+  shifts = rw (m .hold-is, start-is, ← moved-span q, ← span-at (q .settings) j) from-own
 
   pub turned-moves : {n₂ : ℕ} {ms₂ fs₂ : List ℕ} → ((l : Shift) → Shifted l n₂ ms₂ fs₂)
       → TurnDone q (record { job = placed now (getD ms₁ k 0) j; count = n₂ }) ms₂ fs₂
   unfolding from-own take-out
   turned-moves g =
-      let u = (rw (m .hold-is, start-is, ← moved-span q) at g) from-own in
+      let u = (rw (m .hold-is, start-is, ← moved-span q, ← span-at (q .settings) j) at g) from-own in
       record { job-is = ap (λ (i : ℕ). placed now i j) start-is ∙ sym (moved-is q); table = u .table; most = omega (arith, u .most, m .split .most) }

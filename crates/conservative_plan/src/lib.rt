@@ -4,8 +4,8 @@ ghost use mathlib.Core.Path.{_≡_};
 ghost use mathlib.Core.List.{[]};
 ghost use Prim.Native.Nat.{_≤_};
 ghost use lib.ListN.{length};
-ghost use Rattle.walltime.specs.WallTime.{wallTime};
-ghost use Rattle.scheduler.specs.Limits.{horizon, longest, slots};
+ghost use Rattle.scheduler.specs.Limits.{horizon, longestHold, slots};
+ghost use Rattle.scheduler.specs.Settings.{holdTime};
 ghost use Rattle.scheduler.specs.Table.{withJobs};
 ghost use Rattle.scheduler.specs.Model.{view};
 ghost use Rattle.jobs.specs.Premise.{Holds};
@@ -23,7 +23,7 @@ use scheduler::State;
 
 // `nodes` nodes, from the minute `from` on, for `hold` minutes.
 fn span(nodes: u32, from: u32, hold: u32) -> spans::Span
-    requires { ⌜ (from ≤ horizon) × (hold ≤ longest) ⌝ }
+    requires { ⌜ (from ≤ horizon) × (hold ≤ longestHold) ⌝ }
     ensures { λ r. ⌜ r ≡ spanAt nodes from hold ⌝ }
 {
     spans::Span {
@@ -33,7 +33,7 @@ fn span(nodes: u32, from: u32, hold: u32) -> spans::Span
     }
 }
 
-// The free nodes from now on, as a table: each live job's span is laid over the idle machine's. Their wall times are kept for later.
+// The free nodes from now on, as a table: each live job's span is laid over the idle machine's. Their hold times are kept for later.
 fn tabulate(
     d: Scheduler,
     minutes: &mut [u32; 385],
@@ -41,21 +41,22 @@ fn tabulate(
     holds: &mut [u32; 64],
 ) -> usize
     requires { ⌜ Holds Planned d × (length (now minutes) ≡ rows) × (length (now free) ≡ rows) × (length (now holds) ≡ slots) ⌝ }
-    ensures { λ r. ⌜ Tabulated d r (now (minutes .exit)) (now (free .exit)) × HoldsTo (d .jobs) slots (now (holds .exit)) ⌝ }
+    ensures { λ r. ⌜ Tabulated d r (now (minutes .exit)) (now (free .exit)) × HoldsTo (view d .settings) (d .jobs) slots (now (holds .exit)) ⌝ }
 {
-    conservative_table::idle(minutes, free, d.settings.nodes, d.clock);
+    let settings = d.settings;
+    conservative_table::idle(minutes, free, settings.nodes, d.clock);
     let mut count: usize = 1;
     let mut i: usize = 0;
     while i < Scheduler::LIVE {
         let j = d.jobs[i];
         if j.is_live() {
-            let hold = walltime::wall_time(j.estimate);
+            let hold = settings.hold_time(j.estimate as u32);
             holds[i] = hold;
             count = conservative_table::lay(
                 minutes,
                 free,
                 count,
-                span(j.nodes, j.start, hold),
+                span(j.nodes as u32, j.start, hold),
                 false,
             );
         }
@@ -94,23 +95,9 @@ pub fn place(job: Job, now: u32, s: u32) -> Job
     ensures { λ r. ⌜ r ≡ placed now s job ⌝ }
 {
     if s == now {
-        return Job {
-            ticket: job.ticket,
-            nodes: job.nodes,
-            estimate: job.estimate,
-            state: State::Running,
-            start: s,
-            promise: job.promise,
-        };
+        return job.at(State::Running, s);
     }
-    Job {
-        ticket: job.ticket,
-        nodes: job.nodes,
-        estimate: job.estimate,
-        state: State::Waiting,
-        start: s,
-        promise: job.promise,
-    }
+    job.at(State::Waiting, s)
 }
 
 // A job at its place, and how many places the table with it there has.
@@ -134,8 +121,9 @@ fn move_to(
         ⌜ ((m : Moves (now (minutes .entry)) (now (free .entry)) own at job hold clock) → TurnDone (m .replans) r (now (minutes .exit)) (now (free .exit))) ⌝ }
 {
     let start = minutes[at];
-    let before = span(job.nodes, job.start, hold);
-    let after = span(job.nodes, start, hold);
+    let nodes = job.nodes as u32;
+    let before = span(nodes, job.start, hold);
+    let after = span(nodes, start, hold);
     let count = conservative_table::shift(minutes, free, own, before, at, after);
     Replanned {
         job: place(job, clock, start),
@@ -152,11 +140,13 @@ fn replan(
     free: &mut [u32; 385],
     count: usize,
 ) -> Replanned
-    requires { ⌜ Replans (now minutes) (now free) count job clock × (hold ≡ wallTime (job .estimate)) ⌝ }
-    ensures { λ r. ⌜ ((q : Replans (now (minutes .entry)) (now (free .entry)) count job clock) → TurnDone q r (now (minutes .exit)) (now (free .exit))) ⌝ }
+    requires { ⌜ ((q : Replans (now minutes) (now free) count job clock) × (hold ≡ holdTime (q .settings) (job .estimate))) ⌝ }
+    ensures { λ r.
+        ⌜ ((q : Replans (now (minutes .entry)) (now (free .entry)) count job clock) → hold ≡ holdTime (q .settings) (job .estimate)
+        → TurnDone q r (now (minutes .exit)) (now (free .exit))) ⌝ }
 {
     let own = conservative_table::split(minutes, free, 1, count, job.start);
-    let at = conservative_table::search(minutes, free, own.at, job.nodes, hold);
+    let at = conservative_table::search(minutes, free, own.at, job.nodes as u32, hold);
     if at == own.at {
         return Replanned {
             job: job,

@@ -16,9 +16,10 @@ use Rattle.scheduler.specs.declared.Settings.{Settings}
 use Rattle.scheduler.specs.Table.{ticketsOf, staying}
 use Rattle.scheduler.specs.Model.{Model}
 use Rattle.scheduler.specs.Answers.{Reply, verdict}
+use Rattle.scheduler.specs.Settings as times
 use Rattle.scheduler.specs.Refusals as refusals
 use Rattle.scheduler.specs.Opening.{openingRefusal, opening}
-use Rattle.history.specs.Calls.{submit, complete, tick, after}
+use Rattle.history.specs.Calls.{submit, order, complete, tick, after}
 use Rattle.conservative_rules.specs.Conservative.{planned, points, submitRefusal, submitted, advanced, moved, pass, completed, ticked, call}
 
 abbrev pub startOf : Job → ℕ
@@ -34,7 +35,7 @@ fresh minute = opening (record { settings = record { kind = Conservative; nodes 
 -- Document 001, figure 2: two jobs run, one until 5, one until 15. The first queued job needs both nodes and is promised 15, the second
 -- needs one and is promised 5.
 abbrev pub figure2 : Model
-figure2 = after call (fresh 0) (submit 1 5 ∷ submit 1 15 ∷ submit 2 5 ∷ submit 1 10 ∷ [])
+figure2 = after call (fresh 0) (submit (order 1 5) ∷ submit (order 1 15) ∷ submit (order 2 5) ∷ submit (order 1 10) ∷ [])
 
 -- For comparison only: the whole queue replanned. All waiting jobs are taken out of the plan and put in again, one after another in
 -- ticket order; those that have not had their turn are not in it.
@@ -47,7 +48,7 @@ replanned m t = replan (m .settings) (m .clock) [] (staying (select.RunningTicke
 
 -- the answer to the first job of such a machine, submitted at that minute
 abbrev alone : ℕ → ℕ → ℕ → Refusal
-alone minute n e = call (fresh minute) (submit n e) .reply .refusal
+alone minute n e = call (fresh minute) (submit (order n e)) .reply .refusal
 
 abbrev fifth-tick : Reply
 fifth-tick = call (after call figure2 (replicate 4 tick)) tick .reply
@@ -75,6 +76,8 @@ unfolding
     opening
     openingRefusal
     verdict
+    times.holdTime
+    times.until
     refusals.completeRefusal
     refusals.tickRefusal
     spans.takes

@@ -13,15 +13,16 @@ use Rattle.spans.specs.Spans.{earliest, profile}
 use Rattle.scheduler.specs.declared.State.{State}
 use Rattle.scheduler.specs.declared.State.the-variants.{Waiting, Running}
 use Rattle.scheduler.specs.declared.Job.{Job}
+use Rattle.scheduler.specs.declared.Submission.{Submission}
 use Rattle.scheduler.specs.declared.Refusal.{Refusal}
 use Rattle.scheduler.specs.declared.Refusal.the-variants as refusal
 use Rattle.scheduler.specs.declared.Select.{Select}
 use Rattle.scheduler.specs.declared.Select.the-variants as select
-use Rattle.scheduler.specs.Jobs.{isWaiting, isRunning, picks}
+use Rattle.scheduler.specs.Jobs.{isWaiting, isRunning, fresh, jobAt, picks}
 use Rattle.scheduler.specs.declared.Settings.{Settings}
 use Rattle.scheduler.specs.Settings.{horizon, holdTime, until}
 use Rattle.scheduler.specs.Table.{ticketsOf, staying}
-use Rattle.scheduler.specs.Model.{Model, joined}
+use Rattle.scheduler.specs.Model.{Model, ending, joined}
 use Rattle.scheduler.specs.Answers.{Result, verdict, refuse}
 use Rattle.scheduler.specs.Refusals.{judged, submitTests, completeRefusal, tickRefusal}
 use Rattle.history.specs.Calls.{Rules, submit, complete, tick, unchanged}
@@ -36,19 +37,19 @@ spans S js = map (span S) js
 -- ## Submission (document 01: "Intake")
 
 -- "The planned start is the smallest minute, now or later, such that the stack's nodes are free in every minute of its held time."
-unfoldable pub planned : Model → ℕ → ℕ → ℕ
-planned m n e = earliest (m .settings .nodes) (spans (m .settings) (m .jobs)) (m .clock) n (holdTime (m .settings) e)
+unfoldable pub planned : Model → Submission → ℕ
+planned m o = earliest (m .settings .nodes) (spans (m .settings) (m .jobs)) (m .clock) (o .nodes) (holdTime (m .settings) (o .estimate))
 
 -- "If it is now, the stack starts."
 abbrev pub stateAt : ℕ → ℕ → State
 stateAt now s = cond (eqb s now) Running Waiting
 
 -- "This start is its promise and never changes."
-abbrev pub newJob : Model → ℕ → ℕ → ℕ → Job
-newJob m n e s = record { ticket = m .next; nodes = n; estimate = e; state = stateAt (m .clock) s; start = s; promise = s }
+abbrev pub newJob : Model → Submission → ℕ → Job
+newJob m o s = fresh (m .next) o (stateAt (m .clock) s) s s
 
-abbrev pub withNew : Model → ℕ → ℕ → ℕ → Model
-withNew m n e s = joined m (newJob m n e s)
+abbrev pub withNew : Model → Submission → ℕ → Model
+withNew m o s = joined m (newJob m o s)
 
 abbrev pub points : Model → List Point
 points m = profile (m .settings .nodes) (spans (m .settings) (m .jobs)) (m .clock)
@@ -58,16 +59,16 @@ abbrev pub maxPoints : ℕ
 maxPoints = 129
 
 -- "intake 1, 2, 4, 5, 6, 8", where s is the planned start
-unfoldable pub submitRefusal : Model → ℕ → ℕ → ℕ → Refusal
-submitRefusal m n e s =
+unfoldable pub submitRefusal : Model → Submission → ℕ → Refusal
+submitRefusal m o s =
     verdict
-    (submitTests m n e
-    ((ltb (horizon (m .settings)) (s + holdTime (m .settings) e), refusal.PastHorizon)
-    ∷ (ltb maxPoints (length (points (withNew m n e s))), refusal.ProfileTooLong)
+    (submitTests m o
+    ((ltb (horizon (m .settings)) (s + holdTime (m .settings) (o .estimate)), refusal.PastHorizon)
+    ∷ (ltb maxPoints (length (points (withNew m o s))), refusal.ProfileTooLong)
     ∷ []))
 
-unfoldable pub submitted : Model → ℕ → ℕ → ℕ → Result
-submitted m n e s = record {
+unfoldable pub submitted : Model → Submission → ℕ → Result
+submitted m o s = record {
   reply = record {
     refusal = refusal.None;
     ticket = m .next;
@@ -76,21 +77,14 @@ submitted m n e s = record {
     started = cond (eqb s (m .clock)) (m .next ∷ []) [];
     head = none;
   };
-  model = withNew m n e s;
+  model = withNew m o s;
 }
 
 -- ## What an early end and a tick share
 
 -- a job with the planned start s; it starts if that is now
 abbrev pub placed : ℕ → ℕ → Job → Job
-placed now s j = record {
-  ticket = j .ticket;
-  nodes = j .nodes;
-  estimate = j .estimate;
-  state = stateAt now s;
-  start = s;
-  promise = j .promise;
-}
+placed now s j = jobAt (stateAt now s) s j
 
 -- the tickets that wait before and run after
 abbrev pub begun : List Job → List Job → List ℕ
@@ -139,8 +133,8 @@ turned now j = cond (isWaiting j) (placed now (j .start) j) j
 -- "The clock rises by one, stacks whose end is now leave"
 unfoldable pub ticked : Model → Result
 ticked m =
-    advanced m (suc (m .clock)) (select.EndingAt (suc (m .clock)))
-    (map (turned (suc (m .clock))) (staying (select.EndingAt (suc (m .clock))) (m .jobs)))
+    advanced m (suc (m .clock)) (ending m)
+    (map (turned (suc (m .clock))) (staying (ending m) (m .jobs)))
 
 -- ## Profile
 
@@ -151,7 +145,7 @@ profileRefusal m room = verdict ((ltb room (length (points m)), refusal.TooShort
 -- ## All calls
 
 unfoldable pub call : Rules
-call m (submit n e) = let s = planned m n e in judged m (submitRefusal m n e s) (submitted m n e s)
+call m (submit o) = let s = planned m o in judged m (submitRefusal m o s) (submitted m o s)
 call m (complete t) = judged m (completeRefusal m t) (completed m t)
 call m tick = judged m (tickRefusal m) (ticked m)
 call m (unchanged r) = refuse m r

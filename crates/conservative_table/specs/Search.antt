@@ -11,7 +11,7 @@ use Rattle.lists.specs.Tests.{le-or}
 use Rattle.spans.specs.declared.Span.{Span}
 use Rattle.spans.specs.Spans.{free, earliest, Fits}
 use Rattle.spans.specs.EarliestStart.{earliest-is, earliest-unique}
-use Rattle.scheduler.specs.Limits.{horizon, longest}
+use Rattle.scheduler.specs.Limits.{horizon, longestHold}
 use Rattle.conservative_table.specs.ListChanges.{rows}
 use Rattle.conservative_table.specs.Table.{Table, table-rise}
 
@@ -29,7 +29,7 @@ pub record Seeks (ms fs : List ℕ) (at n h : ℕ) : Type 0 where
   pub some : 1 ≤ h
   pub early : (t : ℕ) → now ≤ t → t < getD ms at 0 → free nodes others t ≡ free nodes before t
   pub late : (t : ℕ) → getD ms at 0 ≤ t → t < getD ms at 0 + h → n ≤ free nodes others t
-  pub hold-to : h ≤ longest
+  pub hold-to : h ≤ longestHold
 
 abbrev pub found : {ms fs : List ℕ} {at n h : ℕ} → Seeks ms fs at n h → ℕ
 found {n = n} {h = h} s = earliest (s .nodes) (s .others) (s .now) n h

@@ -13,58 +13,68 @@ use Rattle.scheduler.specs.declared.Job.{Job}
 use Rattle.scheduler.specs.declared.Refusal.{Refusal}
 use Rattle.scheduler.specs.declared.Refusal.the-variants as refusal
 use Rattle.scheduler.specs.declared.Scheduler.{Scheduler}
+use Rattle.scheduler.specs.declared.Settings.{Settings}
 use Rattle.scheduler.specs.declared.Submission.{Submission}
-use Rattle.walltime.specs.Laws.{wallTime-le}
 use Rattle.scheduler.specs.Limits.{horizon}
 use Rattle.scheduler.specs.Jobs.{isWaiting}
+use Rattle.scheduler.specs.Times.{hold-le, units-le}
 use Rattle.scheduler.specs.Table.{withJobs}
 use Rattle.scheduler.specs.Model.{Model, view}
 use Rattle.scheduler.specs.Answers.{verdict, accepts, noTickets}
 use Rattle.jobs.specs.Judgement.{accepts-none}
 use Rattle.jobs.specs.Soundness.{Fit, submit-fit}
 use Rattle.jobs.specs.Premise.{Holds}
-use Rattle.easy_rules.specs.Easy.{newJob, submitRefusal}
+use Rattle.easy_rules.specs.Easy.{newJob, rank, submitRefusal}
 use Rattle.easy_laws.specs.Validity.{Valid, latestEnd}
 use Rattle.job_table.specs.declared.Part.{Part}
-use Rattle.job_table.specs.Parts.{sharedRefusal, pastHorizon, part}
-use Rattle.job_table.specs.Submitting.{tests-more, withNext, known, enters}
+use Rattle.job_table.specs.Parts.{refusalBy, pastHorizon, part}
+use Rattle.job_table.specs.Submitting.{tests-more, withNext, enters}
 use Rattle.scheduler.specs.declared.Request.the-variants as request
-use Rattle.easy.specs.Parts.{Known, own}
+use Rattle.easy.specs.Parts.{own, lateRefusal}
 
 -- the four tests that both kinds share, and then the last minute
-module _ (m : Model) (n e : ℕ) where
+module _ (S : Settings) (live next latest : ℕ) (o : Submission) where
   abbrev late : List (Bool × Refusal)
-  late = (ltb horizon (latestEnd m e), refusal.PastHorizon) ∷ []
+  late = (ltb horizon latest, refusal.PastHorizon) ∷ []
 
-  pub judged-late : accepts (sharedRefusal m n e) ≡ true → submitRefusal m n e ≡ pastHorizon (latestEnd m e)
-  unfolding submitRefusal verdict
-  judged-late a = tests-more m n e late ∙ rw a
+  pub judged-late : accepts (refusalBy S live next o) ≡ true → lateRefusal S live next latest o ≡ pastHorizon latest
+  unfolding lateRefusal verdict
+  judged-late a = tests-more S live next o late ∙ rw a
 
-  pub judged-before : accepts (sharedRefusal m n e) ≡ false → submitRefusal m n e ≡ sharedRefusal m n e
-  unfolding submitRefusal
-  judged-before a = tests-more m n e late ∙ rw a
+  pub judged-before : accepts (refusalBy S live next o) ≡ false → lateRefusal S live next latest o ≡ refusalBy S live next o
+  unfolding lateRefusal
+  judged-before a = tests-more S live next o late ∙ rw a
 
 module _ (d : Scheduler) (s : Submission) (h : Holds Valid d) where
   abbrev m : Model
   m = view d
 
   abbrev job : Job
-  job = newJob (d .next) (s .nodes) (s .estimate)
+  job = newJob (d .next) s
 
   -- early on, the last of a full queue ends in time
   early-latest : d .clock ≤ 334720 → latestEnd m (s .estimate) ≤ horizon
   unfolding view
-  early-latest l = omega (arith, length-keep-le isWaiting (m .jobs), h .holds .ready .sound .few, wallTime-le (s .estimate))
+  early-latest l = omega (
+    arith,
+    units-le (m .settings) (rank m) 65 (omega (arith, length-keep-le isWaiting (m .jobs), h .holds .ready .sound .few)),
+    hold-le (m .settings) (s .estimate),
+  )
 
-  pub known-early : (low : ℕ) → low ≡ length (m .jobs) → d .clock ≤ 334720 → Known m (s .estimate) (d .settings .nodes) low (d .next) 0
-  unfolding view
-  known-early low e l = record { table = known d low e; latest-is = sym (le-ltb horizon (latestEnd m (s .estimate)) (early-latest l)) }
+  judged-by : (low latest : ℕ) → low ≡ length (m .jobs) → ltb horizon latest ≡ ltb horizon (latestEnd m (s .estimate))
+      → lateRefusal (d .settings) low (d .next) latest s ≡ submitRefusal m s
+  unfolding lateRefusal submitRefusal view
+  judged-by low latest e l = rw (e, l)
 
-  pub known-late : (low latest : ℕ) → low ≡ length (m .jobs) → latest ≡ latestEnd m (s .estimate) → Known m (s .estimate) (d .settings .nodes) low (d .next) latest
-  unfolding view
-  known-late low latest e l = record { table = known d low e; latest-is = ap (ltb horizon) l }
+  -- the latest end counts only where it is past the last minute
+  pub judged-early : (low : ℕ) → low ≡ length (m .jobs) → d .clock ≤ 334720 → lateRefusal (d .settings) low (d .next) 0 s ≡ submitRefusal m s
+  judged-early low e l = judged-by low 0 e (sym (le-ltb horizon (latestEnd m (s .estimate)) (early-latest l)))
 
-  module _ (why : Refusal) (w : why ≡ submitRefusal m (s .nodes) (s .estimate)) where
+  pub judged-latest : (low latest : ℕ) → low ≡ length (m .jobs) → latest ≡ latestEnd m (s .estimate)
+      → lateRefusal (d .settings) low (d .next) latest s ≡ submitRefusal m s
+  judged-latest low latest e l = judged-by low latest e (ap (ltb horizon) l)
+
+  module _ (why : Refusal) (w : why ≡ submitRefusal m s) where
     pub turned-away : accepts why ≡ false → record { refusal = why; ticket = 0; ended = noTickets; scheduler = d } ≡ part (own m (request.Submit s))
     turned-away k = rw (← w, k) (ap with-scheduler (h .stored))
       where
@@ -72,9 +82,9 @@ module _ (d : Scheduler) (s : Submission) (h : Holds Valid d) where
         with-scheduler x = record { refusal = why; ticket = 0; ended = noTickets; scheduler = x }
 
     module _ (k : accepts why ≡ true) where
-      pub fits : Fit m (s .nodes) (s .estimate)
+      pub fits : Fit m s
       unfolding submitRefusal
-      fits = submit-fit m (s .nodes) (s .estimate) ((ltb horizon (latestEnd m (s .estimate)), refusal.PastHorizon) ∷ []) (rw w at k) .0
+      fits = submit-fit m s ((ltb horizon (latestEnd m (s .estimate)), refusal.PastHorizon) ∷ []) (rw w at k) .0
 
       pub admitted : (low : ℕ) → low ≡ length (m .jobs)
           → record { refusal = why; ticket = d .next; ended = noTickets; scheduler = withNext (withJobs d (set (d .jobs) low job)) (d .next + 1) } ≡

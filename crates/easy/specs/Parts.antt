@@ -1,23 +1,25 @@
 -- A call is its own part and then a settling: what each part gives.
 -- Assumes nothing.
 use Prim.Native.Nat.{ℕ}
-use mathlib.Core.Path.{_≡_}
-use mathlib.Core.List.{[]}
+use mathlib.Core.List.{[], _∷_}
 use lib.Dec.{ltb}
+use Rattle.scheduler.specs.declared.Settings.{Settings}
+use Rattle.scheduler.specs.declared.Submission.{Submission}
+use Rattle.scheduler.specs.declared.Refusal.{Refusal}
+use Rattle.scheduler.specs.declared.Refusal.the-variants as refusal
 use Rattle.scheduler.specs.declared.Request.{Request}
 use Rattle.scheduler.specs.declared.Request.the-variants as request
-use Rattle.scheduler.specs.Limits.{horizon}
+use Rattle.scheduler.specs.Settings.{horizon}
 use Rattle.scheduler.specs.Model.{Model, joined}
-use Rattle.scheduler.specs.Answers.{Result}
+use Rattle.scheduler.specs.Answers.{Result, verdict}
+use Rattle.scheduler.specs.Refusals.{testsBy}
 use Rattle.easy_rules.specs.Easy.{newJob, submitRefusal, finished}
-use Rattle.easy_laws.specs.Validity.{latestEnd}
 use Rattle.job_table.specs.Parts.{Own, taken, judgedOwn, completing, ticking}
-use Rattle.job_table.specs.Parts as parts
 
 -- ## The own part
 
 abbrev pub own : Model → Request → Own
-own m (request.Submit s) = judgedOwn m (submitRefusal m (s .nodes) (s .estimate)) (taken (m .next) [] (joined m (newJob (m .next) (s .nodes) (s .estimate))))
+own m (request.Submit s) = judgedOwn m (submitRefusal m s) (taken (m .next) [] (joined m (newJob (m .next) s)))
 own m (request.Complete t) = completing m t
 own m request.Tick = ticking m
 
@@ -41,7 +43,6 @@ answering b o =
 
 -- ## Refusals by numbers
 
--- what a submission is judged by; the latest end counts only where it is past the last minute
-pub record Known (m : Model) (estimate nodes live next latest : ℕ) : Type 0 where
-  pub table : parts.Known m nodes live next
-  pub latest-is : ltb horizon latest ≡ ltb horizon (latestEnd m estimate)
+-- of a submission, by the latest minute at which the job can end
+unfoldable pub lateRefusal : Settings → (live next latest : ℕ) → Submission → Refusal
+lateRefusal S live next latest o = verdict (testsBy S live next o ((ltb (horizon S) latest, refusal.PastHorizon) ∷ []))

@@ -13,10 +13,13 @@ use Rattle.lists.specs.Tests.{case, on}
 use Rattle.lists.specs.Lists.{In, keep, sum, in-append, in-cons, in-nil, keep-in, keep-all, sum-append, length-keep-le}
 use Rattle.lists.specs.Loops.{keep-take-yes, keep-take-no}
 use Rattle.lists.specs.Pads.{pad, keep-pad, sum-pad, pad-push, pad-set}
+use Rattle.scheduler.specs.declared.Settings.{Settings}
 use Rattle.scheduler.specs.declared.Job.{Job}
+use Rattle.scheduler.specs.Settings.{until}
+use Rattle.scheduler.specs.Times.{until-from}
 use Rattle.scheduler.specs.declared.Scheduler.{Scheduler}
 use Rattle.scheduler.specs.Limits.{slots}
-use Rattle.scheduler.specs.Jobs.{unused, isWaiting, isRunning, held}
+use Rattle.scheduler.specs.Jobs.{unused, isWaiting, isHolding, held}
 use Rattle.scheduler.specs.Table.{ticketOf, nodesHeld}
 use Rattle.scheduler.specs.Model.{store, view}
 use Rattle.scheduler.specs.TableLaws.{nodesHeld-stored}
@@ -27,7 +30,7 @@ use Rattle.jobs.specs.Slots.{slots-are}
 use Rattle.easy_rules.specs.Easy.{queue, free}
 use Rattle.easy_laws.specs.Settling.{idle}
 use Rattle.easy_laws.specs.Validity.{Ready}
-use Rattle.easy_engine.specs.Survey.{Column, Blank, nodesOf, startOf, estimateOf, endOf, asks, running, WaitingColumns, Surveyed}
+use Rattle.easy_engine.specs.Survey.{Column, Blank, nodesOf, startOf, estimateOf, asks, running, WaitingColumns, Surveyed}
 use Rattle.easy_engine.specs.Survey.{SlotColumn, Passed, StartsInTime}
 use Rattle.easy_engine.specs.Columns.{column-push}
 
@@ -66,7 +69,7 @@ module _ {d : Scheduler} {r w spare : ℕ} {heldₗ starts terms asked estimates
   pub few-so-far : (r < slots) × (w < slots)
   few-so-far =
       let t = length-take-le i xs (omega arith) in
-      omega (arith, v .running-is, v .waiting-is, length-keep-le isRunning (take i xs), length-keep-le isWaiting (take i xs))
+      omega (arith, v .running-is, v .waiting-is, length-keep-le isHolding (take i xs), length-keep-le isWaiting (take i xs))
 
   -- it waits
   module _ (e : isWaiting x ≡ true) where
@@ -74,7 +77,7 @@ module _ {d : Scheduler} {r w spare : ℕ} {heldₗ starts terms asked estimates
         (set tickets w (x .ticket)) (set places w i)
     waits-next =
         let q : queue (take (i + 1) xs) ≡ queue (take i xs) ++ (x ∷ []) = keep-take-yes unused isWaiting xs i inside e in
-        let k : running (take (i + 1) xs) ≡ running (take i xs) = keep-take-no unused isRunning xs i inside (idle x e) in
+        let k : running (take (i + 1) xs) ≡ running (take i xs) = keep-take-no unused isHolding xs i inside (idle x e) in
         let z : held x ≡ 0 = rw (idle x e) in
         let w′ = few-so-far .1 in
         record {
@@ -112,7 +115,7 @@ module _ {d : Scheduler} {r w spare : ℕ} {heldₗ starts terms asked estimates
             }
 
   -- it runs
-  module _ (h : Holds Sound d) (e : isRunning x ≡ true) (f : isWaiting x ≡ false) where
+  module _ (h : Holds Sound d) (e : isHolding x ≡ true) (f : isWaiting x ≡ false) where
     pub room-for : x .nodes ≤ spare
     unfolding view
     room-for =
@@ -123,7 +126,7 @@ module _ {d : Scheduler} {r w spare : ℕ} {heldₗ starts terms asked estimates
     pub runs-next : Passed d (take (i + 1) xs) (r + 1) w (spare - x .nodes) (set heldₗ r (x .nodes)) (set starts r (x .start))
         (set terms r (x .estimate)) asked estimates tickets places
     runs-next =
-        let k : running (take (i + 1) xs) ≡ running (take i xs) ++ (x ∷ []) = keep-take-yes unused isRunning xs i inside e in
+        let k : running (take (i + 1) xs) ≡ running (take i xs) ++ (x ∷ []) = keep-take-yes unused isHolding xs i inside e in
         let q : queue (take (i + 1) xs) ≡ queue (take i xs) = keep-take-no unused isWaiting xs i inside f in
         let z : held x ≡ x .nodes = rw e in
         let r′ = few-so-far .0 in
@@ -169,7 +172,7 @@ module _ (d : Scheduler) (h : Holds Sound d) (i : ℕ) (b : i ≤ 64) where
       (v : Passed d (take i (d .jobs)) r w spare heldₗ starts terms asked estimates tickets places) where
     pub passed-all : Passed d L r w spare heldₗ starts terms asked estimates tickets places
     passed-all =
-        let k : running (take i (d .jobs)) ≡ running L = ap running (front a) ∙ keep-pad i unused isRunning L refl in
+        let k : running (take i (d .jobs)) ≡ running L = ap running (front a) ∙ keep-pad i unused isHolding L refl in
         let q : queue (take i (d .jobs)) ≡ queue L = ap queue (front a) ∙ keep-pad i unused isWaiting L refl in
         let n : nodesHeld (take i (d .jobs)) ≡ nodesHeld L = ap nodesHeld (front a) ∙ sum-pad i unused held L refl in
         record {
@@ -202,8 +205,8 @@ module _ (d : Scheduler) (h : Holds Ready d) {r w spare : ℕ} {heldₗ starts t
     starts-are = v .starts-are;
     terms-are = v .terms-are;
     count-is = v .running-is;
-    few = omega (arith, v .running-is, length-keep-le isRunning js, h .holds .sound .few);
-    ends = λ j i. omega (arith, h .holds .sound .each j (keep-in isRunning js i .0) .ends);
+    few = omega (arith, v .running-is, length-keep-le isHolding js, h .holds .sound .few);
+    ends = λ j i. omega (arith, h .holds .sound .each j (keep-in isHolding js i .0) .ends, until-from (view d .settings) j);
   }
 
   pub spare-free : spare ≡ free (view d)
@@ -224,17 +227,23 @@ module _ (d : Scheduler) (h : Holds Ready d) {r w spare : ℕ} {heldₗ starts t
   unfolding view
   clock-of = refl
 
-  abbrev pub surveyed : (clock : ℕ) → clock ≡ d .clock → (ends : List ℕ) → Column endOf (running js) ends → Surveyed heldₗ ends r asked estimates w clock spare
-  surveyed clock e ends c = record {
+  pub settings-of : d .settings ≡ view d .settings
+  unfolding view
+  settings-of = refl
+
+  abbrev pub surveyed : (clock : ℕ) → clock ≡ d .clock → (S : Settings) → S ≡ d .settings → (ends : List ℕ) → Column (until S) (running js) ends
+      → Surveyed heldₗ ends r asked estimates w clock spare S
+  surveyed clock e S z ends c = record {
     model = view d;
     ready = h .holds;
+    settings-is = z ∙ settings-of;
     clock-is = e ∙ clock-of;
     jobs = running js;
     holding = record {
       sound = h .holds .sound;
-      runs = record { each = λ j i. keep-in isRunning js i .1; same = λ f. sum-those f isRunning js };
+      runs = record { each = λ j i. keep-in isHolding js i .1; same = λ f. sum-those f isHolding js };
       held-is = v .held-is;
-      ends-is = c;
+      ends-is = subst (λ (T : Settings). Column (until T) (running js) ends) (z ∙ settings-of) c;
       count-is = v .running-is;
       spare-is = spare-free;
     };
@@ -244,9 +253,9 @@ module _ (d : Scheduler) (h : Holds Ready d) {r w spare : ℕ} {heldₗ starts t
 
 -- ## Starts become ends
 
-module _ (ys : List Job) where
+module _ (S : Settings) (ys : List Job) where
   abbrev pub filled : ℕ → List ℕ
-  filled i = map endOf (take i ys) ++ map startOf (drop i ys)
+  filled i = map (until S) (take i ys) ++ map startOf (drop i ys)
 
   module _ (i : ℕ) (l : i < length ys) where
     abbrev y : Job
@@ -255,27 +264,27 @@ module _ (ys : List Job) where
     mid : map startOf (drop i ys) ≡ y .start ∷ map startOf (drop (i + 1) ys)
     mid = rw (add-one, drop-cons ys i unused l)
 
-    len : length (map endOf (take i ys)) ≡ i
-    len = length-map (take i ys) endOf ∙ length-take-le i ys (omega arith)
+    len : length (map (until S) (take i ys)) ≡ i
+    len = length-map (take i ys) (until S) ∙ length-take-le i ys (omega arith)
 
     long : i < length (filled i)
-    long = rw mid (omega (arith, length-append (map endOf (take i ys)) (y .start ∷ map startOf (drop (i + 1) ys)), len))
+    long = rw mid (omega (arith, length-append (map (until S) (take i ys)) (y .start ∷ map startOf (drop (i + 1) ys)), len))
 
     pub start-there : getD (pad slots 0 (filled i)) i 0 ≡ y .start
     unfolding pad
     start-there =
         List·getD-append (filled i) (replicate (slots - length (filled i)) 0) 0 i long
-        ∙ ap (λ (ns : List ℕ). getD (map endOf (take i ys) ++ ns) i 0) mid
-        ∙ getD-at (map endOf (take i ys)) (y .start) (map startOf (drop (i + 1) ys)) 0 i len
+        ∙ ap (λ (ns : List ℕ). getD (map (until S) (take i ys) ++ ns) i 0) mid
+        ∙ getD-at (map (until S) (take i ys)) (y .start) (map startOf (drop (i + 1) ys)) 0 i len
 
-    pub fill-next : set (pad slots 0 (filled i)) i (endOf y) ≡ pad slots 0 (filled (i + 1))
+    pub fill-next : set (pad slots 0 (filled i)) i (until S y) ≡ pad slots 0 (filled (i + 1))
     fill-next =
-        pad-set slots 0 (filled i) i (endOf y) long
-        ∙ ap (λ (ns : List ℕ). pad slots 0 (set (map endOf (take i ys) ++ ns) i (endOf y))) mid
-        ∙ ap (pad slots 0) (set-at (map endOf (take i ys)) (y .start) (map startOf (drop (i + 1) ys)) (endOf y) i len ∙ more)
+        pad-set slots 0 (filled i) i (until S y) long
+        ∙ ap (λ (ns : List ℕ). pad slots 0 (set (map (until S) (take i ys) ++ ns) i (until S y))) mid
+        ∙ ap (pad slots 0) (set-at (map (until S) (take i ys)) (y .start) (map startOf (drop (i + 1) ys)) (until S y) i len ∙ more)
       where
-        more : map endOf (take i ys) ++ (endOf y ∷ map startOf (drop (i + 1) ys)) ≡ filled (i + 1)
-        more = rw (add-one, take-suc ys i unused l, map-append endOf (take i ys) (y ∷ []), append-assoc)
+        more : map (until S) (take i ys) ++ (until S y ∷ map startOf (drop (i + 1) ys)) ≡ filled (i + 1)
+        more = rw (add-one, take-suc ys i unused l, map-append (until S) (take i ys) (y ∷ []), append-assoc)
 
-  pub fill-done : (i : ℕ) → length ys ≤ i → filled i ≡ map endOf ys
-  fill-done i l = rw (take-all i ys l, drop-of-length-le ys l) (append-nil (map endOf ys))
+  pub fill-done : (i : ℕ) → length ys ≤ i → filled i ≡ map (until S) ys
+  fill-done i l = rw (take-all i ys l, drop-of-length-le ys l) (append-nil (map (until S) ys))

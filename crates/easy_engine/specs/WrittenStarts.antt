@@ -11,6 +11,7 @@ use lib.Seq.{take-all, take-suc, length-take-le, sets-eq}
 use mathlib.Core.Option.{none}
 use mathlib.Core.Bool.{true}
 use Rattle.lists.specs.Pads.{pad, pad-push}
+use Rattle.scheduler.specs.declared.Settings.{Settings}
 use Rattle.scheduler.specs.declared.Job.{Job}
 use Rattle.scheduler.specs.declared.Scheduler.{Scheduler}
 use Rattle.scheduler.specs.Limits.{slots}
@@ -176,8 +177,8 @@ module _ (d : Scheduler) (h : Holds Ready d) where
   -- what a settling of the survey asks to be written
   module _ {r w spare : ℕ} {heldₗ starts terms asked estimates tickets places : List ℕ}
       (v : Passed d js r w spare heldₗ starts terms asked estimates tickets places)
-      {clock : ℕ} {order : List ℕ} {s : Settled} {held′ ends′ asked′ order′ : List ℕ}
-      (p : Settlement (view d) (queue js) estimates r w clock 0 order s held′ ends′ asked′ order′) (o : length order ≡ slots) where
+      {clock : ℕ} {S : Settings} {order : List ℕ} {s : Settled} {held′ ends′ asked′ order′ : List ℕ}
+      (p : Settlement (view d) (queue js) estimates r w clock S 0 order s held′ ends′ asked′ order′) (o : length order ≡ slots) where
     pub few : length (p .places) ≤ slots
     few = omega (arith, holding-few (p .after .holding), p .running-is)
 

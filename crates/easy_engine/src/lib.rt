@@ -1,6 +1,7 @@
 // EASY backfilling (document 01: "Loose Desk") over lent lists of numbers: which of the waiting jobs start, one after another. Of the jobs
 // that run the lists have nodes and ends, in any order; of the jobs that wait, in ticket order, nodes and estimates.
 use scheduler::Scheduler;
+use scheduler::Settings;
 ghost use mathlib.Core.Path.{_≡_};
 ghost use mathlib.Core.Bool.{true, cond, _&&_, _||_};
 ghost use mathlib.Core.List.{List};
@@ -9,13 +10,13 @@ ghost use lib.Dec.{leb, ltb, eqb};
 ghost use lib.ListN.{length};
 ghost use Rattle.lists.specs.Tests.{on};
 ghost use Rattle.lists.specs.Loops.{position};
-ghost use Rattle.walltime.specs.WallTime.{wallTime};
 ghost use Rattle.scheduler.specs.declared.Job.{Job};
 ghost use Rattle.scheduler.specs.Limits.{horizon, slots};
+ghost use Rattle.scheduler.specs.Settings.{holdTime, until};
 ghost use Rattle.scheduler.specs.Table.{ticketOf};
 ghost use Rattle.scheduler.specs.Model.{Model};
 ghost use Rattle.easy_rules.specs.Easy.{head, avail, shadow, choice, forecast};
-ghost use Rattle.easy_engine.specs.Survey.{Column, estimateOf, asks, endOf, Held, Lacks, Surveyed, placeOf, jobIn, asksTo, mayPass};
+ghost use Rattle.easy_engine.specs.Survey.{Column, estimateOf, asks, Held, Lacks, Surveyed, placeOf, jobIn, asksTo, mayPass};
 ghost use Rattle.easy_engine.specs.Survey.{Begun, Settlement, StartsInTime, SurveyRests, ticketIn, announced, Announces, Unsettled};
 ghost use Rattle.easy_engine.specs.Survey.{Answers};
 
@@ -105,8 +106,15 @@ fn first_within(asked: &[u32; 64], waiting: usize, most: u32) -> usize
 }
 
 // Whether a job fits now, and is over in time or fits the extra nodes.
-fn may_pass(nodes: u32, estimate: u32, spare: u32, extra: u32, room: u32) -> bool
-    ensures { λ r. ⌜ r ≡ (leb nodes spare && (leb (wallTime estimate) room || leb nodes extra)) ⌝ }
+fn may_pass(
+    nodes: u32,
+    estimate: u32,
+    spare: u32,
+    extra: u32,
+    room: u32,
+    settings: Settings,
+) -> bool
+    ensures { λ r. ⌜ r ≡ (leb nodes spare && (leb (holdTime settings estimate) room || leb nodes extra)) ⌝ }
 {
     if spare < nodes {
         return false;
@@ -114,7 +122,7 @@ fn may_pass(nodes: u32, estimate: u32, spare: u32, extra: u32, room: u32) -> boo
     if nodes <= extra {
         return true;
     }
-    walltime::wall_time(estimate) <= room
+    settings.hold_time(estimate) <= room
 }
 
 // The place of the first that may pass the head; the count where none may.
@@ -125,15 +133,16 @@ fn forward(
     spare: u32,
     extra: u32,
     room: u32,
+    settings: Settings,
 ) -> usize
     requires { ⌜ waiting ≤ slots ⌝ }
     ensures { λ r.
         ⌜ ((ws : List Job) → Column asks ws (now (asked .entry)) → Column estimateOf ws (now (estimates .entry)) → length ws ≡ waiting
-        → r ≡ placeOf (position (mayPass spare extra room) ws) waiting) ⌝ }
+        → r ≡ placeOf (position (mayPass settings spare extra room) ws) waiting) ⌝ }
 {
     let mut i: usize = 0;
     while i < waiting {
-        if may_pass(asked[i], estimates[i], spare, extra, room) {
+        if may_pass(asked[i], estimates[i], spare, extra, room, settings) {
             return i;
         }
         i += 1;
@@ -152,10 +161,11 @@ fn choose(
     waiting: usize,
     clock: u32,
     spare: u32,
+    settings: Settings,
 ) -> usize
-    requires { ⌜ Surveyed (now held) (now ends) running (now asked) (now estimates) waiting clock spare ⌝ }
+    requires { ⌜ Surveyed (now held) (now ends) running (now asked) (now estimates) waiting clock spare settings ⌝ }
     ensures { λ r.
-        ⌜ ((s : Surveyed (now (held .entry)) (now (ends .entry)) running (now (asked .entry)) (now (estimates .entry)) waiting clock spare)
+        ⌜ ((s : Surveyed (now (held .entry)) (now (ends .entry)) running (now (asked .entry)) (now (estimates .entry)) waiting clock spare settings)
         → jobIn (s .asking) r ≡ choice (s .model)) ⌝ }
 {
     let h = first_within(asked, waiting, Scheduler::NODES);
@@ -170,9 +180,18 @@ fn choose(
     if waiting <= fit {
         return fit;
     }
-    let minute = shadow(held, ends, running, spare, need, clock + Scheduler::LONGEST);
+    let latest = clock + settings.unit();
+    let minute = shadow(held, ends, running, spare, need, latest);
     let extra = avail_at(held, ends, running, spare, minute) - need;
-    forward(asked, estimates, waiting, spare, extra, minute - clock)
+    forward(
+        asked,
+        estimates,
+        waiting,
+        spare,
+        extra,
+        minute - clock,
+        settings,
+    )
 }
 
 // The job in this place starts now: it is added to those that run, asks for no nodes any more, and its place is noted. Its nodes are
@@ -187,14 +206,15 @@ fn start(
     count: usize,
     i: usize,
     clock: u32,
+    settings: Settings,
 ) -> u32
     requires { ⌜ (running < slots) × (count < slots) × (i < slots) × (clock ≤ horizon) ⌝ }
     ensures { λ r. ⌜ Begun (now (held .entry)) (now (ends .entry)) (now (asked .entry)) (now (order .entry)) (now (estimates .entry)) running count i
-        clock r (now (held .exit)) (now (ends .exit)) (now (asked .exit)) (now (order .exit)) ⌝ }
+        clock settings r (now (held .exit)) (now (ends .exit)) (now (asked .exit)) (now (order .exit)) ⌝ }
 {
     let n = asked[i];
     held[running] = n;
-    ends[running] = clock + walltime::wall_time(estimates[i]);
+    ends[running] = clock + settings.hold_time(estimates[i]);
     asked[i] = NOBODY;
     order[count] = i as u32;
     n
@@ -219,14 +239,25 @@ fn settle(
     count: usize,
     clock: u32,
     spare: u32,
+    settings: Settings,
 ) -> Settled
-    requires { ⌜ Surveyed (now held) (now ends) running (now asked) (now estimates) waiting clock spare × (count ≤ running) ⌝ }
+    requires { ⌜ Surveyed (now held) (now ends) running (now asked) (now estimates) waiting clock spare settings × (count ≤ running) ⌝ }
     ensures { λ r.
-        ⌜ ((s : Surveyed (now (held .entry)) (now (ends .entry)) running (now (asked .entry)) (now (estimates .entry)) waiting clock spare)
-        → Settlement (s .model) (s .asking) (now (estimates .entry)) running waiting clock count (now (order .entry)) r (now (held .exit))
+        ⌜ ((s : Surveyed (now (held .entry)) (now (ends .entry)) running (now (asked .entry)) (now (estimates .entry)) waiting clock spare settings)
+        → Settlement (s .model) (s .asking) (now (estimates .entry)) running waiting clock settings count (now (order .entry)) r (now (held .exit))
         (now (ends .exit)) (now (asked .exit)) (now (order .exit))) ⌝ }
 {
-    let i = choose(held, ends, running, asked, estimates, waiting, clock, spare);
+    let i = choose(
+        held,
+        ends,
+        running,
+        asked,
+        estimates,
+        waiting,
+        clock,
+        spare,
+        settings,
+    );
     if waiting <= i {
         return Settled {
             running: running,
@@ -244,6 +275,7 @@ fn settle(
         count,
         i,
         clock,
+        settings,
     );
     settle(
         held,
@@ -256,17 +288,18 @@ fn settle(
         count + 1,
         clock,
         spare - n,
+        settings,
     )
 }
 
 // Each start becomes the end.
-fn fill_ends(ends: &mut [u32; 64], terms: &[u32; 64], running: usize)
+fn fill_ends(ends: &mut [u32; 64], terms: &[u32; 64], running: usize, settings: Settings)
     requires { ⌜ StartsInTime (now ends) (now terms) running ⌝ }
-    ensures { λ _. ⌜ ((s : StartsInTime (now (ends .entry)) (now (terms .entry)) running) → Column endOf (s .jobs) (now (ends .exit))) ⌝ }
+    ensures { λ _. ⌜ ((s : StartsInTime (now (ends .entry)) (now (terms .entry)) running) → Column (until settings) (s .jobs) (now (ends .exit))) ⌝ }
 {
     let mut i: usize = 0;
     while i < running {
-        ends[i] = ends[i] + walltime::wall_time(terms[i]);
+        ends[i] = ends[i] + settings.hold_time(terms[i]);
         i += 1;
     }
 }
@@ -304,10 +337,12 @@ fn announce(
     waiting: usize,
     clock: u32,
     spare: u32,
+    settings: Settings,
 ) -> Announced
-    requires { ⌜ Announces (now held) (now ends) running (now asked) (now tickets) waiting clock spare ⌝ }
+    requires { ⌜ Announces (now held) (now ends) running (now asked) (now tickets) waiting clock spare settings ⌝ }
     ensures { λ r.
-        ⌜ ((a : Announces (now (held .entry)) (now (ends .entry)) running (now (asked .entry)) (now (tickets .entry)) waiting clock spare) (b : Model)
+        ⌜ ((a : Announces (now (held .entry)) (now (ends .entry)) running (now (asked .entry)) (now (tickets .entry)) waiting clock spare settings)
+        (b : Model)
         → before ≡ ticketIn (head b) → r ≡ announced (forecast b (a .surveyed .model))) ⌝ }
 {
     let h = first_within(asked, waiting, Scheduler::NODES);
@@ -324,14 +359,8 @@ fn announce(
             minute: 0,
         };
     }
-    let minute = shadow(
-        held,
-        ends,
-        running,
-        spare,
-        asked[h],
-        clock + Scheduler::LONGEST,
-    );
+    let latest = clock + settings.unit();
+    let minute = shadow(held, ends, running, spare, asked[h], latest);
     Announced {
         ticket: ticket,
         minute: minute,
@@ -370,11 +399,12 @@ pub fn settle_all(
     order: &mut [u32; 64],
     clock: u32,
     spare: u32,
+    settings: Settings,
 ) -> Answered
-    requires { ⌜ Unsettled (now held) (now ends) (now terms) running (now asked) (now estimates) (now tickets) waiting (now order) clock spare ⌝ }
+    requires { ⌜ Unsettled (now held) (now ends) (now terms) running (now asked) (now estimates) (now tickets) waiting (now order) clock spare settings ⌝ }
     ensures { λ r.
         ⌜ ((u : Unsettled (now (held .entry)) (now (ends .entry)) (now (terms .entry)) running (now (asked .entry)) (now (estimates .entry))
-        (now (tickets .entry)) waiting (now (order .entry)) clock spare) → Answers (u .scheduler) (u .places) ticket (now (order .exit)) r) ⌝ }
+        (now (tickets .entry)) waiting (now (order .entry)) clock spare settings) → Answers (u .scheduler) (u .places) ticket (now (order .exit)) r) ⌝ }
 {
     let before = head_before(tickets[0], ticket);
     if rests(before, asked, tickets, waiting, spare) {
@@ -384,7 +414,7 @@ pub fn settle_all(
             forecast: 0,
         };
     }
-    fill_ends(ends, terms, running);
+    fill_ends(ends, terms, running, settings);
     let s = settle(
         held,
         ends,
@@ -396,6 +426,7 @@ pub fn settle_all(
         0,
         clock,
         spare,
+        settings,
     );
     let new = announce(
         before,
@@ -407,6 +438,7 @@ pub fn settle_all(
         waiting,
         clock,
         s.spare,
+        settings,
     );
     Answered {
         started: s.count,

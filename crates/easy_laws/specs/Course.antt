@@ -15,18 +15,21 @@ use borrow.Author.Tests.{leb-true, leb-false, lt-ltb, le-ltb, eqb-true, ne-eqb}
 use Rattle.lists.specs.Tests.{case, true-false, on, on-le, both, either}
 use Rattle.lists.specs.Lists.{keep, first, elem, sum, In, here, in-nil, in-cons, in-map, in-left, in-right, keep-in, in-keep, first-in}
 use Rattle.lists.specs.Lists.{keep-append, keep-cong, keep-keep, sum-append, sum-keep, sum-le, sum-zero, length-keep}
+use Rattle.scheduler.specs.declared.Submission.{Submission}
+use Rattle.scheduler.specs.declared.State.the-variants.{Running}
 use Rattle.scheduler.specs.declared.Job.{Job}
 use Rattle.scheduler.specs.declared.Select.{Select}
-use Rattle.scheduler.specs.Jobs.{isWaiting, isRunning, held, picks}
+use Rattle.scheduler.specs.Jobs.{isWaiting, isRunning, isHolding, held, picks}
 use Rattle.scheduler.specs.declared.Settings.{Settings}
 use Rattle.scheduler.specs.Settings.{holdTime, unit, until}
+use Rattle.scheduler.specs.Times.{until-at}
 use Rattle.scheduler.specs.Table.{ticketOf, staying}
 use Rattle.scheduler.specs.Model.{Model, joined, without}
 use Rattle.jobs.specs.Order.{Asc, asc-in, asc-keep}
 use Rattle.jobs.specs.Soundness.{Sound, Leaving, leaving-runs, leaving-clock}
-use Rattle.easy_rules.specs.Easy.{queue, free, freed, avail, shadow, extra, qualifies, pick, choice, mark, begin, newJob, rank}
+use Rattle.easy_rules.specs.Easy.{queue, free, freed, avail, shadow, extra, qualifies, pick, choice, begun, mark, begin, newJob, rank}
 use Rattle.easy_laws.specs.Settling.{shadow-from, shadow-to, shadow-min, shadow-holds, avail-now, none-starts, How, as-head, passing}
-use Rattle.easy_laws.specs.Settling.{Chosen, chosen, each-begin, Settles, rest, start, idle, mark-same, sum-mark, queue-mark}
+use Rattle.easy_laws.specs.Settling.{Chosen, chosen, each-begin, Settles, rest, start, idle, not-running, mark-same, sum-mark, queue-mark}
 
 -- the job with ticket u waits
 pub record Waits (m : Model) (u : ℕ) : Type 0 where
@@ -155,6 +158,8 @@ module _ (m : Model) (j : Job) (s : Sound m) (c : Chosen m j) where
       let b = sum-mark (freed (m .settings) t) (m .clock) 1 (m .jobs) (s .asc) (c .isin) in
       let z : held j ≡ 0 = rw (idle j (c .waits)) in
       let y : freed (m .settings) t j ≡ 0 = rw (idle j (c .waits)) in
+      let u : freed (m .settings) t (begun (m .clock) j) ≡ on (leb (m .clock + holdTime (m .settings) (j .estimate)) t) (j .nodes) =
+      rw (until-at (m .settings) Running (m .clock) j) in
       omega arith
 
   -- by either rule, a job passed forward leaves the head its nodes at the shadow
@@ -254,7 +259,7 @@ eased m m′ u b s r x o =
 -- running jobs leave
 module _ (m : Model) (c : ℕ) (p : Select) (s : Sound m) (l : Leaving m c p) where
   pub waits-stay : (j : Job) → isWaiting j ≡ true → picks p j ≡ false
-  waits-stay j w = case (picks p j) (λ e. true-false (isRunning j) (leaving-runs m c p l j e) (idle j w)) (λ e. e)
+  waits-stay j w = case (picks p j) (λ e. true-false (isRunning j) (leaving-runs m c p l j e) (not-running j w)) (λ e. e)
 
   pub queue-leave : queue (staying p (m .jobs)) ≡ queue (m .jobs)
   queue-leave =
@@ -272,7 +277,7 @@ module _ (m : Model) (c : ℕ) (p : Select) (s : Sound m) (l : Leaving m c p) wh
       less : (j : Job) → on (picks p j) (freed (m .settings) t j) ≤ on (picks p j) (held j)
       less j =
           case (picks p j)
-          (λ e. rw e (case (isRunning j) (λ r. rw r (on-le (leb (until (m .settings) j) t) (j .nodes))) (λ r. rw r (omega arith))))
+          (λ e. rw e (case (isHolding j) (λ r. rw r (on-le (leb (until (m .settings) j) t) (j .nodes))) (λ r. rw r (omega arith))))
           (λ e. rw e (omega arith))
 
   pub leave-eases : Eases m (without m c p)
@@ -287,33 +292,33 @@ module _ (m : Model) (c : ℕ) (p : Select) (s : Sound m) (l : Leaving m c p) wh
   }
 
 -- a job joins at the end of the queue
-module _ (m : Model) (n e : ℕ) where
-  pub join-eases : Eases m (joined m (newJob (m .next) n e))
+module _ (m : Model) (o : Submission) where
+  pub join-eases : Eases m (joined m (newJob (m .next) o))
   join-eases = record {
     settings = refl;
     soon = omega arith;
-    last = newJob (m .next) n e ∷ [];
-    queued = keep-append isWaiting (m .jobs) (newJob (m .next) n e ∷ []);
-    nodes = λ t. omega (arith, sum-append held (m .jobs) (newJob (m .next) n e ∷ []), sum-append (freed (m .settings) t) (m .jobs) (newJob (m .next) n e ∷ []));
-    fewer = λ u l. let z : before u (newJob (m .next) n e) ≡ 0 = rw (le-ltb (m .next) u (omega arith)) in
-        omega (arith, sum-append (before u) (m .jobs) (newJob (m .next) n e ∷ []));
-    stay = λ j i w. in-left (newJob (m .next) n e ∷ []) i;
+    last = newJob (m .next) o ∷ [];
+    queued = keep-append isWaiting (m .jobs) (newJob (m .next) o ∷ []);
+    nodes = λ t. omega (arith, sum-append held (m .jobs) (newJob (m .next) o ∷ []), sum-append (freed (m .settings) t) (m .jobs) (newJob (m .next) o ∷ []));
+    fewer = λ u l. let z : before u (newJob (m .next) o) ≡ 0 = rw (le-ltb (m .next) u (omega arith)) in
+        omega (arith, sum-append (before u) (m .jobs) (newJob (m .next) o ∷ []));
+    stay = λ j i w. in-left (newJob (m .next) o ∷ []) i;
   }
 
   -- and is on course for its bound: "the clock at intake + r × 10,080"
-  pub join-course : OnCourse (joined m (newJob (m .next) n e)) (m .next) (m .clock + rank m * unit (m .settings))
+  pub join-course : OnCourse (joined m (newJob (m .next) o)) (m .next) (m .clock + rank m * unit (m .settings))
   join-course = record {
-    waits = record { job = newJob (m .next) n e; isin = in-right (m .jobs) (here refl); waits = refl; named = refl };
+    waits = record { job = newJob (m .next) o; isin = in-right (m .jobs) (here refl); waits = refl; named = refl };
     by = λ h q x.
-        let z : before (m .next) (newJob (m .next) n e) ≡ 0 = rw (le-ltb (m .next) (m .next) (omega arith)) in
-        let a = sum-append (before (m .next)) (m .jobs) (newJob (m .next) n e ∷ []) in
+        let z : before (m .next) (newJob (m .next) o) ≡ 0 = rw (le-ltb (m .next) (m .next) (omega arith)) in
+        let a = sum-append (before (m .next)) (m .jobs) (newJob (m .next) o ∷ []) in
         let d = sum-le (before (m .next)) (λ (j : Job). on (isWaiting j) 1) (m .jobs) (λ j i. less j) in
-        let f : ahead (m .next) (joined m (newJob (m .next) n e) .jobs) ≤ length (queue (m .jobs)) = omega (arith, length-keep isWaiting (m .jobs)) in
+        let f : ahead (m .next) (joined m (newJob (m .next) o) .jobs) ≤ length (queue (m .jobs)) = omega (arith, length-keep isWaiting (m .jobs)) in
         omega (
           arith,
-          mul-le-mul-right {m = ahead (m .next) (joined m (newJob (m .next) n e) .jobs)} {n = length (queue (m .jobs))}
+          mul-le-mul-right {m = ahead (m .next) (joined m (newJob (m .next) o) .jobs)} {n = length (queue (m .jobs))}
               (unit (m .settings)) f,
-          shadow-to (joined m (newJob (m .next) n e)) (h .nodes),
+          shadow-to (joined m (newJob (m .next) o)) (h .nodes),
         );
   }
     where

@@ -18,7 +18,7 @@ use Rattle.lists.specs.Lists.{first, In, here, there, in-getD, map-same, sum-co
 use Rattle.lists.specs.Pads.{pad}
 use Rattle.scheduler.specs.declared.Job.{Job}
 use Rattle.scheduler.specs.Limits as limit
-use Rattle.scheduler.specs.Jobs.{unused, isWaiting, isRunning, held}
+use Rattle.scheduler.specs.Jobs.{unused, isWaiting, isHolding, held}
 use Rattle.scheduler.specs.declared.Settings.{Settings}
 use Rattle.scheduler.specs.Settings.{slots, until}
 use Rattle.scheduler.specs.Table.{withJobs}
@@ -37,7 +37,7 @@ pub avail-to : (m : Model) (t : ℕ) → Sound m → avail m t ≤ m .settings .
 avail-to m t s = omega (arith, s .capacity, sum-le (freed (m .settings) t) held (m .jobs) (λ j i. less j))
   where
     less : (j : Job) → freed (m .settings) t j ≤ held j
-    less j = case (isRunning j) (λ r. rw r (on-le (leb (until (m .settings) j) t) (j .nodes))) (λ r. rw r (omega arith))
+    less j = case (isHolding j) (λ r. rw r (on-le (leb (until (m .settings) j) t) (j .nodes))) (λ r. rw r (omega arith))
 
 -- a minute at which the nodes suffice, and before which from now on they do not, is the shadow
 pub shadow-is : (m : Model) (n t : ℕ) → Sound m → n ≤ m .settings .nodes → m .clock ≤ t → n ≤ avail m t → ((k : ℕ) → m .clock ≤ k → k < t → avail m k < n)
@@ -57,7 +57,7 @@ latest S t c (j ∷ js) = max (on (overBy S t j) (until S j)) (latest S t c js)
 pub record EndsAt (S : Settings) (t : ℕ) (js : List Job) : Type 0 where
   pub job : Job
   pub isin : In job js
-  pub runs : isRunning job ≡ true
+  pub runs : isHolding job ≡ true
   pub ends : until S job ≡ t
 
 module _ (S : Settings) (t c : ℕ) where
@@ -65,7 +65,7 @@ module _ (S : Settings) (t c : ℕ) where
   latest-by [] l = l
   latest-by (j ∷ js) l =
       case (overBy S t j)
-      (λ e. rw e (omega (arith, latest-by js l, leb-true (until S j) t (both (isRunning j) (leb (until S j) t) e .1))))
+      (λ e. rw e (omega (arith, latest-by js l, leb-true (until S j) t (both (isHolding j) (leb (until S j) t) e .1))))
       (λ e. rw e (omega (arith, latest-by js l)))
 
   latest-from : {js : List Job} {j : Job} → In j js → overBy S t j ≡ true → until S j ≤ latest S t c js
@@ -76,7 +76,7 @@ module _ (S : Settings) (t c : ℕ) where
   latest-is [] = inl (omega arith)
   latest-is (j ∷ js) =
       case (overBy S t j)
-      (λ e. rw e (by (both (isRunning j) (leb (until S j) t) e .0) (le-or (latest S t c js) (until S j)) (latest-is js)))
+      (λ e. rw e (by (both (isHolding j) (leb (until S j) t) e .0) (le-or (latest S t c js) (until S j)) (latest-is js)))
       (λ e. rw e (older 0 (omega arith) (latest-is js)))
     where
       older : (x : ℕ) → x ≤ latest S t c js → (latest S t c js ≤ c) ⊎ EndsAt S (latest S t c js) js
@@ -84,7 +84,7 @@ module _ (S : Settings) (t c : ℕ) where
       older x l (inl p) = inl (omega arith)
       older x l (inr p) = inr (record { job = p .job; isin = there (p .isin); runs = p .runs; ends = omega (arith, p .ends) })
 
-      by : isRunning j ≡ true → (latest S t c js ≤ until S j) ⊎ (until S j < latest S t c js) → (latest S t c js ≤ c) ⊎ EndsAt S (latest S t c js) js
+      by : isHolding j ≡ true → (latest S t c js ≤ until S j) ⊎ (until S j < latest S t c js) → (latest S t c js ≤ c) ⊎ EndsAt S (latest S t c js) js
           → (max (until S j) (latest S t c js) ≤ c) ⊎ EndsAt S (max (until S j) (latest S t c js)) (j ∷ js)
       by r (inl l) p = inr (record { job = j; isin = here refl; runs = r; ends = omega arith })
       by r (inr l) p = older (until S j) (omega arith) p
@@ -98,12 +98,12 @@ avail-latest m t c l = ap (λ (x : ℕ). free m + x) (sum-cong (freed (m .settin
         let S = m .settings in
         let k = latest S t c (m .jobs) in
         case (overBy S t j)
-        (λ e. rw (e, ended-by S k j (both (isRunning j) (leb (until S j) t) e .0) (latest-from S t c i e)))
+        (λ e. rw (e, ended-by S k j (both (isHolding j) (leb (until S j) t) e .0) (latest-from S t c i e)))
         (λ e. rw (e, not-ended S k j (λ r. omega (arith, latest-by S t c (m .jobs) l, leb-false (until S j) t (rw r at e)))))
 
 -- Where n nodes are not free now: a minute at which they suffice, and before which they suffice at no end, is the shadow.
 pub shadow-by-ends : (m : Model) (n t : ℕ) → Sound m → n ≤ m .settings .nodes → free m < n → m .clock ≤ t → n ≤ avail m t
-    → ((j : Job) → In j (m .jobs) → isRunning j ≡ true → until (m .settings) j < t → avail m (until (m .settings) j) < n) → t ≡ shadow m n
+    → ((j : Job) → In j (m .jobs) → isHolding j ≡ true → until (m .settings) j < t → avail m (until (m .settings) j) < n) → t ≡ shadow m n
 shadow-by-ends m n t s l f c e h = shadow-is m n t s l c e (λ k a b. by k a b (latest-is (m .settings) k (m .clock) (m .jobs)))
   where
     by : (k : ℕ) → m .clock ≤ k → k < t → (latest (m .settings) k (m .clock) (m .jobs) ≤ m .clock)
@@ -119,7 +119,7 @@ shadow-by-ends m n t s l f c e h = shadow-is m n t s l c e (λ k a b. by k a b (
 
 -- The search: from a unit after now, go over the jobs and keep the earliest end at which the nodes suffice.
 abbrev pub sooner : Model → ℕ → ℕ → Job → ℕ
-sooner m n best j = cond (isRunning j && ltb (until (m .settings) j) best && leb n (avail m (until (m .settings) j))) (until (m .settings) j) best
+sooner m n best j = cond (isHolding j && ltb (until (m .settings) j) best && leb n (avail m (until (m .settings) j))) (until (m .settings) j) best
 
 abbrev pub earliest : Model → ℕ → ℕ → List Job → ℕ
 earliest m n best [] = best
@@ -127,7 +127,7 @@ earliest m n best (j ∷ js) = earliest m n (sooner m n best j) js
 
 module _ (m : Model) (n : ℕ) where
   abbrev test : ℕ → Job → Bool
-  test best j = isRunning j && ltb (until (m .settings) j) best && leb n (avail m (until (m .settings) j))
+  test best j = isHolding j && ltb (until (m .settings) j) best && leb n (avail m (until (m .settings) j))
 
   sooner-by : (best : ℕ) (j : Job) → sooner m n best j ≤ best
   sooner-by best j =
@@ -135,8 +135,8 @@ module _ (m : Model) (n : ℕ) where
       (λ e. rw e (omega (
         arith,
         ltb-true (until (m .settings) j) best
-            (both (isRunning j) (ltb (until (m .settings) j) best)
-            (both (isRunning j && ltb (until (m .settings) j) best) (leb n (avail m (until (m .settings) j))) e .0) .1),
+            (both (isHolding j) (ltb (until (m .settings) j) best)
+            (both (isHolding j && ltb (until (m .settings) j) best) (leb n (avail m (until (m .settings) j))) e .0) .1),
       )))
       (λ e. rw e (omega arith))
 
@@ -145,7 +145,7 @@ module _ (m : Model) (n : ℕ) where
   earliest-by best (j ∷ js) = omega (arith, earliest-by (sooner m n best j) js, sooner-by best j)
 
   -- no end at which the nodes suffice is earlier
-  pub earliest-min : (best : ℕ) {js : List Job} {j : Job} → In j js → isRunning j ≡ true → n ≤ avail m (until (m .settings) j)
+  pub earliest-min : (best : ℕ) {js : List Job} {j : Job} → In j js → isHolding j ≡ true → n ≤ avail m (until (m .settings) j)
       → earliest m n best js ≤ until (m .settings) j
   earliest-min best {j = j} (here {x = x} {xs = xs} z) r l =
       let S = m .settings in
@@ -161,15 +161,15 @@ module _ (m : Model) (n : ℕ) where
 
   -- what holds of the first minute, and of each end at which the nodes suffice, holds of the one found
   pub earliest-holds : (P : ℕ → Type 0) (best : ℕ) (js : List Job) → P best
-      → ((j : Job) → In j js → isRunning j ≡ true → n ≤ avail m (until (m .settings) j) → P (until (m .settings) j)) → P (earliest m n best js)
+      → ((j : Job) → In j js → isHolding j ≡ true → n ≤ avail m (until (m .settings) j) → P (until (m .settings) j)) → P (earliest m n best js)
   earliest-holds P best [] p f = p
   earliest-holds P best (j ∷ js) p f = earliest-holds P (sooner m n best j) js step (λ k i. f k (there i))
     where
       step : P (sooner m n best j)
       step =
           case (test best j)
-          (λ e. let a = both (isRunning j && ltb (until (m .settings) j) best) (leb n (avail m (until (m .settings) j))) e in
-          rw e (f j (here refl) (both (isRunning j) (ltb (until (m .settings) j) best) (a .0) .0) (leb-true n (avail m (until (m .settings) j)) (a .1))))
+          (λ e. let a = both (isHolding j && ltb (until (m .settings) j) best) (leb n (avail m (until (m .settings) j))) e in
+          rw e (f j (here refl) (both (isHolding j) (ltb (until (m .settings) j) best) (a .0) .0) (leb-true n (avail m (until (m .settings) j)) (a .1))))
           (λ e. rw e p)
 
   -- the search as a loop: one step more, and its end

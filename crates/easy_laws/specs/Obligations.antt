@@ -20,7 +20,7 @@ use Rattle.scheduler.specs.declared.Select.{Select}
 use Rattle.scheduler.specs.declared.Select.the-variants as select
 use Rattle.scheduler.specs.Jobs.{waiting?, isWaiting, picks}
 use Rattle.scheduler.specs.Table.{ticketsOf}
-use Rattle.scheduler.specs.Model.{Model, joined}
+use Rattle.scheduler.specs.Model.{Model, ending, joined}
 use Rattle.scheduler.specs.Answers.{Reply, Result, Forecast, refusing}
 use Rattle.jobs.specs.Order.{Asc, asc-one}
 use Rattle.jobs.specs.Soundness.{Sound, Leaving, early, in-time, leaving-runs, all-live}
@@ -40,7 +40,7 @@ use Rattle.easy_laws.specs.Validity.{CallAccepted, taken-came, Unchanged
 
 moved-clock : {m : Model} {c : Call} {mid : Model} {t : ℕ} {ts : List ℕ} → OwnPart m c mid t ts → (r : Reply) → r .refusal ≡ refusal.None
     → mid .clock ≡ clockAfter (newsOf c r) (m .clock)
-moved-clock (submits n e f room) r q = rw q
+moved-clock (submits w f room) r q = rw q
 moved-clock (completes t a) r q = rw q
 moved-clock (ticks l) r q = rw q
 
@@ -75,21 +75,21 @@ module _ (now : ℕ) (e : News) where
 
     -- who is there before the settling is live after it
     moved-lives : {c : Call} {mid : Model} {t : ℕ} {ts : List ℕ} → OwnPart m c mid t ts → e .ended ≡ ts → (j : Job) → In j (mid .jobs) → lives now e j ≡ true
-    moved-lives (submits n x f room) d j i = none-leaves now e d j
+    moved-lives (submits y f room) d j i = none-leaves now e d j
     moved-lives (completes t x) d j i =
         let k = keep-in (λ (j : Job). not (picks (select.RunningTicket t) j)) (m .jobs) i in
         leaver (m .clock) (select.RunningTicket t) (early t) d j (k .0) ∙ k .1
     moved-lives (ticks l) d j i =
-        let k = keep-in (λ (j : Job). not (picks (select.EndingAt (suc (m .clock))) j)) (m .jobs) i in
-        leaver (suc (m .clock)) (select.EndingAt (suc (m .clock))) (in-time l) d j (k .0) ∙ k .1
+        let k = keep-in (λ (j : Job). not (picks (ending m) j)) (m .jobs) i in
+        leaver (suc (m .clock)) (ending m) (in-time l) d j (k .0) ∙ k .1
 
     -- what the call did before it settled
     moved-tells : {c : Call} {mid : Model} {t : ℕ} {ts : List ℕ} (x : OwnPart m c mid t ts) → e .ended ≡ ts → e .came ≡ joiner x
         → (after : List Job) → map shown after ≡ map (remark now e) (map shown (mid .jobs))
         → map shown after ≡ shownAfter now e (map shown (m .jobs) ++ comers e)
-    moved-tells (submits n x f room) d q after h =
+    moved-tells (submits y f room) d q after h =
         let js = m .jobs in
-        let new : Job = newJob (m .next) n x in
+        let new : Job = newJob (m .next) y in
         let one : map (remark now e) (shown new ∷ []) ≡ keep isLive (map (remark now e) (shown new ∷ [])) =
         case (elem (m .next) (e .started)) (λ z. rw z) (λ z. rw z) in
         tells-by now e (λ (j : Job). false) js after (λ j i. none-leaves now e d j)
@@ -99,8 +99,8 @@ module _ (now : ℕ) (e : News) where
     moved-tells (completes t x) d q after h =
         tells-leave now e (picks (select.RunningTicket t)) (m .jobs) after (leaver (m .clock) (select.RunningTicket t) (early t) d) q h
     moved-tells (ticks l) d q after h =
-        tells-leave now e (picks (select.EndingAt (suc (m .clock)))) (m .jobs) after
-        (leaver (suc (m .clock)) (select.EndingAt (suc (m .clock))) (in-time l) d) q h
+        tells-leave now e (picks (ending m)) (m .jobs) after
+        (leaver (suc (m .clock)) (ending m) (in-time l) d) q h
 
 module _ (m : Model) (c : Call) (o : Result) (v : Valid m) where
   taken-tells : CallAccepted m c o → Tells m (newsOf c (o .reply)) (o .model)
@@ -126,13 +126,13 @@ module _ (m : Model) (c : Call) (o : Result) (v : Valid m) where
 -- who comes has the next ticket, and is on course for its bound
 moved-joins : {m : Model} {c : Call} {mid : Model} {t : ℕ} {ts : List ℕ} (x : OwnPart m c mid t ts) (o : Newcomer) → In o (joiner x)
     → (o .ticket ≡ m .next) × OnCourse mid (o .ticket) (boundAt m)
-moved-joins {m} (submits n e f room) o i = one (in-cons i)
+moved-joins {m} (submits w f room) o i = one (in-cons i)
   where
     Joins : Newcomer → Type 0
-    Joins x = (x .ticket ≡ m .next) × OnCourse (joined m (newJob (m .next) n e)) (x .ticket) (boundAt m)
+    Joins x = (x .ticket ≡ m .next) × OnCourse (joined m (newJob (m .next) w)) (x .ticket) (boundAt m)
 
-    one : (o ≡ record { ticket = m .next; nodes = n; promise = 0 }) ⊎ In o [] → Joins o
-    one (inl q) = subst Joins (sym q) (refl, join-course m n e)
+    one : (o ≡ record { ticket = m .next; nodes = w .nodes; promise = 0 }) ⊎ In o [] → Joins o
+    one (inl q) = subst Joins (sym q) (refl, join-course m w)
     one (inr k) = in-nil k
 moved-joins (completes t a) o i = in-nil i
 moved-joins (ticks l) o i = in-nil i

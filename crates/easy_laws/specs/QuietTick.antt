@@ -15,11 +15,10 @@ use Rattle.scheduler.specs.declared.Job.{Job}
 use Rattle.scheduler.specs.Jobs.{picks}
 use Rattle.scheduler.specs.Settings.{horizon, holdTime}
 use Rattle.scheduler.specs.Table.{ticketsOf}
-use Rattle.scheduler.specs.Model.{Model, without}
+use Rattle.scheduler.specs.Model.{Model, ending, without}
 use Rattle.scheduler.specs.Answers.{Reply, Forecast, verdict, refusing}
 use Rattle.scheduler.specs.Refusals.{tickRefusal}
 use Rattle.scheduler.specs.declared.Refusal.the-variants as refusal
-use Rattle.scheduler.specs.declared.Select.the-variants as select
 use Rattle.jobs.specs.Soundness.{Sound}
 use Rattle.history.specs.Calls.{tick}
 use Rattle.easy_rules.specs.Easy.{queue, head, free, avail, shadow, extra, qualifies, pick, choice, Settling, forecast, finished, advanced, call}
@@ -44,16 +43,16 @@ none-first p (x ∷ xs) f = rw (f x (here refl)) (none-first p xs (λ a i. f a (
 abbrev replied : List ℕ → Option Forecast → Reply
 replied ts o = record { refusal = refusal.None; ticket = 0; promise = 0; ended = []; started = ts; head = o }
 
-module _ (m : Model) (v : Valid m) (l : suc (m .clock) ≤ horizon (m .settings)) (e : any (picks (select.EndingAt (suc (m .clock)))) (m .jobs) ≡ false) where
-  stays : (j : Job) → In j (m .jobs) → picks (select.EndingAt (suc (m .clock))) j ≡ false
-  stays j i = none-passes (picks (select.EndingAt (suc (m .clock)))) (m .jobs) e j i
+module _ (m : Model) (v : Valid m) (l : suc (m .clock) ≤ horizon (m .settings)) (e : any (picks (ending m)) (m .jobs) ≡ false) where
+  stays : (j : Job) → In j (m .jobs) → picks (ending m) j ≡ false
+  stays j i = none-passes (picks (ending m)) (m .jobs) e j i
 
-  nobody-leaves : without m (suc (m .clock)) (select.EndingAt (suc (m .clock))) ≡ later m
+  nobody-leaves : without m (suc (m .clock)) (ending m) ≡ later m
   nobody-leaves = λ i. record {
     settings = m .settings;
     clock = suc (m .clock);
     next = m .next;
-    jobs = keep-all (λ (j : Job). not (picks (select.EndingAt (suc (m .clock))) j)) (m .jobs) (λ j k. ap not (stays j k)) i;
+    jobs = keep-all (λ (j : Job). not (picks (ending m) j)) (m .jobs) (λ j k. ap not (stays j k)) i;
   }
 
   later-sound : Sound (later m)
@@ -124,6 +123,6 @@ module _ (m : Model) (v : Valid m) (l : suc (m .clock) ≤ horizon (m .settings)
   unfolding call tickRefusal verdict advanced
   quiet-tick =
       rw (le-ltb (horizon (m .settings)) (suc (m .clock)) l)
-      (ap (λ (x : Model). finished m x 0 (ticketsOf (keep (picks (select.EndingAt (suc (m .clock)))) (m .jobs)))) nobody-leaves
-      ∙ ap (λ (js : List Job). finished m (later m) 0 (ticketsOf js)) (keep-none (picks (select.EndingAt (suc (m .clock)))) (m .jobs) stays)
+      (ap (λ (x : Model). finished m x 0 (ticketsOf (keep (picks (ending m)) (m .jobs)))) nobody-leaves
+      ∙ ap (λ (js : List Job). finished m (later m) 0 (ticketsOf js)) (keep-none (picks (ending m)) (m .jobs) stays)
       ∙ quiet-finish)

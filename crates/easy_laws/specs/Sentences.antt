@@ -15,15 +15,16 @@ use Rattle.lists.specs.Tests.{case, true-false, both, either, neither}
 use Rattle.lists.specs.Lists.{keep, first, any, elem, In, in-nil, in-cons, in-append, map-in, keep-in, first-in}
 use Rattle.walltime.specs.WallTime.{wallTime}
 use Rattle.scheduler.specs.declared.Job.{Job}
+use Rattle.scheduler.specs.declared.Submission.{Submission}
 use Rattle.scheduler.specs.declared.Refusal.{Refusal}
 use Rattle.scheduler.specs.declared.Refusal.the-variants as refusal
 use Rattle.scheduler.specs.declared.Select.{Select}
 use Rattle.scheduler.specs.declared.Select.the-variants as select
 use Rattle.scheduler.specs.Limits.{lastTicket, outside}
 use Rattle.scheduler.specs.Jobs.{isWaiting, isRunning, runsAs, held, picks}
-use Rattle.scheduler.specs.Settings.{horizon, slots, longest, holdTime, until}
+use Rattle.scheduler.specs.Settings.{horizon, slots, longest, holdTime, unit, until}
 use Rattle.scheduler.specs.Table.{ticketOf, ticketsOf}
-use Rattle.scheduler.specs.Model.{Model, joined}
+use Rattle.scheduler.specs.Model.{Model, ending, joined}
 use Rattle.scheduler.specs.Answers.{Result, Forecast, verdict, accepts, refuse}
 use Rattle.scheduler.specs.Refusals.{completeRefusal, tickRefusal}
 use Rattle.jobs.specs.Judgement.{judged-by, judged-accepted, judged-refusal, judged-refused}
@@ -214,7 +215,7 @@ settled-by-steps m s =
 
 -- a call is judged by these tests and no others
 abbrev pub refusalOf : Model → Call → Refusal
-refusalOf m (submit n e) = submitRefusal m n e
+refusalOf m (submit o) = submitRefusal m o
 refusalOf m (complete t) = completeRefusal m t
 refusalOf m tick = tickRefusal m
 refusalOf m (unchanged r) = r
@@ -225,61 +226,61 @@ finished-none m mid t ts = refl
 
 pub refusal-is : (m : Model) (c : Call) → call m c .reply .refusal ≡ refusalOf m c
 unfolding call advanced
-refusal-is m (submit n e) = judged-refusal m (submitRefusal m n e) (finished m (joined m (newJob (m .next) n e)) (m .next) []) (finished-none m _ _ _)
+refusal-is m (submit o) = judged-refusal m (submitRefusal m o) (finished m (joined m (newJob (m .next) o)) (m .next) []) (finished-none m _ _ _)
 refusal-is m (complete t) = judged-refusal m (completeRefusal m t) (advanced m (m .clock) (select.RunningTicket t)) (finished-none m _ _ _)
-refusal-is m tick = judged-refusal m (tickRefusal m) (advanced m (suc (m .clock)) (select.EndingAt (suc (m .clock)))) (finished-none m _ _ _)
+refusal-is m tick = judged-refusal m (tickRefusal m) (advanced m (suc (m .clock)) (ending m)) (finished-none m _ _ _)
 refusal-is m (unchanged r) = refl
 
 -- A refused call leaves the model as it was, and gives its number and nothing else.
 pub refused-same : (m : Model) (c : Call) → accepts (call m c .reply .refusal) ≡ false → call m c ≡ refuse m (call m c .reply .refusal)
 unfolding call advanced
-refused-same m (submit n e) a = judged-refused m (submitRefusal m n e) (finished m (joined m (newJob (m .next) n e)) (m .next) []) (finished-none m _ _ _) a
+refused-same m (submit o) a = judged-refused m (submitRefusal m o) (finished m (joined m (newJob (m .next) o)) (m .next) []) (finished-none m _ _ _) a
 refused-same m (complete t) a = judged-refused m (completeRefusal m t) (advanced m (m .clock) (select.RunningTicket t)) (finished-none m _ _ _) a
-refused-same m tick a = judged-refused m (tickRefusal m) (advanced m (suc (m .clock)) (select.EndingAt (suc (m .clock)))) (finished-none m _ _ _) a
+refused-same m tick a = judged-refused m (tickRefusal m) (advanced m (suc (m .clock)) (ending m)) (finished-none m _ _ _) a
 refused-same m (unchanged r) a = refl
 
 -- Each refusal of a submission, with its conditions in document 01's order and no others. 1: "stack nodes 0 or above the rack's"; 2:
 -- "estimate .. outside 1 to 10,080"; 4: "64 stacks live"; 5: "ticket 999,999 has been given"; 6: "now + r × 10,080 + held above it, r
 -- being the number waiting before plus one"
-pub submit-refusal : (m : Model) (n e : ℕ) → call m (submit n e) .reply .refusal ≡ verdict
-    ((ltb n 1 || ltb (m .settings .nodes) n, refusal.NodesOutOfRange)
-    ∷ (ltb e 1 || ltb 10080 e, refusal.MinutesOutOfRange)
+pub submit-refusal : (m : Model) (o : Submission) → call m (submit o) .reply .refusal ≡ verdict
+    ((ltb (o .nodes) 1 || ltb (m .settings .nodes) (o .nodes), refusal.NodesOutOfRange)
+    ∷ (ltb (o .estimate) 1 || ltb 10080 (o .estimate), refusal.MinutesOutOfRange)
     ∷ (leb 64 (length (m .jobs)), refusal.Full)
     ∷ (ltb 999999 (m .next), refusal.NoTicketLeft)
-    ∷ (ltb 1000000 (m .clock + suc (length (keep isWaiting (m .jobs))) * 10080 + wallTime e), refusal.PastHorizon)
+    ∷ (ltb 1000000 (m .clock + suc (length (keep isWaiting (m .jobs))) * 10080 + wallTime (o .estimate)), refusal.PastHorizon)
     ∷ [])
-unfolding submitRefusal
-submit-refusal m n e = refusal-is m (submit n e)
+unfolding submitRefusal holdTime unit
+submit-refusal m o = refusal-is m (submit o)
 
 -- Nothing is refused but on its condition, and what no condition holds of is accepted.
-abbrev pub Because : Model → ℕ → ℕ → Refusal → Type 0
-Because m n e refusal.None = Fit m n e × (latestEnd m e ≤ horizon (m .settings))
-Because m n e refusal.NodesOutOfRange = (n < 1) ⊎ (m .settings .nodes < n)
-Because m n e refusal.MinutesOutOfRange = (e < 1) ⊎ (longest (m .settings) < e)
-Because m n e refusal.OpeningOutOfRange = ⊥
-Because m n e refusal.Full = slots (m .settings) ≤ length (m .jobs)
-Because m n e refusal.NoTicketLeft = lastTicket < m .next
-Because m n e refusal.PastHorizon = horizon (m .settings) < latestEnd m e
-Because m n e refusal.NotRunning = ⊥
-Because m n e refusal.ProfileTooLong = ⊥
-Because m n e refusal.Malformed = ⊥
-Because m n e refusal.TooShort = ⊥
+abbrev pub Because : Model → Submission → Refusal → Type 0
+Because m o refusal.None = Fit m o × (latestEnd m (o .estimate) ≤ horizon (m .settings))
+Because m o refusal.NodesOutOfRange = (o .nodes < 1) ⊎ (m .settings .nodes < o .nodes)
+Because m o refusal.MinutesOutOfRange = (o .estimate < 1) ⊎ (longest (m .settings) < o .estimate)
+Because m o refusal.OpeningOutOfRange = ⊥
+Because m o refusal.Full = slots (m .settings) ≤ length (m .jobs)
+Because m o refusal.NoTicketLeft = lastTicket < m .next
+Because m o refusal.PastHorizon = horizon (m .settings) < latestEnd m (o .estimate)
+Because m o refusal.NotRunning = ⊥
+Because m o refusal.ProfileTooLong = ⊥
+Because m o refusal.Malformed = ⊥
+Because m o refusal.TooShort = ⊥
 
-pub submit-because : (m : Model) (n e : ℕ) → Because m n e (submitRefusal m n e)
+pub submit-because : (m : Model) (o : Submission) → Because m o (submitRefusal m o)
 unfolding submitRefusal verdict
-submit-because m n e =
-    case (outside 1 (m .settings .nodes) n) (λ a. rw a (beyond 1 (m .settings .nodes) n a)) (λ a.
-    rw a (case (outside 1 (longest (m .settings)) e) (λ b. rw b (beyond 1 (longest (m .settings)) e b)) (λ b.
+submit-because m o =
+    case (outside 1 (m .settings .nodes) (o .nodes)) (λ a. rw a (beyond 1 (m .settings .nodes) (o .nodes) a)) (λ a.
+    rw a (case (outside 1 (longest (m .settings)) (o .estimate)) (λ b. rw b (beyond 1 (longest (m .settings)) (o .estimate) b)) (λ b.
     rw b (case (leb (slots (m .settings)) (length (m .jobs))) (λ c. rw c (leb-true (slots (m .settings)) (length (m .jobs)) c)) (λ c.
     rw c (case (ltb lastTicket (m .next)) (λ d. rw d (ltb-true lastTicket (m .next) d)) (λ d.
-    rw d (case (ltb (horizon (m .settings)) (latestEnd m e)) (λ f. rw f (ltb-true (horizon (m .settings)) (latestEnd m e) f)) (λ f.
+    rw d (case (ltb (horizon (m .settings)) (latestEnd m (o .estimate))) (λ f. rw f (ltb-true (horizon (m .settings)) (latestEnd m (o .estimate)) f)) (λ f.
     rw f (
-      fit (inside 1 (m .settings .nodes) n a) (inside 1 (longest (m .settings)) e b) (leb-false (slots (m .settings)) (length (m .jobs)) c)
+      fit (inside 1 (m .settings .nodes) (o .nodes) a) (inside 1 (longest (m .settings)) (o .estimate) b) (leb-false (slots (m .settings)) (length (m .jobs)) c)
           (ltb-false lastTicket (m .next) d),
-      ltb-false (horizon (m .settings)) (latestEnd m e) f,
+      ltb-false (horizon (m .settings)) (latestEnd m (o .estimate)) f,
     ))))))))))
   where
-    fit : (1 ≤ n) × (n ≤ m .settings .nodes) → (1 ≤ e) × (e ≤ longest (m .settings)) → length (m .jobs) < slots (m .settings) → m .next ≤ lastTicket → Fit m n e
+    fit : (1 ≤ o .nodes) × (o .nodes ≤ m .settings .nodes) → (1 ≤ o .estimate) × (o .estimate ≤ longest (m .settings)) → length (m .jobs) < slots (m .settings) → m .next ≤ lastTicket → Fit m o
     fit a b c d = record { nodes-from = a .0; nodes-to = a .1; estimate-from = b .0; estimate-to = b .1; room = c; ticket-left = d }
 
     beyond : (low high x : ℕ) → outside low high x ≡ true → (x < low) ⊎ (high < x)
@@ -289,17 +290,17 @@ submit-because m n e =
     inside : (low high x : ℕ) → outside low high x ≡ false → (low ≤ x) × (x ≤ high)
     inside low high x q = let r = neither (ltb x low) (ltb high x) q in (ltb-false x low (r .0), ltb-false high x (r .1))
 
-pub submit-accepts : (m : Model) (n e : ℕ) → Fit m n e → latestEnd m e ≤ horizon (m .settings) → submitRefusal m n e ≡ refusal.None
+pub submit-accepts : (m : Model) (o : Submission) → Fit m o → latestEnd m (o .estimate) ≤ horizon (m .settings) → submitRefusal m o ≡ refusal.None
 unfolding submitRefusal verdict
-submit-accepts m n e f l =
+submit-accepts m o f l =
     rw (
-      le-ltb n 1 (f .nodes-from),
-      le-ltb (m .settings .nodes) n (f .nodes-to),
-      le-ltb e 1 (f .estimate-from),
-      le-ltb (longest (m .settings)) e (f .estimate-to),
+      le-ltb (o .nodes) 1 (f .nodes-from),
+      le-ltb (m .settings .nodes) (o .nodes) (f .nodes-to),
+      le-ltb (o .estimate) 1 (f .estimate-from),
+      le-ltb (longest (m .settings)) (o .estimate) (f .estimate-to),
       lt-leb (slots (m .settings)) (length (m .jobs)) (f .room),
       le-ltb lastTicket (m .next) (f .ticket-left),
-      le-ltb (horizon (m .settings)) (latestEnd m e) l,
+      le-ltb (horizon (m .settings)) (latestEnd m (o .estimate)) l,
     )
 
 pub complete-because : (m : Model) (t : ℕ) → completeRefusal m t ≡ cond (any (runsAs t) (m .jobs)) refusal.None refusal.NotRunning
@@ -352,11 +353,11 @@ finished-forecasts m mid t ts = forecasts m (settled mid .model)
 -- Of every call, refused ones too.
 pub call-forecasts : (m : Model) (c : Call) → Announces m (call m c)
 unfolding call advanced
-call-forecasts m (submit n e) = judged-by (Announces m) m (submitRefusal m n e) (finished m (joined m (newJob (m .next) n e)) (m .next) [])
+call-forecasts m (submit o) = judged-by (Announces m) m (submitRefusal m o) (finished m (joined m (newJob (m .next) o)) (m .next) [])
     (λ a. finished-forecasts m _ _ _) (λ a. same-heads m)
 call-forecasts m (complete t) = judged-by (Announces m) m (completeRefusal m t) (advanced m (m .clock) (select.RunningTicket t))
     (λ a. finished-forecasts m _ _ _) (λ a. same-heads m)
-call-forecasts m tick = judged-by (Announces m) m (tickRefusal m) (advanced m (suc (m .clock)) (select.EndingAt (suc (m .clock))))
+call-forecasts m tick = judged-by (Announces m) m (tickRefusal m) (advanced m (suc (m .clock)) (ending m))
     (λ a. finished-forecasts m _ _ _) (λ a. same-heads m)
 call-forecasts m (unchanged r) = same-heads m
 
@@ -371,8 +372,8 @@ pub tick-ends : (m : Model) → accepts (call m tick .reply .refusal) ≡ true
     → call m tick .reply .ended ≡ ticketsOf (keep (λ (j : Job). isRunning j && eqb (until (m .settings) j) (suc (m .clock))) (m .jobs))
 unfolding call
 tick-ends m a =
-    ap (λ (o : Result). o .reply .ended) (judged-accepted m (tickRefusal m) (advanced m (suc (m .clock)) (select.EndingAt (suc (m .clock)))) a .1)
-    ∙ advanced-ended m (suc (m .clock)) (select.EndingAt (suc (m .clock)))
+    ap (λ (o : Result). o .reply .ended) (judged-accepted m (tickRefusal m) (advanced m (suc (m .clock)) (ending m)) a .1)
+    ∙ advanced-ended m (suc (m .clock)) (ending m)
 
 -- An accepted early end ends that ticket alone.
 pub complete-ends : (m : Model) (t : ℕ) → Sound m → accepts (call m (complete t) .reply .refusal) ≡ true → call m (complete t) .reply .ended ≡ t ∷ []
@@ -417,9 +418,9 @@ moved-waited {m} x u w = go x (w .job) (w .isin) (w .waits) (w .named)
 
     go : {c : Call} {mid : Model} {t : ℕ} {ts : List ℕ} → OwnPart m c mid t ts → (j : Job) → In j (mid .jobs) → isWaiting j ≡ true → j .ticket ≡ u
         → Waits m u ⊎ (u ≡ t)
-    go (submits n e f room) j i q z = either-way j (newJob (m .next) n e) q z (in-append (m .jobs) i)
+    go (submits o f room) j i q z = either-way j (newJob (m .next) o) q z (in-append (m .jobs) i)
     go (completes t a) j i q z = inl (stays (select.RunningTicket t) j i q z)
-    go (ticks l) j i q z = inl (stays (select.EndingAt (suc (m .clock))) j i q z)
+    go (ticks l) j i q z = inl (stays (ending m) j i q z)
 
 -- after a settling no job that it started waits
 settles-runs : (t : ℕ) {m m′ : Model} {ts : List ℕ} → Settles m m′ ts → elem t ts ≡ true → Waits m′ t → ⊥
@@ -472,7 +473,7 @@ call-starts m c v =
 -- ## Tickets
 
 moved-next : {m : Model} {c : Call} {mid : Model} {t : ℕ} {ts : List ℕ} (x : OwnPart m c mid t ts) → mid .next ≡ nextAfter (joiner x) (m .next)
-moved-next (submits n e f room) = refl
+moved-next (submits o f room) = refl
 moved-next (completes t a) = refl
 moved-next (ticks l) = refl
 
@@ -486,7 +487,7 @@ call-next m c v =
     (called m c v)
 
 -- an accepted submission answers the next ticket
-pub submit-ticket : (m : Model) (n e : ℕ) → accepts (call m (submit n e) .reply .refusal) ≡ true → call m (submit n e) .reply .ticket ≡ m .next
+pub submit-ticket : (m : Model) (o : Submission) → accepts (call m (submit o) .reply .refusal) ≡ true → call m (submit o) .reply .ticket ≡ m .next
 unfolding call finished
-submit-ticket m n e a = ap (λ (o : Result). o .reply .ticket)
-    (judged-accepted m (submitRefusal m n e) (finished m (joined m (newJob (m .next) n e)) (m .next) []) a .1)
+submit-ticket m o a = ap (λ (r : Result). r .reply .ticket)
+    (judged-accepted m (submitRefusal m o) (finished m (joined m (newJob (m .next) o)) (m .next) []) a .1)

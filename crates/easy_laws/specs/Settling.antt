@@ -3,7 +3,7 @@
 use Prim.Native.Nat.{ℕ, zero, suc, _+_, _≤_, _<_}
 use native.Mathlib.Omega.{arith}
 use mathlib.Core.Path.{_≡_, refl, sym, ap, subst, _∙_}
-use mathlib.Core.Bool.{true, false, not, cond}
+use mathlib.Core.Bool.{Bool, true, false, not, cond}
 use mathlib.Core.Option.{Option, none, some}
 use mathlib.Core.List.{List, [], _∷_, map}
 use lib.Dec.{leb, eqb}
@@ -12,17 +12,17 @@ use borrow.Author.Tests.{leb-true, leb-false, le-leb, lt-leb, eqb-true, eqb-fals
 use Rattle.lists.specs.Tests.{case, true-false, on, both}
 use Rattle.lists.specs.Lists.{keep, first, elem, sum, In, here, there, map-in, keep-in, first-in, map-same, sum-cong, sum-zero, length-keep}
 use Rattle.lists.specs.Least.{least-from, least-to, least-holds, least-min}
-use Rattle.walltime.specs.Laws.{wallTime-mono, wallTime-pos}
 use Rattle.scheduler.specs.declared.State.{State}
 use Rattle.scheduler.specs.declared.State.the-variants.{Unused, Waiting, Running}
 use Rattle.scheduler.specs.declared.Job.{Job}
-use Rattle.scheduler.specs.Jobs.{waiting?, running?, isWaiting, isRunning, held}
+use Rattle.scheduler.specs.Jobs.{waiting?, running?, holding?, isWaiting, isRunning, isHolding, held}
 use Rattle.scheduler.specs.declared.Settings.{Settings}
-use Rattle.scheduler.specs.Settings.{horizon, longest, holdTime, unit, until}
+use Rattle.scheduler.specs.Settings.{horizon, holdTime, unit, until}
+use Rattle.scheduler.specs.Times.{hold-pos, until-at}
 use Rattle.scheduler.specs.Table.{ticketOf, ticketsOf}
 use Rattle.scheduler.specs.Model.{Model}
 use Rattle.jobs.specs.Order.{Asc, asc-in, asc-same, asc-one}
-use Rattle.jobs.specs.Soundness.{Sound, SoundJob}
+use Rattle.jobs.specs.Soundness.{Sound, SoundJob, holds-short}
 use Rattle.lists.specs.FirstLaws.{first-none}
 use Rattle.easy_rules.specs.Easy.{queue, free, overBy, freed, avail, shadow, qualifies, pick, choice, begun, mark, begin, settle, settled}
 
@@ -41,19 +41,12 @@ module _ (m : Model) (n : ℕ) where
   unfolding shadow
   shadow-min t h l = least-min (λ (t : ℕ). leb n (avail m t)) (unit (m .settings)) (m .clock) t (le-leb n (avail m t) h) l
 
--- no job holds nodes for longer than the unit
-pub hold-short : (S : Settings) (e : ℕ) → e ≤ longest S → holdTime S e ≤ unit S
-hold-short S e l = wallTime-mono e (longest S) l
-
-pub hold-positive : (S : Settings) (e : ℕ) → 1 ≤ e → 1 ≤ holdTime S e
-hold-positive S e l = wallTime-pos e l
-
 -- a running job has ended by its end, and not before
-pub ended-by : (S : Settings) (t : ℕ) (j : Job) → isRunning j ≡ true → until S j ≤ t → overBy S t j ≡ true
+pub ended-by : (S : Settings) (t : ℕ) (j : Job) → isHolding j ≡ true → until S j ≤ t → overBy S t j ≡ true
 ended-by S t j r l = rw r (le-leb _ t (omega arith))
 
-pub not-ended : (S : Settings) (t : ℕ) (j : Job) → (isRunning j ≡ true → t < until S j) → overBy S t j ≡ false
-not-ended S t j l = case (isRunning j) (λ r. rw r (lt-leb _ t (omega (arith, l r)))) (λ r. rw r)
+pub not-ended : (S : Settings) (t : ℕ) (j : Job) → (isHolding j ≡ true → t < until S j) → overBy S t j ≡ false
+not-ended S t j l = case (isHolding j) (λ r. rw r (lt-leb _ t (omega (arith, l r)))) (λ r. rw r)
 
 -- a unit from now all nodes are free
 pub avail-all : (m : Model) → Sound m → avail m (m .clock + unit (m .settings)) ≡ m .settings .nodes
@@ -63,10 +56,10 @@ avail-all m s =
   where
     ended : (j : Job) → SoundJob (m .settings) (m .clock) j → freed (m .settings) (m .clock + unit (m .settings)) j ≡ held j
     ended j f =
-        case (isRunning j)
+        case (isHolding j)
         (λ r. rw (
           ended-by (m .settings) (m .clock + unit (m .settings)) j r
-              (omega (arith, f .runs r, hold-short (m .settings) (j .estimate) (f .estimate-to))),
+              (holds-short (m .settings) (m .clock) j f r),
           r,
         ))
         (λ r. rw r)
@@ -83,7 +76,7 @@ pub avail-now : (m : Model) (t : ℕ) → Sound m → t ≤ m .clock → avail m
 avail-now m t s l = omega (arith, sum-zero (freed (m .settings) t) (m .jobs) (λ j i. later j (s .each j i)))
   where
     later : (j : Job) → SoundJob (m .settings) (m .clock) j → freed (m .settings) t j ≡ 0
-    later j f = rw (not-ended (m .settings) t j (λ r. omega (arith, f .runs r)))
+    later j f = rw (not-ended (m .settings) t j (λ r. omega (arith, f .holds r)))
 
 -- ## The job that starts next
 
@@ -134,14 +127,21 @@ chosen m j e =
 
 -- ## One start
 
--- a job that waits does not run
-pub idle : (j : Job) → isWaiting j ≡ true → isRunning j ≡ false
-idle j e = by (j .state) e
+-- of a job that waits a test says what it says of those that wait
+waits-by : (p : State → Bool) (j : Job) → isWaiting j ≡ true → p (j .state) ≡ p Waiting
+waits-by p j e = by (j .state) e
   where
-    by : (s : State) → waiting? s ≡ true → running? s ≡ false
-    by Unused e = refl
+    by : (s : State) → waiting? s ≡ true → p s ≡ p Waiting
+    by Unused e = true-false false e refl
     by Waiting e = refl
     by Running e = true-false false e refl
+
+-- it holds no nodes, and does not run
+pub idle : (j : Job) → isWaiting j ≡ true → isHolding j ≡ false
+idle j e = waits-by holding? j e
+
+pub not-running : (j : Job) → isWaiting j ≡ true → isRunning j ≡ false
+not-running j e = waits-by running? j e
 
 pub mark-ticket : (now t : ℕ) (j : Job) → mark now t j .ticket ≡ j .ticket
 mark-ticket now t j = case (eqb (j .ticket) t) (λ e. rw e) (λ e. rw e)
@@ -225,8 +225,8 @@ sound-begin m j s c room = record {
           nodes-to = f .nodes-to;
           estimate-from = f .estimate-from;
           estimate-to = f .estimate-to;
-          ends = rw e room;
-          runs = λ r. omega (arith, hold-positive (m .settings) (k .estimate) (f .estimate-from));
+          ends = rw (until-at (m .settings) Running (m .clock) k, e) room;
+          holds = λ r. omega (arith, until-at (m .settings) Running (m .clock) k, hold-pos (m .settings) (k .estimate) (f .estimate-from));
         }
 
 -- ## The settling, as it goes

@@ -12,8 +12,10 @@ use borrow.Author.Tests.{ltb-false, eqb-false, not-false}
 use Rattle.lists.specs.Tests.{case, true-false}
 use Rattle.lists.specs.Lists.{keep, any, elem, In, in-nil, in-cons, in-append, keep-in}
 use Rattle.scheduler.specs.declared.Kind.the-variants.{Easy}
+use Rattle.scheduler.specs.declared.State.the-variants.{Waiting}
 use Rattle.scheduler.specs.declared.Job.{Job}
 use Rattle.scheduler.specs.declared.Opening.{Opening}
+use Rattle.scheduler.specs.declared.Submission.{Submission}
 use Rattle.scheduler.specs.declared.Refusal.{Refusal}
 use Rattle.scheduler.specs.declared.Refusal.the-variants as refusal
 use Rattle.scheduler.specs.declared.Select.{Select}
@@ -21,8 +23,9 @@ use Rattle.scheduler.specs.declared.Select.the-variants as select
 use Rattle.scheduler.specs.Jobs.{isWaiting, picks}
 use Rattle.scheduler.specs.declared.Settings.{Settings}
 use Rattle.scheduler.specs.Settings.{refusedSettings, horizon, holdTime, unit}
+use Rattle.scheduler.specs.Times.{until-fresh}
 use Rattle.scheduler.specs.Table.{ticketsOf}
-use Rattle.scheduler.specs.Model.{Model, empty, joined, without}
+use Rattle.scheduler.specs.Model.{Model, ending, empty, joined, without}
 use Rattle.scheduler.specs.Answers.{Result, accepts, refusing, refuse}
 use Rattle.scheduler.specs.Refusals.{judged, completeRefusal, tickRefusal}
 use Rattle.scheduler.specs.Opening.{openingRefusal, opening}
@@ -103,11 +106,11 @@ settles-keeps u b (start {m = m} j e s) r o =
 -- ## What a call does before it settles
 
 pub data OwnPart (m : Model) : Call → Model → ℕ → List ℕ → Type 0 where
-  submits : (n e : ℕ) → Fit m n e → latestEnd m e ≤ horizon (m .settings) → OwnPart m (submit n e) (joined m (newJob (m .next) n e)) (m .next) []
+  submits : (o : Submission) → Fit m o → latestEnd m (o .estimate) ≤ horizon (m .settings) → OwnPart m (submit o) (joined m (newJob (m .next) o)) (m .next) []
   completes : (t : ℕ) → any (picks (select.RunningTicket t)) (m .jobs) ≡ true
       → OwnPart m (complete t) (without m (m .clock) (select.RunningTicket t)) 0 (ticketsOf (keep (picks (select.RunningTicket t)) (m .jobs)))
   ticks : suc (m .clock) ≤ horizon (m .settings)
-      → OwnPart m tick (without m (suc (m .clock)) (select.EndingAt (suc (m .clock)))) 0 (ticketsOf (keep (picks (select.EndingAt (suc (m .clock)))) (m .jobs)))
+      → OwnPart m tick (without m (suc (m .clock)) (ending m)) 0 (ticketsOf (keep (picks (ending m)) (m .jobs)))
 
 module _ (m : Model) (v : Valid m) where
   leave-ready : (c : ℕ) (p : Select) → Leaving m c p → Ready (without m c p)
@@ -123,54 +126,54 @@ module _ (m : Model) (v : Valid m) where
       old : (j : Job) → In j (without m c p .jobs) → In j (m .jobs)
       old j i = keep-in (λ (j : Job). not (picks p j)) (m .jobs) i .0
 
-  join-ready : (n e : ℕ) → Fit m n e → latestEnd m e ≤ horizon (m .settings) → Ready (joined m (newJob (m .next) n e))
-  join-ready n e f room = record {
+  join-ready : (o : Submission) → Fit m o → latestEnd m (o .estimate) ≤ horizon (m .settings) → Ready (joined m (newJob (m .next) o))
+  join-ready o f room = record {
     kind = v .ready .kind;
-    sound = sound-join m n e (newJob (m .next) n e) (v .ready .sound) f fresh refl (omega (arith, v .ready .sound .capacity));
+    sound = sound-join m o (newJob (m .next) o) (v .ready .sound) f fresh refl (omega (arith, v .ready .sound .capacity));
     promises = each (λ (k : Job). k .promise ≡ 0) (v .ready .promises) refl;
     starts = each (λ (k : Job). isWaiting k ≡ true → k .start ≡ 0) (v .ready .starts) (λ w. refl);
     room =
-        each (λ (k : Job). isWaiting k ≡ true → Room (joined m (newJob (m .next) n e)) k)
+        each (λ (k : Job). isWaiting k ≡ true → Room (joined m (newJob (m .next) o)) k)
         (λ k i w. let x = v .ready .room k i w in
-        (x .0, eased m (joined m (newJob (m .next) n e)) (k .ticket) (x .0) (v .ready .sound) (v .rests) (join-eases m n e) (x .1), x .2))
-        (λ w. (m .clock + rank m * unit (m .settings), join-course m n e, room));
+        (x .0, eased m (joined m (newJob (m .next) o)) (k .ticket) (x .0) (v .ready .sound) (v .rests) (join-eases m o) (x .1), x .2))
+        (λ w. (m .clock + rank m * unit (m .settings), join-course m o, room));
   }
     where
-      each : (P : Job → Type 0) → ((j : Job) → In j (m .jobs) → P j) → P (newJob (m .next) n e) → (k : Job) → In k (joined m (newJob (m .next) n e) .jobs) → P k
+      each : (P : Job → Type 0) → ((j : Job) → In j (m .jobs) → P j) → P (newJob (m .next) o) → (k : Job) → In k (joined m (newJob (m .next) o) .jobs) → P k
       each P f p k i = by (in-append (m .jobs) i)
         where
-          last : (k ≡ newJob (m .next) n e) ⊎ In k [] → P k
+          last : (k ≡ newJob (m .next) o) ⊎ In k [] → P k
           last (inl q) = subst P (sym q) p
           last (inr u) = in-nil u
 
-          by : In k (m .jobs) ⊎ In k (newJob (m .next) n e ∷ []) → P k
+          by : In k (m .jobs) ⊎ In k (newJob (m .next) o ∷ []) → P k
           by (inl o) = f k o
           by (inr o) = last (in-cons o)
 
-      fresh : SoundJob (m .settings) (m .clock) (newJob (m .next) n e)
+      fresh : SoundJob (m .settings) (m .clock) (newJob (m .next) o)
       fresh = record {
         is-live = refl;
         nodes-from = f .nodes-from;
         nodes-to = f .nodes-to;
         estimate-from = f .estimate-from;
         estimate-to = f .estimate-to;
-        ends = omega (arith, room);
-        runs = λ r. true-false false r refl;
+        ends = omega (arith, room, until-fresh (m .settings) (m .next) o Waiting 0 0);
+        holds = λ r. true-false false r refl;
       }
 
 pub moved-ready : {m : Model} {c : Call} {mid : Model} {t : ℕ} {ts : List ℕ} → OwnPart m c mid t ts → Valid m → Ready mid
-moved-ready {m} (submits n e f room) v = join-ready m v n e f room
+moved-ready {m} (submits o f room) v = join-ready m v o f room
 moved-ready {m} (completes t a) v = leave-ready m v (m .clock) (select.RunningTicket t) (early t)
-moved-ready {m} (ticks l) v = leave-ready m v (suc (m .clock)) (select.EndingAt (suc (m .clock))) (in-time l)
+moved-ready {m} (ticks l) v = leave-ready m v (suc (m .clock)) (ending m) (in-time l)
 
 pub moved-eases : {m : Model} {c : Call} {mid : Model} {t : ℕ} {ts : List ℕ} → OwnPart m c mid t ts → Sound m → Eases m mid
-moved-eases {m} (submits n e f room) s = join-eases m n e
+moved-eases {m} (submits o f room) s = join-eases m o
 moved-eases {m} (completes t a) s = leave-eases m (m .clock) (select.RunningTicket t) s (early t)
-moved-eases {m} (ticks l) s = leave-eases m (suc (m .clock)) (select.EndingAt (suc (m .clock))) s (in-time l)
+moved-eases {m} (ticks l) s = leave-eases m (suc (m .clock)) (ending m) s (in-time l)
 
 -- who comes by it
 abbrev pub joiner : {m : Model} {c : Call} {mid : Model} {t : ℕ} {ts : List ℕ} → OwnPart m c mid t ts → List Newcomer
-joiner {m} (submits n e f room) = record { ticket = m .next; nodes = n; promise = 0 } ∷ []
+joiner {m} (submits o f room) = record { ticket = m .next; nodes = o .nodes; promise = 0 } ∷ []
 joiner (completes t a) = []
 joiner (ticks l) = []
 
@@ -196,7 +199,7 @@ taken-came m c o t = by (t .moved) refl (t .accepted) (t .promise)
   where
     by : {c : Call} {mid : Model} {u : ℕ} {ts : List ℕ} (x : OwnPart m c mid u ts) → o .reply .ticket ≡ u
         → o .reply .refusal ≡ refusal.None → o .reply .promise ≡ 0 → newsOf c (o .reply) .came ≡ joiner x
-    by (submits n e f room) q a p = rw (a, q, p)
+    by (submits o f room) q a p = rw (a, q, p)
     by (completes t y) q a p = rw a
     by (ticks l) q a p = rw a
 
@@ -213,12 +216,12 @@ judge m c r o f = case (accepts r) (λ e. rw e (inl (f e))) (λ e. rw e (inr (re
 
 -- what is accepted moves the model
 module _ (m : Model) where
-  pub submit-moves : (n e : ℕ) → accepts (submitRefusal m n e) ≡ true → OwnPart m (submit n e) (joined m (newJob (m .next) n e)) (m .next) []
+  pub submit-moves : (o : Submission) → accepts (submitRefusal m o) ≡ true → OwnPart m (submit o) (joined m (newJob (m .next) o)) (m .next) []
   unfolding submitRefusal
-  submit-moves n e a =
-      let f = submit-fit m n e _ a in
-      let p = passed (ltb (horizon (m .settings)) (latestEnd m e)) refusal.PastHorizon [] refl (f .1) in
-      submits n e (f .0) (ltb-false (horizon (m .settings)) (latestEnd m e) (p .0))
+  submit-moves o a =
+      let f = submit-fit m o _ a in
+      let p = passed (ltb (horizon (m .settings)) (latestEnd m (o .estimate))) refusal.PastHorizon [] refl (f .1) in
+      submits o (f .0) (ltb-false (horizon (m .settings)) (latestEnd m (o .estimate)) (p .0))
 
   pub complete-moves : (t : ℕ) → accepts (completeRefusal m t) ≡ true
       → OwnPart m (complete t) (without m (m .clock) (select.RunningTicket t)) 0 (ticketsOf (keep (picks (select.RunningTicket t)) (m .jobs)))
@@ -228,7 +231,7 @@ module _ (m : Model) where
       completes t (not-false (any (picks (select.RunningTicket t)) (m .jobs)) (p .0))
 
   pub tick-moves : accepts (tickRefusal m) ≡ true
-      → OwnPart m tick (without m (suc (m .clock)) (select.EndingAt (suc (m .clock)))) 0 (ticketsOf (keep (picks (select.EndingAt (suc (m .clock)))) (m .jobs)))
+      → OwnPart m tick (without m (suc (m .clock)) (ending m)) 0 (ticketsOf (keep (picks (ending m)) (m .jobs)))
   unfolding tickRefusal
   tick-moves a =
       let p = passed (ltb (horizon (m .settings)) (suc (m .clock))) refusal.PastHorizon [] refl a in
@@ -236,14 +239,14 @@ module _ (m : Model) where
 
 pub called : (m : Model) (c : Call) → Valid m → CallAccepted m c (call m c) ⊎ Unchanged m c (call m c)
 unfolding call advanced
-called m (submit n e) v =
-    judge m (submit n e) (submitRefusal m n e) (finished m (joined m (newJob (m .next) n e)) (m .next) [])
-    (λ a. let x = submit-moves m n e a in finished-taken m (submit n e) (joined m (newJob (m .next) n e)) (m .next) [] x (moved-ready x v))
+called m (submit o) v =
+    judge m (submit o) (submitRefusal m o) (finished m (joined m (newJob (m .next) o)) (m .next) [])
+    (λ a. let x = submit-moves m o a in finished-taken m (submit o) (joined m (newJob (m .next) o)) (m .next) [] x (moved-ready x v))
 called m (complete t) v =
     judge m (complete t) (completeRefusal m t) (advanced m (m .clock) (select.RunningTicket t))
     (λ a. let x = complete-moves m t a in finished-taken m (complete t) _ 0 _ x (moved-ready x v))
 called m tick v =
-    judge m tick (tickRefusal m) (advanced m (suc (m .clock)) (select.EndingAt (suc (m .clock))))
+    judge m tick (tickRefusal m) (advanced m (suc (m .clock)) (ending m))
     (λ a. let x = tick-moves m a in finished-taken m tick _ 0 _ x (moved-ready x v))
 called m (unchanged r) v = inr (record { why = r; same = refl; silent = unchanged-news r r })
 

@@ -10,9 +10,10 @@ use Rattle.scheduler.specs.declared.Refusal.{Refusal}
 use Rattle.scheduler.specs.declared.Refusal.the-variants as refusal
 use Rattle.scheduler.specs.Model.{Model}
 use Rattle.scheduler.specs.Answers.{verdict}
+use Rattle.scheduler.specs.Settings as times
 use Rattle.scheduler.specs.Refusals as refusals
 use Rattle.scheduler.specs.Opening.{openingRefusal, opening}
-use Rattle.history.specs.Calls.{Call, submit, complete, after}
+use Rattle.history.specs.Calls.{Call, submit, order, complete, after}
 use Rattle.easy_rules.specs.Easy.{rank, shadow, extra, qualifies, pick, settle, forecast, finished, submitRefusal, advanced, call}
 
 abbrev fresh : ℕ → ℕ → Model
@@ -20,7 +21,7 @@ fresh nodes minute = opening (record { settings = record { kind = Easy; nodes = 
 
 -- "on a rack of 10 at minute 0, after `in 6 20` and `in 8 10`"
 abbrev waited-for : Model
-waited-for = after call (fresh 10 0) (submit 6 20 ∷ submit 8 10 ∷ [])
+waited-for = after call (fresh 10 0) (submit (order 6 20) ∷ submit (order 8 10) ∷ [])
 
 -- the start and the promise in each record
 abbrev stored : Model → List (ℕ × ℕ)
@@ -31,26 +32,26 @@ started m c = call m c .reply .started
 
 -- "rack of 10, running 5 and 3 nodes, both to 20, head needing 4"
 abbrev together : Model
-together = after call (fresh 10 0) (submit 5 20 ∷ submit 3 20 ∷ submit 4 5 ∷ [])
+together = after call (fresh 10 0) (submit (order 5 20) ∷ submit (order 3 20) ∷ submit (order 4 5) ∷ [])
 
 -- 6 nodes run to 20 and 4 to 100; the head needs 8, and two later jobs 2 each for 200 minutes
 abbrev one-may-pass : Model
-one-may-pass = after call (fresh 10 0) (submit 6 20 ∷ submit 4 100 ∷ submit 8 5 ∷ submit 2 200 ∷ submit 2 200 ∷ [])
+one-may-pass = after call (fresh 10 0) (submit (order 6 20) ∷ submit (order 4 100) ∷ submit (order 8 5) ∷ submit (order 2 200) ∷ submit (order 2 200) ∷ [])
 
 -- the answer to the first job of a machine of 4 nodes, submitted at that minute
 abbrev alone : ℕ → ℕ → Refusal
-alone minute e = call (fresh 4 minute) (submit 1 e) .reply .refusal
+alone minute e = call (fresh 4 minute) (submit (order 1 e)) .reply .refusal
 
-pub examples : (call (call (fresh 10 0) (submit 6 20) .model) (submit 8 10) .reply .head ≡ some (record { ticket = 2; minute = 20 }))
+pub examples : (call (call (fresh 10 0) (submit (order 6 20)) .model) (submit (order 8 10)) .reply .head ≡ some (record { ticket = 2; minute = 20 }))
     -- "on the Loose Desk the promise, and a waiting stack's start, are 0"
-    × (stored (after call (fresh 10 5) (submit 6 20 ∷ submit 8 10 ∷ [])) ≡ (5, 0) ∷ (0, 0) ∷ [])
+    × (stored (after call (fresh 10 5) (submit (order 6 20) ∷ submit (order 8 10) ∷ [])) ≡ (5, 0) ∷ (0, 0) ∷ [])
     -- "r being the number waiting before plus one"
     × (rank waited-for ≡ 2)
     × (shadow waited-for 8 ≡ 20)
     × (extra waited-for 8 ≡ 2)
-    × (started waited-for (submit 4 20) ≡ 3 ∷ [])
-    × (started waited-for (submit 2 100) ≡ 3 ∷ [])
-    × (started waited-for (submit 3 21) ≡ [])
+    × (started waited-for (submit (order 4 20)) ≡ 3 ∷ [])
+    × (started waited-for (submit (order 2 100)) ≡ 3 ∷ [])
+    × (started waited-for (submit (order 3 21)) ≡ [])
     × (extra together 4 ≡ 6)
     -- the first that passes takes the extra nodes, and the rules are tested afresh for the second
     × (started one-may-pass (complete 1) ≡ 4 ∷ [])
@@ -61,6 +62,9 @@ unfolding
     opening
     openingRefusal
     verdict
+    times.holdTime
+    times.unit
+    times.until
     refusals.completeRefusal
     shadow
     extra

@@ -11,15 +11,16 @@ use Rattle.lists.specs.Lists.{keep, first, sum}
 use Rattle.lists.specs.Least.{least}
 use Rattle.scheduler.specs.declared.State.the-variants.{Waiting, Running}
 use Rattle.scheduler.specs.declared.Job.{Job}
+use Rattle.scheduler.specs.declared.Submission.{Submission}
 use Rattle.scheduler.specs.declared.Refusal.{Refusal}
 use Rattle.scheduler.specs.declared.Refusal.the-variants as refusal
 use Rattle.scheduler.specs.declared.Select.{Select}
 use Rattle.scheduler.specs.declared.Select.the-variants as select
-use Rattle.scheduler.specs.Jobs.{isWaiting, isRunning, picks}
+use Rattle.scheduler.specs.Jobs.{isWaiting, isHolding, fresh, jobAt, picks}
 use Rattle.scheduler.specs.declared.Settings.{Settings}
 use Rattle.scheduler.specs.Settings.{horizon, holdTime, unit, until}
 use Rattle.scheduler.specs.Table.{nodesHeld, ticketsOf}
-use Rattle.scheduler.specs.Model.{Model, joined, without}
+use Rattle.scheduler.specs.Model.{Model, ending, joined, without}
 use Rattle.scheduler.specs.Answers.{Result, Forecast, verdict, refuse}
 use Rattle.scheduler.specs.Refusals.{judged, submitTests, completeRefusal, tickRefusal}
 use Rattle.history.specs.Calls.{Rules, submit, complete, tick, unchanged}
@@ -37,9 +38,9 @@ head m = head? (queue (m .jobs))
 abbrev pub free : Model → ℕ
 free m = m .settings .nodes - nodesHeld (m .jobs)
 
--- "running stacks with end ≤ that minute"
+-- "running stacks with end ≤ that minute": those whose nodes are free again by then
 abbrev pub overBy : Settings → ℕ → Job → Bool
-overBy S t j = isRunning j && leb (until S j) t
+overBy S t j = isHolding j && leb (until S j) t
 
 abbrev pub freed : Settings → ℕ → Job → ℕ
 freed S t j = on (overBy S t j) (j .nodes)
@@ -74,14 +75,7 @@ choice m = pick m (queue (m .jobs))
 
 -- a job that starts now
 abbrev pub begun : ℕ → Job → Job
-begun now j = record {
-  ticket = j .ticket;
-  nodes = j .nodes;
-  estimate = j .estimate;
-  state = Running;
-  start = now;
-  promise = j .promise;
-}
+begun now j = jobAt Running now j
 
 abbrev pub mark : ℕ → ℕ → Job → Job
 mark now t j = cond (eqb (j .ticket) t) (begun now j) j
@@ -139,19 +133,19 @@ finished before m ticket ended =
     }
 
 -- "on the Loose Desk the promise, and a waiting stack's start, are 0"
-abbrev pub newJob : ℕ → ℕ → ℕ → Job
-newJob t n e = record { ticket = t; nodes = n; estimate = e; state = Waiting; start = 0; promise = 0 }
+abbrev pub newJob : ℕ → Submission → Job
+newJob t o = fresh t o Waiting 0 0
 
 -- "r being the number waiting before plus one"
 abbrev pub rank : Model → ℕ
 rank m = suc (length (queue (m .jobs)))
 
 -- "intake 1, 2, 4, 5, 6"; 6: "now + r × 10,080 + held above it"
-unfoldable pub submitRefusal : Model → ℕ → ℕ → Refusal
-submitRefusal m n e =
+unfoldable pub submitRefusal : Model → Submission → Refusal
+submitRefusal m o =
     verdict
-    (submitTests m n e
-    ((ltb (horizon (m .settings)) (m .clock + rank m * unit (m .settings) + holdTime (m .settings) e), refusal.PastHorizon)
+    (submitTests m o
+    ((ltb (horizon (m .settings)) (m .clock + rank m * unit (m .settings) + holdTime (m .settings) (o .estimate)), refusal.PastHorizon)
     ∷ []))
 
 -- an early end, or a tick: those that a test picks leave, and the others settle
@@ -160,7 +154,7 @@ advanced m clock s = finished m (without m clock s) 0 (ticketsOf (keep (picks s)
 
 -- "After an intake (at the end of the queue), an early end or a minute step as above, the desk settles".
 unfoldable pub call : Rules
-call m (submit n e) = judged m (submitRefusal m n e) (finished m (joined m (newJob (m .next) n e)) (m .next) [])
+call m (submit o) = judged m (submitRefusal m o) (finished m (joined m (newJob (m .next) o)) (m .next) [])
 call m (complete t) = judged m (completeRefusal m t) (advanced m (m .clock) (select.RunningTicket t))
-call m tick = judged m (tickRefusal m) (advanced m (suc (m .clock)) (select.EndingAt (suc (m .clock))))
+call m tick = judged m (tickRefusal m) (advanced m (suc (m .clock)) (ending m))
 call m (unchanged r) = refuse m r

@@ -9,7 +9,7 @@ use Rattle.lists.specs.Lists.{in-nil}
 use Rattle.scheduler.specs.declared.Kind.{Kind}
 use Rattle.scheduler.specs.declared.Opening.{Opening}
 use Rattle.scheduler.specs.declared.Settings.{Settings}
-use Rattle.scheduler.specs.Settings.{unit}
+use Rattle.scheduler.specs.Settings.{holdTime, unit}
 use Rattle.scheduler.specs.Model.{Model}
 use Rattle.scheduler.specs.Opening.{opening}
 use Rattle.history.specs.Calls.{Call, Command, Event, events, allCalls}
@@ -32,6 +32,7 @@ bookOf m es = bookFrom m (blank m) es
 
 -- "Its bound is the clock at intake + r × 10,080"
 pub unit-is : (S : Settings) → unit S ≡ 10080
+unfolding unit holdTime
 unit-is S = refl
 
 -- For every opening, a refused one too, and every list of calls: with the words by the calls and their answers, promises are kept,

@@ -17,7 +17,7 @@ use Rattle.scheduler.specs.declared.Select.{Select}
 use Rattle.scheduler.specs.declared.Select.the-variants as select
 use Rattle.scheduler.specs.Jobs.{picks, isWaiting, isRunning}
 use Rattle.scheduler.specs.Table.{ticketOf, ticketsOf, staying}
-use Rattle.scheduler.specs.Model.{Model, joined, without}
+use Rattle.scheduler.specs.Model.{Model, ending, joined, without}
 use Rattle.scheduler.specs.declared.Refusal.{Refusal}
 use Rattle.scheduler.specs.Answers.{Result, refuse}
 use Rattle.scheduler.specs.Refusals.{completeRefusal, tickRefusal}
@@ -79,24 +79,24 @@ unfolding
     easy.call
     easy.submitRefusal
     easy.advanced
-fits-by Conservative m (submit n e) h =
-    let s = conservative.planned m n e in
-    judged-by FitsAnswer m (conservative.submitRefusal m n e s) (conservative.submitted m n e s)
+fits-by Conservative m (submit o) h =
+    let s = conservative.planned m o in
+    judged-by FitsAnswer m (conservative.submitRefusal m o s) (conservative.submitted m o s)
     (λ a. record { ended = omega arith; started = case (eqb s (m .clock)) (λ q. rw q (omega arith)) (λ q. rw q (omega arith)) })
     (λ a. refused-fits m _)
 fits-by Conservative m (complete t) h = judged-by FitsAnswer m (completeRefusal m t) (conservative.completed m t) (λ a. advanced-fits m _ _ _ h)
     (λ a. refused-fits m _)
 fits-by Conservative m tick h = judged-by FitsAnswer m (tickRefusal m) (conservative.ticked m) (λ a. advanced-fits m _ _ _ h) (λ a. refused-fits m _)
 fits-by Conservative m (unchanged r) h = refused-fits m _
-fits-by Easy m (submit n e) h =
-    let j = easy.newJob (m .next) n e in
-    judged-by FitsAnswer m (easy.submitRefusal m n e) (easy.finished m (joined m j) (m .next) [])
-    (λ a. finished-fits m (joined m j) (m .next) [] (omega arith) (omega (arith, submit-fit m n e _ a .0 .room, length-append (m .jobs) (j ∷ []))))
+fits-by Easy m (submit o) h =
+    let j = easy.newJob (m .next) o in
+    judged-by FitsAnswer m (easy.submitRefusal m o) (easy.finished m (joined m j) (m .next) [])
+    (λ a. finished-fits m (joined m j) (m .next) [] (omega arith) (omega (arith, submit-fit m o _ a .0 .room, length-append (m .jobs) (j ∷ []))))
     (λ a. refused-fits m _)
 fits-by Easy m (complete t) h = judged-by FitsAnswer m (completeRefusal m t) (easy.advanced m (m .clock) (select.RunningTicket t))
     (λ a. leaving-fits m _ (select.RunningTicket t) h) (λ a. refused-fits m _)
-fits-by Easy m tick h = judged-by FitsAnswer m (tickRefusal m) (easy.advanced m (suc (m .clock)) (select.EndingAt (suc (m .clock))))
-    (λ a. leaving-fits m _ (select.EndingAt (suc (m .clock))) h) (λ a. refused-fits m _)
+fits-by Easy m tick h = judged-by FitsAnswer m (tickRefusal m) (easy.advanced m (suc (m .clock)) (ending m))
+    (λ a. leaving-fits m _ (ending m) h) (λ a. refused-fits m _)
 fits-by Easy m (unchanged r) h = refused-fits m _
 
 pub call-fits : (m : Model) (c : Call) → length (m .jobs) ≤ 64 → FitsAnswer (call m c)

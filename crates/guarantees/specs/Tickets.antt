@@ -7,13 +7,14 @@ use mathlib.Core.List.{List, [], _∷_, _++_, map}
 use Prim.Native.Nat.{ℕ, suc}
 use Rattle.lists.specs.Tests.{case}
 use Rattle.lists.specs.Lists.{keep}
+use Rattle.scheduler.specs.declared.Submission.{Submission}
 use Rattle.scheduler.specs.declared.Kind.{Kind}
 use Rattle.scheduler.specs.declared.Kind.the-variants.{Conservative, Easy}
 use Rattle.scheduler.specs.declared.Select.{Select}
 use Rattle.scheduler.specs.declared.Select.the-variants as select
 use Rattle.scheduler.specs.Jobs.{picks}
 use Rattle.scheduler.specs.Table.{ticketsOf}
-use Rattle.scheduler.specs.Model.{Model}
+use Rattle.scheduler.specs.Model.{Model, ending}
 use Rattle.scheduler.specs.Answers.{Result, accepts}
 use Rattle.scheduler.specs.Refusals.{completeRefusal, tickRefusal}
 use Rattle.jobs.specs.Order.{asc-keep}
@@ -33,9 +34,9 @@ next-by : (k : Kind) (m : Model) (c : Call) → ValidBy k m → rulesOf k m c .m
 next-by Conservative m c v = conservative.next-is m c
 next-by Easy m c v = easy.call-next m c v
 
-ticket-by : (k : Kind) (m : Model) (n e : ℕ) → accepts (rulesOf k m (submit n e) .reply .refusal) ≡ true → rulesOf k m (submit n e) .reply .ticket ≡ m .next
-ticket-by Conservative m n e a = conservative.submit-taken m n e a .ticket-is
-ticket-by Easy m n e a = easy.submit-ticket m n e a
+ticket-by : (k : Kind) (m : Model) (o : Submission) → accepts (rulesOf k m (submit o) .reply .refusal) ≡ true → rulesOf k m (submit o) .reply .ticket ≡ m .next
+ticket-by Conservative m o a = conservative.submit-taken m o a .ticket-is
+ticket-by Easy m o a = easy.submit-ticket m o a
 
 no-newcomers : (taken : Bool) → _≡_ {A = List Newcomer} (cond taken [] []) []
 no-newcomers true = refl
@@ -50,8 +51,8 @@ module _ (m : Model) (ts : List ℕ) where
   none-more c n u = rw n (rw n at u)
 
   one-more : (c : Call) → Given c
-  one-more (submit n e) =
-      case (accepts (call m (submit n e) .reply .refusal)) (λ a. rw a (λ u. (ticket-by (m .settings .kind) m n e a, u))) (λ a. rw a (λ u. u))
+  one-more (submit o) =
+      case (accepts (call m (submit o) .reply .refusal)) (λ a. rw a (λ u. (ticket-by (m .settings .kind) m o a, u))) (λ a. rw a (λ u. u))
   one-more (complete t) = none-more (complete t) (no-newcomers (accepts (call m (complete t) .reply .refusal)))
   one-more tick = none-more tick (no-newcomers (accepts (call m tick .reply .refusal)))
   one-more (unchanged w) = none-more (unchanged w) (no-newcomers (accepts (call m (unchanged w) .reply .refusal)))
@@ -77,11 +78,11 @@ unfolding
     rules.advanced
     rules.finished
 ended-by Conservative m c v = conservative.answers-rise m c v .0
-ended-by Easy m (submit n e) v = judged-by Ascends m (rules.submitRefusal m n e) _ (λ a. tt) (λ a. tt)
+ended-by Easy m (submit o) v = judged-by Ascends m (rules.submitRefusal m o) _ (λ a. tt) (λ a. tt)
 ended-by Easy m (complete t) v = judged-by Ascends m (completeRefusal m t) (rules.advanced m (m .clock) (select.RunningTicket t))
     (λ a. leaves m (select.RunningTicket t) (v .ready .sound)) (λ a. tt)
-ended-by Easy m tick v = judged-by Ascends m (tickRefusal m) (rules.advanced m (suc (m .clock)) (select.EndingAt (suc (m .clock))))
-    (λ a. leaves m (select.EndingAt (suc (m .clock))) (v .ready .sound)) (λ a. tt)
+ended-by Easy m tick v = judged-by Ascends m (tickRefusal m) (rules.advanced m (suc (m .clock)) (ending m))
+    (λ a. leaves m (ending m) (v .ready .sound)) (λ a. tt)
 ended-by Easy m (unchanged w) v = tt
 
 pub ended-rise : (m : Model) (c : Call) → Valid m → Rising 1 (call m c .reply .ended)

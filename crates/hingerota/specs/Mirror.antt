@@ -12,6 +12,7 @@ use Rattle.scheduler.specs.declared.State.{State}
 use Rattle.scheduler.specs.declared.State.the-variants.{Unused, Waiting, Running}
 use Rattle.scheduler.specs.declared.Job.{Job}
 use Rattle.scheduler.specs.declared.Scheduler.{Scheduler}
+use Rattle.scheduler.specs.declared.Submission.{Submission}
 use Rattle.scheduler.specs.declared.Refusal.{Refusal}
 use Rattle.scheduler.specs.declared.Refusal.the-variants as refusal
 use Rattle.scheduler.specs.declared.Tickets as scheduler-tickets
@@ -21,6 +22,7 @@ use Rattle.scheduler.specs.declared.Opened as scheduler-opened
 use Rattle.scheduler.specs.Jobs.{unused}
 use Rattle.scheduler.specs.Answers.{code}
 use Rattle.hingerota.specs.declared.Record.{Record}
+use Rattle.hingerota.specs.declared.Order.{Order}
 use Rattle.hingerota.specs.declared.Desk.{Desk}
 use Rattle.hingerota.specs.declared.Tickets.{Tickets}
 use Rattle.hingerota.specs.declared.Answer.{Answer}
@@ -48,6 +50,10 @@ noRecord = mirrorJob unused
 
 unfoldable pub mirror : Scheduler → Desk
 mirror d = record { kind = kindNumber (d .settings .kind); nodes = d .settings .nodes; clock = d .clock; next = d .next; jobs = map mirrorJob (d .jobs) }
+
+-- what a host's order asks
+abbrev pub wanted : Order → Submission
+wanted o = record { nodes = o .nodes; estimate = o .estimate }
 
 -- ## Read back. A number that is no kind is read as the Promise Desk, and one that is no state as unused
 

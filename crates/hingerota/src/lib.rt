@@ -3,7 +3,7 @@
 ghost use mathlib.Core.Path.{_≡_};
 ghost use Rattle.scheduler.specs.Answers.{code};
 ghost use Rattle.history.specs.Calls as calls;
-ghost use Rattle.hingerota.specs.Mirror.{kindOf, kindNumber, stateOf, stateNumber, mirrorJob, mirror, readRecord, read};
+ghost use Rattle.hingerota.specs.Mirror.{kindOf, kindNumber, stateOf, stateNumber, wanted, mirrorJob, mirror, readRecord, read};
 ghost use Rattle.hingerota.specs.Mirror.{mirrorTickets, mirrorAnswer, mirrorOutcome};
 ghost use Prim.Native.Nat.{_<_};
 ghost use Rattle.conservative_profile.specs.StoredProfile.{places};
@@ -37,8 +37,8 @@ pub struct Order {
 #[repr(C)]
 pub struct Record {
     pub ticket: u32,
-    pub nodes: u32,
-    pub estimate: u32,
+    pub nodes: u16,
+    pub estimate: u16,
     pub state: u32,
     pub start: u32,
     pub promise: u32,
@@ -287,7 +287,7 @@ fn open(o: scheduler::Opening) -> Opened
 
 fn submit(d: Desk, order: Order) -> Outcome
     requires { ⌜ Handed d ⌝ }
-    ensures { λ r. ⌜ r ≡ gives d (calls.submit (order .nodes) (order .estimate)) ⌝ }
+    ensures { λ r. ⌜ r ≡ gives d (calls.submit (wanted order)) ⌝ }
 {
     let s = Submission {
         nodes: order.nodes,
@@ -376,7 +376,7 @@ pub extern "C" fn hingerota_open_loose(opening: Opening) -> Opened
 #[no_mangle]
 pub extern "C" fn hingerota_submit(d: &mut Desk, order: Order) -> Answer
     requires { ⌜ Handed (now d) ⌝ }
-    ensures { λ r. ⌜ HostLeaves (now (d .entry)) (calls.submit (order .nodes) (order .estimate)) r (now (d .exit)) ⌝ }
+    ensures { λ r. ⌜ HostLeaves (now (d .entry)) (calls.submit (wanted order)) r (now (d .exit)) ⌝ }
 {
     let s = submit(*d, order);
     *d = s.desk;

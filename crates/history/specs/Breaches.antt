@@ -12,7 +12,7 @@ use Rattle.lists.specs.Lists.{here}
 use Rattle.scheduler.specs.declared.Kind.the-variants.{Conservative, Easy}
 use Rattle.scheduler.specs.declared.Refusal.the-variants as refusal
 use Rattle.scheduler.specs.Answers.{Forecast}
-use Rattle.history.specs.Calls.{submit, tick, Event}
+use Rattle.history.specs.Calls.{submit, order, tick, Event}
 use Rattle.history.specs.News.{news}
 use Rattle.history.specs.Book.{Book, Entry, waiting, start, enter, enterAll}
 use Rattle.history.specs.Guarantee.{StartedBy, Guarantee}
@@ -20,7 +20,7 @@ use Rattle.history.specs.Guarantee.{StartedBy, Guarantee}
 -- a submission accepted under a ticket, with a promise, the tickets that start and a forecast
 abbrev taken : ℕ → ℕ → ℕ → List ℕ → Option Forecast → Event
 taken t n p ss f = record {
-  call = submit n 5;
+  call = submit (order n 5);
   reply = record { refusal = refusal.None; ticket = t; promise = p; ended = []; started = ss; head = f };
 }
 

@@ -6,6 +6,7 @@ use mathlib.Core.List.{List, [], _∷_, _++_}
 use Prim.Native.Nat.{ℕ}
 use lib.ListN.{replicate}
 use Rattle.scheduler.specs.declared.Refusal.{Refusal}
+use Rattle.scheduler.specs.declared.Submission.{Submission}
 use Rattle.scheduler.specs.declared.Request.{Request}
 use Rattle.scheduler.specs.declared.Request.the-variants as request
 use Rattle.scheduler.specs.Model.{Model}
@@ -13,15 +14,19 @@ use Rattle.scheduler.specs.Answers.{Reply, Result, accepts}
 use Rattle.scheduler.specs.Refusals.{waitRefusal}
 
 pub data Call : Type 0 where
-  submit : (nodes estimate : ℕ) → Call
+  submit : Submission → Call
   complete : (ticket : ℕ) → Call
   tick : Call
   -- a call that leaves the scheduler as it is, and answers with this refusal or none: a profile, a refused wait
   unchanged : Refusal → Call
 
+-- what a line or an example asks: so many nodes, for an estimate
+abbrev pub order : (nodes estimate : ℕ) → Submission
+order n e = record { nodes = n; estimate = e }
+
 -- the call that a request of the code asks for
 abbrev pub asked : Request → Call
-asked (request.Submit s) = submit (s .nodes) (s .estimate)
+asked (request.Submit o) = submit o
 asked (request.Complete t) = complete t
 asked request.Tick = tick
 

@@ -27,13 +27,13 @@ pub record News : Type 0 where
 
 -- what is said by a call not refused: that a minute passes, and who comes
 abbrev passes : Call → Bool
-passes (submit n e) = false
+passes (submit o) = false
 passes (complete t) = false
 passes tick = true
 passes (unchanged w) = false
 
 abbrev comes : Call → Reply → List Newcomer
-comes (submit n e) r = record { ticket = r .ticket; nodes = n; promise = r .promise } ∷ []
+comes (submit o) r = record { ticket = r .ticket; nodes = o .nodes; promise = r .promise } ∷ []
 comes (complete t) r = []
 comes tick r = []
 comes (unchanged w) r = []

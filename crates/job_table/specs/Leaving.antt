@@ -250,7 +250,7 @@ module _ (d : Scheduler) (h : Holds Sound d) where
   minute = d .clock + 1
 
   abbrev which : Select
-  which = select.EndingAt minute
+  which = select.EndingAt (d .settings) minute
 
   abbrev pub expired : Part
   expired = record {
@@ -282,7 +282,8 @@ module _ (d : Scheduler) (h : Holds Sound d) where
 
   -- past the last minute nobody ends
   nobody : horizon < minute → (j : Job) → In j (view d .jobs) → picks which j ≡ false
-  nobody l j i = and-right-false (isRunning j) (ne-eqb (until (view d .settings) j) minute (λ e. omega (arith, h .holds .each j i .ends)))
+  unfolding view
+  nobody l j i = and-right-false (isRunning j) (ne-eqb (until (d .settings) j) minute (λ e. omega (arith, h .holds .each j i .ends)))
 
   pub expired-is : expired ≡ part (ticking (view d))
   unfolding store view tickRefusal verdict
@@ -304,7 +305,7 @@ module _ (d : Scheduler) (h : Holds Sound d) where
           ∙ rw (lt-ltb horizon minute l, lt-ltb horizon (suc (d .clock)) (omega arith), c)
 
 pub expires : (d : Scheduler) → Holds Sound d → {e f : Scheduler} {list : List ℕ} {kept gone i k c : ℕ}
-    → Compacts (select.EndingAt (d .clock + 1)) (withClock d c) e list kept gone i → length (d .jobs) ≡ 64 → Clears kept e f k → 64 ≤ i → 64 ≤ k
+    → Compacts (select.EndingAt (d .settings) (d .clock + 1)) (withClock d c) e list kept gone i → length (d .jobs) ≡ 64 → Clears kept e f k → 64 ≤ i → 64 ≤ k
     → c ≡ cappedClock (d .clock + 1)
     → record { refusal = pastHorizon (d .clock + 1); ticket = 0; ended = record { count = gone; list = list }; scheduler = f } ≡ part (ticking (view d))
 unfolding removed
@@ -313,8 +314,8 @@ expires d h v len u a b z =
     ∙ ap (λ (n : ℕ). record {
       refusal = pastHorizon (d .clock + 1);
       ticket = 0;
-      ended = removed d (select.EndingAt (d .clock + 1)) .tickets;
-      scheduler = withClock (removed d (select.EndingAt (d .clock + 1)) .scheduler) n;
+      ended = removed d (select.EndingAt (d .settings) (d .clock + 1)) .tickets;
+      scheduler = withClock (removed d (select.EndingAt (d .settings) (d .clock + 1)) .scheduler) n;
     }) z
     ∙ expired-is d h
   where

@@ -8,6 +8,8 @@ use lib.Dec.{ltb}
 use lib.ListN.{length}
 use Rattle.lists.specs.Tests.{case, true-false}
 use Rattle.lists.specs.Lists.{keep}
+use Rattle.scheduler.specs.declared.Settings.{Settings}
+use Rattle.scheduler.specs.declared.Submission.{Submission}
 use Rattle.scheduler.specs.declared.Refusal.{Refusal}
 use Rattle.scheduler.specs.declared.Refusal.the-variants as refusal
 use Rattle.scheduler.specs.declared.Select.{Select}
@@ -15,9 +17,9 @@ use Rattle.scheduler.specs.declared.Select.the-variants as select
 use Rattle.scheduler.specs.Limits.{horizon}
 use Rattle.scheduler.specs.Jobs.{picks}
 use Rattle.scheduler.specs.Table.{ticketsOf, tickets}
-use Rattle.scheduler.specs.Model.{Model, store, view, without}
+use Rattle.scheduler.specs.Model.{Model, ending, store, view, without}
 use Rattle.scheduler.specs.Answers.{verdict, accepts}
-use Rattle.scheduler.specs.Refusals.{submitTests, completeRefusal, tickRefusal}
+use Rattle.scheduler.specs.Refusals.{testsBy, completeRefusal, tickRefusal}
 use Rattle.job_table.specs.declared.Part.{Part}
 
 pub record Own : Type 0 where
@@ -42,7 +44,7 @@ completing m t = judgedOwn m (completeRefusal m t) (leaving m (m .clock) (select
 
 -- a tick
 abbrev pub ticking : Model → Own
-ticking m = judgedOwn m (tickRefusal m) (leaving m (suc (m .clock)) (select.EndingAt (suc (m .clock))))
+ticking m = judgedOwn m (tickRefusal m) (leaving m (suc (m .clock)) (ending m))
 
 -- a part that is not refused is what it does, and a refused one leaves the model
 module _ (m : Model) (r : Refusal) (o : Own) where
@@ -63,14 +65,11 @@ handed p ts = record { refusal = p .refusal; ticket = p .ticket; ended = ts; mod
 -- ## Refusals by numbers
 
 -- of a submission, by the tests that both kinds share
-unfoldable pub sharedRefusal : Model → ℕ → ℕ → Refusal
-sharedRefusal m n e = verdict (submitTests m n e [])
+unfoldable pub refusalBy : Settings → (live next : ℕ) → Submission → Refusal
+refusalBy S live next o = verdict (testsBy S live next o [])
 
--- what a submission is judged by, whatever the kind
-pub record Known (m : Model) (nodes live next : ℕ) : Type 0 where
-  pub nodes-is : nodes ≡ m .settings .nodes
-  pub live-is : live ≡ length (m .jobs)
-  pub next-is : next ≡ m .next
+abbrev pub sharedRefusal : Model → Submission → Refusal
+sharedRefusal m o = refusalBy (m .settings) (length (m .jobs)) (m .next) o
 
 abbrev pub notRunning : Bool → Refusal
 notRunning found = cond found refusal.None refusal.NotRunning

@@ -10,46 +10,32 @@ use lib.ListN.{length, set}
 use Rattle.lists.specs.Tests.{case}
 use Rattle.lists.specs.Pads.{pad-push}
 use Rattle.scheduler.specs.declared.Job.{Job}
+use Rattle.scheduler.specs.declared.Settings.{Settings}
+use Rattle.scheduler.specs.declared.Submission.{Submission}
 use Rattle.scheduler.specs.declared.Refusal.{Refusal}
-use Rattle.scheduler.specs.declared.Refusal.the-variants as refusal
 use Rattle.scheduler.specs.declared.Scheduler.{Scheduler}
-use Rattle.scheduler.specs.Limits.{slots, longest, lastTicket, outside}
+use Rattle.scheduler.specs.Limits.{slots, longestEstimate, lastTicket, outside}
 use Rattle.scheduler.specs.Jobs.{unused}
 use Rattle.scheduler.specs.Table.{withJobs}
 use Rattle.scheduler.specs.Model.{Model, store, view, joined}
 use Rattle.scheduler.specs.Answers.{verdict, accepts}
-use Rattle.scheduler.specs.Refusals.{submitTests}
-use Rattle.job_table.specs.Parts.{Known, sharedRefusal}
+use Rattle.scheduler.specs.Refusals.{testsBy}
+use Rattle.job_table.specs.Parts.{refusalBy}
 
-pub tests-by : (m : Model) (n e nodes live next : ℕ) → Known m nodes live next
-    → verdict
-    ((outside 1 nodes n, refusal.NodesOutOfRange)
-    ∷ (outside 1 longest e, refusal.MinutesOutOfRange)
-    ∷ (leb slots live, refusal.Full)
-    ∷ (ltb lastTicket next, refusal.NoTicketLeft)
-    ∷ [])
-    ≡ sharedRefusal m n e
-unfolding sharedRefusal
-tests-by m n e nodes live next k = rw (k .nodes-is, k .live-is, k .next-is)
-
--- the kind's own tests decide where these four refuse nothing
-pub tests-more : (m : Model) (n e : ℕ) (more : List (Bool × Refusal))
-    → verdict (submitTests m n e more) ≡ cond (accepts (sharedRefusal m n e)) (verdict more) (sharedRefusal m n e)
-unfolding verdict sharedRefusal
-tests-more m n e more =
-    case (outside 1 (m .settings .nodes) n) (λ a. rw a)
-    (λ a. rw a (case (outside 1 longest e) (λ b. rw b)
-    (λ b. rw b (case (leb slots (length (m .jobs))) (λ c. rw c)
-    (λ c. rw c (case (ltb lastTicket (m .next)) (λ d. rw d) (λ d. rw d)))))))
+-- the kind's own tests decide where the four that both share refuse nothing
+pub tests-more : (S : Settings) (live next : ℕ) (o : Submission) (more : List (Bool × Refusal))
+    → verdict (testsBy S live next o more) ≡ cond (accepts (refusalBy S live next o)) (verdict more) (refusalBy S live next o)
+unfolding verdict refusalBy
+tests-more S live next o more =
+    case (outside 1 (S .nodes) (o .nodes)) (λ a. rw a)
+    (λ a. rw a (case (outside 1 longestEstimate (o .estimate)) (λ b. rw b)
+    (λ b. rw b (case (leb slots live) (λ c. rw c)
+    (λ c. rw c (case (ltb lastTicket next) (λ d. rw d) (λ d. rw d)))))))
 
 abbrev pub withNext : Scheduler → ℕ → Scheduler
 withNext d t = record { settings = d .settings; clock = d .clock; next = t; jobs = d .jobs }
 
 module _ (d : Scheduler) (slot : ℕ) (e : slot ≡ length (view d .jobs)) where
-  pub known : Known (view d) (d .settings .nodes) slot (d .next)
-  unfolding view
-  known = record { nodes-is = refl; live-is = e; next-is = refl }
-
   -- the job stands last, and the next ticket is one more
   pub enters : d ≡ store (view d) → length (view d .jobs) < slots → (job : Job)
       → withNext (withJobs d (set (d .jobs) slot job)) (d .next + 1) ≡ store (joined (view d) job)

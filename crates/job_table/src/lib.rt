@@ -3,16 +3,17 @@
 use scheduler::Job;
 use scheduler::Refusal;
 use scheduler::Scheduler;
+use scheduler::Settings;
 use scheduler::Submission;
 use scheduler::Tickets;
 ghost use mathlib.Core.Path.{_≡_};
 ghost use lib.ListN.{length};
 ghost use Rattle.lists.specs.Lists.{keep};
 ghost use Rattle.scheduler.specs.Jobs.{isWaiting};
-ghost use Rattle.scheduler.specs.Model.{Model, view};
+ghost use Rattle.scheduler.specs.Model.{view};
 ghost use Rattle.jobs.specs.Soundness.{Sound};
 ghost use Rattle.jobs.specs.Premise.{Holds};
-ghost use Rattle.job_table.specs.Parts.{Known, sharedRefusal, notRunning, pastHorizon, cappedClock, part, completing, ticking};
+ghost use Rattle.job_table.specs.Parts.{refusalBy, notRunning, pastHorizon, cappedClock, part, completing, ticking};
 
 // The last slot.
 const LAST: usize = Scheduler::LIVE - 1;
@@ -63,13 +64,13 @@ pub fn waiting(d: Scheduler) -> usize
 }
 
 // What a submission is refused for, whatever the kind, in document 01's order: 1, 2, 4, 5.
-pub fn submit_refusal(s: Submission, nodes: u32, live: usize, next: u32) -> Refusal
-    ensures { λ r. ⌜ ((m : Model) → Known m nodes live next → r ≡ sharedRefusal m (s .nodes) (s .estimate)) ⌝ }
+pub fn submit_refusal(s: Submission, settings: Settings, live: usize, next: u32) -> Refusal
+    ensures { λ r. ⌜ r ≡ refusalBy settings live next s ⌝ }
 {
-    if scheduler::outside_range(s.nodes, 1, nodes) {
+    if scheduler::outside_range(s.nodes, 1, settings.nodes) {
         return Refusal::NodesOutOfRange;
     }
-    if scheduler::outside_range(s.estimate, 1, Scheduler::LONGEST) {
+    if scheduler::outside_range(s.estimate, 1, Scheduler::LONGEST_ESTIMATE) {
         return Refusal::MinutesOutOfRange;
     }
     if Scheduler::LIVE <= live {
@@ -149,6 +150,7 @@ pub fn expire(d: Scheduler) -> Part
     ensures { λ r. ⌜ r ≡ part (ticking (view d)) ⌝ }
 {
     let none = Job::unused();
+    let settings = d.settings;
     let mut e = d;
     let clock = e.clock + 1;
     e.clock = capped(clock);
@@ -158,7 +160,7 @@ pub fn expire(d: Scheduler) -> Part
     let mut i: usize = 0;
     while i < Scheduler::LIVE {
         let j = e.jobs[i];
-        if j.ends_at(clock) {
+        if j.ends_at(settings, clock) {
             list[gone] = j.ticket;
             gone += 1;
         } else {

@@ -16,6 +16,7 @@ use Rattle.scheduler.specs.declared.Job.{Job}
 use Rattle.scheduler.specs.declared.Scheduler.{Scheduler}
 use Rattle.scheduler.specs.Limits.{horizon, slots}
 use Rattle.scheduler.specs.Jobs.{unused, isLive}
+use Rattle.scheduler.specs.Times.{until-from}
 use Rattle.scheduler.specs.Model.{Model, store, view}
 use Rattle.jobs.specs.Soundness.{Sound}
 use Rattle.jobs.specs.Premise.{Holds}
@@ -34,7 +35,7 @@ module _ (d : Scheduler) (h : Holds Sound d) where
   all-low : (m : Model) → Sound m → All (λ (j : Job). j .start ≤ horizon) (store m .jobs)
   unfolding store
   all-low m s = all-pad slots unused (λ (j : Job). j .start ≤ horizon) (m .jobs) (omega arith)
-      (all-of (λ (j : Job). j .start ≤ horizon) (m .jobs) (λ j i. omega (arith, s .each j i .ends)))
+      (all-of (λ (j : Job). j .start ≤ horizon) (m .jobs) (λ j i. omega (arith, s .each j i .ends, until-from (m .settings) j)))
 
   -- no start passes the last minute
   pub slots-low : (i : ℕ) → i < length (d .jobs) → getD (d .jobs) i unused .start ≤ horizon

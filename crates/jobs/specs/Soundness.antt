@@ -11,7 +11,10 @@ use lib.ListN.{length, length-append}
 use borrow.Author.Tests.{leb-false, ltb-false, eqb-false, not-true}
 use Rattle.lists.specs.Tests.{case, true-false, neither}
 use Rattle.lists.specs.Lists.{All, In, all-of, in-append, in-cons, in-nil, keep-in, length-keep-le, sum-append, sum-keep}
+use Rattle.scheduler.specs.declared.State.{State}
+use Rattle.scheduler.specs.declared.State.the-variants.{Unused, Waiting, Running}
 use Rattle.scheduler.specs.declared.Job.{Job}
+use Rattle.scheduler.specs.declared.Submission.{Submission}
 use Rattle.scheduler.specs.declared.Refusal.{Refusal}
 use Rattle.scheduler.specs.declared.Refusal.the-variants as refusal
 use Rattle.scheduler.specs.declared.Opening.{Opening}
@@ -19,11 +22,12 @@ use Rattle.scheduler.specs.declared.Select.{Select}
 use Rattle.scheduler.specs.declared.Select.the-variants as select
 use Rattle.scheduler.specs.Limits as limit
 use Rattle.scheduler.specs.Limits.{maxNodes, lastTicket, outside}
-use Rattle.scheduler.specs.Jobs.{isLive, isRunning, held, picks}
+use Rattle.scheduler.specs.Jobs.{isLive, isRunning, isHolding, running?, holding?, held, picks}
 use Rattle.scheduler.specs.declared.Settings.{Settings}
-use Rattle.scheduler.specs.Settings.{refusedSettings, horizon, slots, longest, until}
+use Rattle.scheduler.specs.Settings.{refusedSettings, horizon, slots, longest, unit, until}
+use Rattle.scheduler.specs.Times.{until-is, hold-unit}
 use Rattle.scheduler.specs.Table.{nodesHeld}
-use Rattle.scheduler.specs.Model.{Model, Live, empty, joined, without}
+use Rattle.scheduler.specs.Model.{Model, ending, Live, empty, joined, without}
 use Rattle.scheduler.specs.Answers.{verdict, accepts}
 use Rattle.scheduler.specs.Refusals.{submitTests}
 use Rattle.scheduler.specs.Opening.{openingRefusal, opening}
@@ -37,7 +41,11 @@ pub record SoundJob (S : Settings) (clock : ℕ) (j : Job) : Type 0 where
   pub estimate-to : j .estimate ≤ longest S
   -- no hold passes the last minute
   pub ends : until S j ≤ horizon S
-  pub runs : isRunning j ≡ true → (j .start ≤ clock) × (clock < until S j)
+  pub holds : isHolding j ≡ true → (j .start ≤ clock) × (clock < until S j)
+
+-- a job that holds nodes gives them back within a unit
+pub holds-short : (S : Settings) (clock : ℕ) (j : Job) → SoundJob S clock j → isHolding j ≡ true → until S j ≤ clock + unit S
+holds-short S clock j f r = omega (arith, f .holds r, until-is S j, hold-unit S (j .estimate) (f .estimate-to))
 
 pub record Sound (m : Model) : Type 0 where
   pub nodes-from : 1 ≤ m .settings .nodes
@@ -92,11 +100,11 @@ opening-sound o =
 -- ## Submission
 
 -- what its tests leave
-pub record Fit (m : Model) (n e : ℕ) : Type 0 where
-  pub nodes-from : 1 ≤ n
-  pub nodes-to : n ≤ m .settings .nodes
-  pub estimate-from : 1 ≤ e
-  pub estimate-to : e ≤ longest (m .settings)
+pub record Fit (m : Model) (o : Submission) : Type 0 where
+  pub nodes-from : 1 ≤ o .nodes
+  pub nodes-to : o .nodes ≤ m .settings .nodes
+  pub estimate-from : 1 ≤ o .estimate
+  pub estimate-to : o .estimate ≤ longest (m .settings)
   pub room : length (m .jobs) < slots (m .settings)
   pub ticket-left : m .next ≤ lastTicket
 
@@ -107,29 +115,29 @@ unfolding verdict
 passed true r ts n e = true-false (accepts r) e n
 passed false r ts n e = (refl, e)
 
-pub submit-fit : (m : Model) (n e : ℕ) (more : List (Bool × Refusal)) → accepts (verdict (submitTests m n e more)) ≡ true
-    → Fit m n e × (accepts (verdict more) ≡ true)
-submit-fit m n e more h =
-    let a = passed (outside 1 (m .settings .nodes) n) refusal.NodesOutOfRange _ refl h in
-    let b = passed (outside 1 (longest (m .settings)) e) refusal.MinutesOutOfRange _ refl (a .1) in
+pub submit-fit : (m : Model) (o : Submission) (more : List (Bool × Refusal)) → accepts (verdict (submitTests m o more)) ≡ true
+    → Fit m o × (accepts (verdict more) ≡ true)
+submit-fit m o more h =
+    let a = passed (outside 1 (m .settings .nodes) (o .nodes)) refusal.NodesOutOfRange _ refl h in
+    let b = passed (outside 1 (longest (m .settings)) (o .estimate)) refusal.MinutesOutOfRange _ refl (a .1) in
     let c = passed (leb (slots (m .settings)) (length (m .jobs))) refusal.Full _ refl (b .1) in
     let d = passed (ltb lastTicket (m .next)) refusal.NoTicketLeft _ refl (c .1) in
-    let a′ = neither (ltb n 1) (ltb (m .settings .nodes) n) (a .0) in
-    let b′ = neither (ltb e 1) (ltb (longest (m .settings)) e) (b .0) in (
+    let a′ = neither (ltb (o .nodes) 1) (ltb (m .settings .nodes) (o .nodes)) (a .0) in
+    let b′ = neither (ltb (o .estimate) 1) (ltb (longest (m .settings)) (o .estimate)) (b .0) in (
       record {
-        nodes-from = ltb-false n 1 (a′ .0);
-        nodes-to = ltb-false (m .settings .nodes) n (a′ .1);
-        estimate-from = ltb-false e 1 (b′ .0);
-        estimate-to = ltb-false (longest (m .settings)) e (b′ .1);
+        nodes-from = ltb-false (o .nodes) 1 (a′ .0);
+        nodes-to = ltb-false (m .settings .nodes) (o .nodes) (a′ .1);
+        estimate-from = ltb-false (o .estimate) 1 (b′ .0);
+        estimate-to = ltb-false (longest (m .settings)) (o .estimate) (b′ .1);
         room = leb-false (slots (m .settings)) (length (m .jobs)) (c .0);
         ticket-left = ltb-false lastTicket (m .next) (d .0);
       },
       d .1,
     )
 
-pub sound-join : (m : Model) (n e : ℕ) (j : Job) → Sound m → Fit m n e → SoundJob (m .settings) (m .clock) j → j .ticket ≡ m .next
+pub sound-join : (m : Model) (o : Submission) (j : Job) → Sound m → Fit m o → SoundJob (m .settings) (m .clock) j → j .ticket ≡ m .next
     → nodesHeld (m .jobs) + held j ≤ m .settings .nodes → Sound (joined m j)
-sound-join m n e j s f sj t c = record {
+sound-join m o j s f sj t c = record {
   nodes-from = s .nodes-from;
   nodes-to = s .nodes-to;
   clock-to = s .clock-to;
@@ -162,7 +170,7 @@ sound-join m n e j s f sj t c = record {
 -- the clock that an early end leaves, and that of a tick; and which jobs they pick
 pub data Leaving (m : Model) : ℕ → Select → Type 0 where
   early : (t : ℕ) → Leaving m (m .clock) (select.RunningTicket t)
-  in-time : suc (m .clock) ≤ horizon (m .settings) → Leaving m (suc (m .clock)) (select.EndingAt (suc (m .clock)))
+  in-time : suc (m .clock) ≤ horizon (m .settings) → Leaving m (suc (m .clock)) (ending m)
 
 -- only running jobs leave
 pub leaving-runs : (m : Model) (c : ℕ) (s : Select) → Leaving m c s → (j : Job) → picks s j ≡ true → isRunning j ≡ true
@@ -177,14 +185,19 @@ pub leaving-clock : (m : Model) (c : ℕ) (s : Select) → Leaving m c s → (m 
 leaving-clock m c s (early t) = omega arith
 leaving-clock m c s (in-time h) = omega arith
 
--- a running job that stays has not ended
-pub leaving-time : (m : Model) (c : ℕ) (s : Select) → Leaving m c s → (j : Job) → isRunning j ≡ true → m .clock < until (m .settings) j
+holding-runs : (s : State) → holding? s ≡ true → running? s ≡ true
+holding-runs Unused h = h
+holding-runs Waiting h = h
+holding-runs Running h = h
+
+-- a job that holds nodes and stays has not ended
+pub leaving-time : (m : Model) (c : ℕ) (s : Select) → Leaving m c s → (j : Job) → isHolding j ≡ true → m .clock < until (m .settings) j
     → picks s j ≡ false → c < until (m .settings) j
 leaving-time m c s l j r u e = go l e
   where
     go : {c : ℕ} {s : Select} → Leaving m c s → picks s j ≡ false → c < until (m .settings) j
     go (early t) e = u
-    go (in-time h) e = omega (arith, eqb-false (until (m .settings) j) (suc (m .clock)) (rw r at e))
+    go (in-time h) e = omega (arith, eqb-false (until (m .settings) j) (suc (m .clock)) (rw (holding-runs (j .state) r) at e))
 
 pub sound-leave : (m : Model) (c : ℕ) (s : Select) → Sound m → Leaving m c s → Sound (without m c s)
 sound-leave m c s v l = record {
@@ -214,5 +227,5 @@ sound-leave m c s v l = record {
           estimate-from = w .estimate-from;
           estimate-to = w .estimate-to;
           ends = w .ends;
-          runs = λ r. (omega (arith, w .runs r, leaving-clock m c s l), leaving-time m c s l j r (w .runs r .1) (not-true (picks s j) (i .1)));
+          holds = λ r. (omega (arith, w .holds r, leaving-clock m c s l), leaving-time m c s l j r (w .holds r .1) (not-true (picks s j) (i .1)));
         }

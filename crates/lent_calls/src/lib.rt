@@ -12,7 +12,7 @@ use spans::Point;
 
 pub fn submit(d: &mut Scheduler, s: Submission) -> Answer
     requires { ⌜ Premise (now d) ⌝ }
-    ensures { λ r. ⌜ Leaves (now (d .entry)) (calls.submit (s .nodes) (s .estimate)) r (now (d .exit)) ⌝ }
+    ensures { λ r. ⌜ Leaves (now (d .entry)) (calls.submit s) r (now (d .exit)) ⌝ }
 {
     let o = calls::submit(*d, s);
     *d = o.scheduler;

@@ -21,7 +21,7 @@ use spans::Point;
 // A program makes no reference to a struct by itself: these lend a scheduler, or a list, of their own.
 fn lent_submit(d: Scheduler, s: Submission) -> Outcome
     requires { ⌜ Premise d ⌝ }
-    ensures { λ r. ⌜ Leaves d (calls.submit (s .nodes) (s .estimate)) (r .answer) (r .scheduler) ⌝ }
+    ensures { λ r. ⌜ Leaves d (calls.submit s) (r .answer) (r .scheduler) ⌝ }
 {
     let mut e = d;
     let a = lent_calls::submit(&mut e, s);

@@ -9,11 +9,10 @@ use borrow.Author.Tests.{le-ltb}
 use Rattle.lists.specs.Lists.{In, keep, keep-all, keep-none, map-same}
 use Rattle.scheduler.specs.declared.Job.{Job}
 use Rattle.scheduler.specs.declared.Refusal.the-variants as refusal
-use Rattle.scheduler.specs.declared.Select.the-variants as select
 use Rattle.scheduler.specs.Jobs.{endsAt, picks}
 use Rattle.scheduler.specs.Settings.{horizon}
 use Rattle.scheduler.specs.Table.{ticketsOf, staying}
-use Rattle.scheduler.specs.Model.{Model}
+use Rattle.scheduler.specs.Model.{Model, ending}
 use Rattle.scheduler.specs.Answers.{refusing, verdict}
 use Rattle.scheduler.specs.Refusals.{tickRefusal}
 use Rattle.history.specs.Calls.{tick}
@@ -23,22 +22,22 @@ use Rattle.conservative_laws.specs.TickedJob.{turned-other}
 use Rattle.easy_laws.specs.QuietTick.{later}
 
 module _ (m : Model) (l : suc (m .clock) ≤ horizon (m .settings))
-    (stays : (j : Job) → In j (m .jobs) → endsAt (suc (m .clock)) j ≡ false)
+    (stays : (j : Job) → In j (m .jobs) → endsAt (m .settings) (suc (m .clock)) j ≡ false)
     (waits : (j : Job) → In j (m .jobs) → startsAt (suc (m .clock)) j ≡ false)
   where
     abbrev n : ℕ
     n = suc (m .clock)
 
-    all-stay : staying (select.EndingAt n) (m .jobs) ≡ m .jobs
-    all-stay = keep-all (λ (j : Job). not (picks (select.EndingAt n) j)) (m .jobs) (λ j i. ap not (stays j i))
+    all-stay : staying (ending m) (m .jobs) ≡ m .jobs
+    all-stay = keep-all (λ (j : Job). not (picks (ending m) j)) (m .jobs) (λ j i. ap not (stays j i))
 
-    none-turns : map (turned n) (staying (select.EndingAt n) (m .jobs)) ≡ m .jobs
+    none-turns : map (turned n) (staying (ending m) (m .jobs)) ≡ m .jobs
     none-turns = ap (map (turned n)) all-stay ∙ map-same (turned n) (m .jobs) (λ j i. turned-other n j (waits j i))
 
-    none-ends : ticketsOf (keep (picks (select.EndingAt n)) (m .jobs)) ≡ []
-    none-ends = ap ticketsOf (keep-none (picks (select.EndingAt n)) (m .jobs) stays)
+    none-ends : ticketsOf (keep (picks (ending m)) (m .jobs)) ≡ []
+    none-ends = ap ticketsOf (keep-none (picks (ending m)) (m .jobs) stays)
 
-    none-starts : begun (staying (select.EndingAt n) (m .jobs)) (map (turned n) (staying (select.EndingAt n) (m .jobs))) ≡ []
+    none-starts : begun (staying (ending m) (m .jobs)) (map (turned n) (staying (ending m) (m .jobs))) ≡ []
     none-starts =
         ap (λ (js : List Job). begun js (map (turned n) js)) all-stay
         ∙ begun-turned n (m .jobs)

@@ -3,7 +3,7 @@
 use Prim.Native.Nat.{ℕ, _+_, _≤_, _<_}
 use native.Mathlib.Omega.{arith}
 use native.Mathlib.Numerals.{add-one}
-use mathlib.Core.Path.{_≡_, subst}
+use mathlib.Core.Path.{_≡_, ap, subst}
 use mathlib.Core.List.{[], _∷_}
 use lib.ListN.{length, getD, take}
 use lib.Seq.{take-suc, take-all}
@@ -12,12 +12,14 @@ use mathlib.Core.Logic.{_⊎_, inl, inr}
 use Rattle.lists.specs.Tests.{le-or}
 use Rattle.lists.specs.Lists.{All, all-of, all-in, all-append, keep-in}
 use Rattle.scheduler.specs.declared.State.the-variants.{Unused, Waiting, Running}
+use Rattle.scheduler.specs.declared.Settings.{Settings}
 use Rattle.scheduler.specs.declared.Job.{Job}
 use Rattle.scheduler.specs.declared.Scheduler.{Scheduler}
 use Rattle.scheduler.specs.Limits.{horizon, slots}
-use Rattle.scheduler.specs.Jobs.{unused, isLive}
+use Rattle.scheduler.specs.Jobs.{unused, isLive, running?, waiting?}
+use Rattle.scheduler.specs.Settings.{holdTime, until}
+use Rattle.scheduler.specs.Times.{until-is}
 use Rattle.scheduler.specs.Model.{view}
-use Rattle.walltime.specs.WallTime.{wallTime}
 use Rattle.quiet_minutes.specs.DueMinutes.{QuietFor, Quiet, Until}
 
 -- r of the next minutes, at most `most`, are quiet and lie by the last minute
@@ -30,25 +32,26 @@ pub ahead-none : (d : Scheduler) (most : ℕ) → Ahead d most 0
 ahead-none d most = record { few = omega arith; within = λ h. omega arith; quiet = λ j x t a b. absurd (omega arith) }
 
 -- fewer minutes are quiet too
-less : (clock r k : ℕ) (j : Job) → r ≤ k → QuietFor clock k j → QuietFor clock r j
-less clock r k j l q t a b = q t a (omega arith)
+less : (S : Settings) (clock r k : ℕ) (j : Job) → r ≤ k → QuietFor S clock k j → QuietFor S clock r j
+less S clock r k j l q t a b = q t a (omega arith)
 
 -- one job, by its state
-pub unused-quiet : (clock k : ℕ) (j : Job) → j .state ≡ Unused → QuietFor clock k j
-unused-quiet clock k j e t a b = rw e
+pub unused-quiet : (S : Settings) (clock k : ℕ) (j : Job) → j .state ≡ Unused → QuietFor S clock k j
+unused-quiet S clock k j e t a b = rw (ap running? e, ap waiting? e)
 
-pub waiting-quiet : (clock k : ℕ) (j : Job) → j .state ≡ Waiting → Until (j .start) clock k → QuietFor clock k j
-waiting-quiet clock k j e u t a b = rw (e, ne-eqb (j .start) t (λ q. omega (arith, u (omega arith))))
+pub waiting-quiet : (S : Settings) (clock k : ℕ) (j : Job) → j .state ≡ Waiting → Until (j .start) clock k → QuietFor S clock k j
+waiting-quiet S clock k j e u t a b = rw (ap running? e, ap waiting? e, ne-eqb (j .start) t (λ q. omega (arith, u (omega arith))))
 
-pub running-quiet : (clock k : ℕ) (j : Job) → j .state ≡ Running → Until (j .start + wallTime (j .estimate)) clock k → QuietFor clock k j
-running-quiet clock k j e u t a b = rw (e, ne-eqb (j .start + wallTime (j .estimate)) t (λ q. omega (arith, u (omega arith))))
+pub running-quiet : (S : Settings) (clock k : ℕ) (j : Job) → j .state ≡ Running → Until (j .start + holdTime S (j .estimate)) clock k → QuietFor S clock k j
+running-quiet S clock k j e u t a b =
+    rw (ap running? e, ap waiting? e, ne-eqb (until S j) t (λ q. omega (arith, until-is S j, u (omega (arith, until-is S j)))))
 
 -- the slots before i have been asked
 pub record Asked (d : Scheduler) (most k i : ℕ) : Type 0 where
   pub to : i ≤ slots
   pub few : k ≤ most
   pub within : d .clock ≤ horizon → d .clock + k ≤ horizon
-  pub quiet : All (QuietFor (d .clock) k) (take i (d .jobs))
+  pub quiet : All (QuietFor (d .settings) (d .clock) k) (take i (d .jobs))
 
 pub asked-none : (d : Scheduler) (most k : ℕ) → k ≤ most → Until (horizon + 1) (d .clock) k → Asked d most k 0
 asked-none d most k l u = record { to = omega arith; few = l; within = λ h. in-time h; quiet = tt }
@@ -61,15 +64,15 @@ asked-none d most k l u = record { to = omega arith; few = l; within = λ h. in-
         go (inr a) = omega arith
 
 pub asked-more : (d : Scheduler) (most k r i : ℕ) → length (d .jobs) ≡ slots → i < slots → Asked d most k i → r ≤ k
-    → QuietFor (d .clock) r (getD (d .jobs) i unused) → Asked d most r (i + 1)
+    → QuietFor (d .settings) (d .clock) r (getD (d .jobs) i unused) → Asked d most r (i + 1)
 asked-more d most k r i len l a s q = record {
   to = omega arith;
   few = omega (arith, a .few);
   within = λ h. omega (arith, a .within h);
   quiet =
       rw (add-one i, take-suc (d .jobs) i unused (omega arith))
-      (all-append (QuietFor (d .clock) r) (take i (d .jobs)) (getD (d .jobs) i unused ∷ [])
-      (all-of (QuietFor (d .clock) r) (take i (d .jobs)) (λ j x. less (d .clock) r k j s (all-in (QuietFor (d .clock) k) (a .quiet) x)))
+      (all-append (QuietFor (d .settings) (d .clock) r) (take i (d .jobs)) (getD (d .jobs) i unused ∷ [])
+      (all-of (QuietFor (d .settings) (d .clock) r) (take i (d .jobs)) (λ j x. less (d .settings) (d .clock) r k j s (all-in (QuietFor (d .settings) (d .clock) k) (a .quiet) x)))
       (q, tt));
 }
 
@@ -78,6 +81,6 @@ unfolding view
 asked-all d most k i len l a = record {
   few = a .few;
   within = a .within;
-  quiet = λ j x. all-in (QuietFor (d .clock) k) (subst (All (QuietFor (d .clock) k)) (take-all i (d .jobs) (omega arith)) (a .quiet))
+  quiet = λ j x. all-in (QuietFor (d .settings) (d .clock) k) (subst (All (QuietFor (d .settings) (d .clock) k)) (take-all i (d .jobs) (omega arith)) (a .quiet))
       (keep-in isLive (d .jobs) x .0);
 }

@@ -13,11 +13,10 @@ use Rattle.scheduler.specs.declared.Kind.{Kind}
 use Rattle.scheduler.specs.declared.Kind.the-variants.{Conservative, Easy}
 use Rattle.scheduler.specs.declared.Job.{Job}
 use Rattle.scheduler.specs.declared.Refusal.the-variants as refusal
-use Rattle.scheduler.specs.declared.Select.the-variants as select
 use Rattle.scheduler.specs.declared.Scheduler.{Scheduler}
 use Rattle.scheduler.specs.Jobs.{picks, endsAt}
 use Rattle.scheduler.specs.Limits.{horizon}
-use Rattle.scheduler.specs.Model.{Model, store, view}
+use Rattle.scheduler.specs.Model.{Model, ending, store, view}
 use Rattle.scheduler.specs.Answers.{Result, refusing}
 use Rattle.history.specs.Calls.{tick, after}
 use Rattle.conservative_laws.specs.Sentences.{startsAt}
@@ -36,13 +35,13 @@ none-any p (x ∷ xs) f = rw (f x (here refl)) (none-any p xs (λ a i. f a (ther
 abbrev pub passed : Model → ℕ → Model
 passed m k = record { settings = m .settings; clock = m .clock + k; next = m .next; jobs = m .jobs }
 
-module _ (m : Model) (v : Valid m) (l : suc (m .clock) ≤ horizon) (q : (j : Job) → In j (m .jobs) → dueAt (suc (m .clock)) j ≡ false) where
-  stays : (j : Job) → In j (m .jobs) → endsAt (suc (m .clock)) j ≡ false
-  stays j i = neither (endsAt (suc (m .clock)) j) (startsAt (suc (m .clock)) j) (q j i) .0
+module _ (m : Model) (v : Valid m) (l : suc (m .clock) ≤ horizon) (q : (j : Job) → In j (m .jobs) → dueAt (m .settings) (suc (m .clock)) j ≡ false) where
+  stays : (j : Job) → In j (m .jobs) → endsAt (m .settings) (suc (m .clock)) j ≡ false
+  stays j i = neither (endsAt (m .settings) (suc (m .clock)) j) (startsAt (suc (m .clock)) j) (q j i) .0
 
   by-kind : (k : Kind) → ValidBy k m → rulesOf k m tick ≡ record { reply = refusing refusal.None; model = easy.later m }
-  by-kind Conservative w = conservative.quiet-tick m l stays (λ j i. neither (endsAt (suc (m .clock)) j) (startsAt (suc (m .clock)) j) (q j i) .1)
-  by-kind Easy w = easy.quiet-tick m w l (none-any (picks (select.EndingAt (suc (m .clock)))) (m .jobs) stays)
+  by-kind Conservative w = conservative.quiet-tick m l stays (λ j i. neither (endsAt (m .settings) (suc (m .clock)) j) (startsAt (suc (m .clock)) j) (q j i) .1)
+  by-kind Easy w = easy.quiet-tick m w l (none-any (picks (ending m)) (m .jobs) stays)
 
   pub quiet-tick : call m tick ≡ record { reply = refusing refusal.None; model = passed m 1 }
   quiet-tick = by-kind (m .settings .kind) v
@@ -55,7 +54,7 @@ module _ (m : Model) (v : Valid m) (l : suc (m .clock) ≤ horizon) (q : (j : Jo
   tick-valid = subst Valid (ap (λ (r : Result). r .model) quiet-tick) (call-valid m tick v)
 
 -- the first of the quiet minutes
-pub quiet-next : (m : Model) (k : ℕ) → Quiet m (suc k) → (j : Job) → In j (m .jobs) → dueAt (suc (m .clock)) j ≡ false
+pub quiet-next : (m : Model) (k : ℕ) → Quiet m (suc k) → (j : Job) → In j (m .jobs) → dueAt (m .settings) (suc (m .clock)) j ≡ false
 quiet-next m k q j i = q j i (suc (m .clock)) (omega arith) (omega arith)
 
 -- and those after it

@@ -6,6 +6,7 @@ ghost use Rattle.quiet_minutes.specs.DueMinutes.{Until, QuietFor};
 ghost use Rattle.quiet_minutes.specs.QuietCount.{Ahead};
 use scheduler::Job;
 use scheduler::Scheduler;
+use scheduler::Settings;
 use scheduler::State;
 
 // How many minutes lie between `clock` and `minute`, at most `most`; a `minute` that is past does not count.
@@ -23,15 +24,19 @@ fn before(minute: u32, clock: u32, most: u32) -> u32
 }
 
 // How many minutes lie between `clock` and the end or start of `job`, at most `most`.
-fn quiet_of(job: Job, clock: u32, most: u32) -> u32
+fn quiet_of(job: Job, settings: Settings, clock: u32, most: u32) -> u32
     requires { ⌜ job .start ≤ horizon ⌝ }
-    ensures { λ r. ⌜ (r ≤ most) × QuietFor clock r job ⌝ }
+    ensures { λ r. ⌜ (r ≤ most) × QuietFor settings clock r job ⌝ }
 {
     let s = job.state;
     match s {
         State::Unused => most,
         State::Waiting => before(job.start, clock, most),
-        State::Running => before(job.start + walltime::wall_time(job.estimate), clock, most),
+        State::Running => before(
+            job.start + settings.hold_time(job.estimate as u32),
+            clock,
+            most,
+        ),
     }
 }
 
@@ -40,11 +45,12 @@ pub fn quiet_minutes(d: Scheduler, most: u32) -> u32
     requires { ⌜ Premise d ⌝ }
     ensures { λ r. ⌜ Ahead d most r ⌝ }
 {
+    let settings = d.settings;
     let mut k = before(Scheduler::HORIZON + 1, d.clock, most);
     let mut i: usize = 0;
     while i < Scheduler::LIVE {
         let j = d.jobs[i];
-        k = quiet_of(j, d.clock, k);
+        k = quiet_of(j, settings, d.clock, k);
         i += 1;
     }
     k

@@ -1,15 +1,17 @@
 -- One job: its state, the nodes it holds, and the tests that calls pick jobs by.
 -- Assumes nothing.
 use mathlib.Core.Bool.{Bool, true, false, _&&_}
-use Prim.Native.Nat.{ℕ, _+_}
+use Prim.Native.Nat.{ℕ}
 use lib.Dec.{eqb}
 use Rattle.lists.specs.Tests.{on}
-use Rattle.walltime.specs.WallTime.{wallTime}
+use Rattle.scheduler.specs.declared.Settings.{Settings}
 use Rattle.scheduler.specs.declared.State.{State}
 use Rattle.scheduler.specs.declared.State.the-variants.{Unused, Waiting, Running}
 use Rattle.scheduler.specs.declared.Job.{Job}
+use Rattle.scheduler.specs.declared.Submission.{Submission}
 use Rattle.scheduler.specs.declared.Select.{Select}
 use Rattle.scheduler.specs.declared.Select.the-variants as select
+use Rattle.scheduler.specs.Settings.{until}
 
 -- "unused ones all zero"
 abbrev pub unused : Job
@@ -30,6 +32,12 @@ running? Unused = false
 running? Waiting = false
 running? Running = true
 
+-- whether its nodes are taken now
+abbrev pub holding? : State → Bool
+holding? Unused = false
+holding? Waiting = false
+holding? Running = true
+
 abbrev pub isLive : Job → Bool
 isLive j = live? (j .state)
 
@@ -39,21 +47,32 @@ isWaiting j = waiting? (j .state)
 abbrev pub isRunning : Job → Bool
 isRunning j = running? (j .state)
 
+abbrev pub isHolding : Job → Bool
+isHolding j = holding? (j .state)
+
 -- the nodes that it holds now
 abbrev pub held : Job → ℕ
-held j = on (isRunning j) (j .nodes)
+held j = on (isHolding j) (j .nodes)
 
 abbrev pub runsAs : ℕ → Job → Bool
 runsAs t j = isRunning j && eqb (j .ticket) t
 
 -- "A stack that starts at minute s ends at s + held unless ended before. The desk ends it there, and its nodes are free in that
 -- same minute."
-abbrev pub endsAt : ℕ → Job → Bool
-endsAt t j = isRunning j && eqb (j .start + wallTime (j .estimate)) t
+abbrev pub endsAt : Settings → ℕ → Job → Bool
+endsAt S t j = isRunning j && eqb (until S j) t
+
+-- a job that comes in: what is asked for it, under its ticket
+abbrev pub fresh : (ticket : ℕ) → Submission → State → (start promise : ℕ) → Job
+fresh t o s start promise = record { ticket = t; nodes = o .nodes; estimate = o .estimate; state = s; start = start; promise = promise }
+
+-- the same job in a state, with a start
+abbrev pub jobAt : State → (start : ℕ) → Job → Job
+jobAt s start j = record { ticket = j .ticket; nodes = j .nodes; estimate = j .estimate; state = s; start = start; promise = j .promise }
 
 -- what each test picks
 abbrev pub picks : Select → Job → Bool
 picks select.Live j = isLive j
 picks select.Waiting j = isWaiting j
 picks (select.RunningTicket t) j = runsAs t j
-picks (select.EndingAt t) j = endsAt t j
+picks (select.EndingAt S t) j = endsAt S t j

@@ -2,6 +2,7 @@ pub mod Limits
 pub mod Jobs
 pub mod Table
 pub mod Settings
+pub mod Times
 pub mod Model
 pub mod Answers
 pub mod Refusals

@@ -19,8 +19,16 @@ abbrev pub slots : ℕ
 slots = 64
 
 -- "Estimate of a stack: 1 to 10,080 minutes."
-abbrev pub longest : ℕ
-longest = wall.longest
+abbrev pub longestEstimate : ℕ
+longestEstimate = wall.longest
+
+-- 2: "`wait` outside 1 to 10,080"
+abbrev pub longestWait : ℕ
+longestWait = 10080
+
+-- no job holds its nodes for longer, whatever the settings
+abbrev pub longestHold : ℕ
+longestHold = wall.longest
 
 -- "Tickets are numbered upward by one from the first, up to 999,999."
 abbrev pub lastTicket : ℕ
@@ -28,7 +36,15 @@ lastTicket = 999999
 
 -- the constants of the code are these numbers (Scheduler::limits)
 abbrev pub limits : Limits
-limits = record { nodes = maxNodes; horizon = horizon; live = slots; longest = longest; «last_ticket» = lastTicket }
+limits = record {
+  nodes = maxNodes;
+  horizon = horizon;
+  live = slots;
+  «longest_estimate» = longestEstimate;
+  «longest_wait» = longestWait;
+  «longest_hold» = longestHold;
+  «last_ticket» = lastTicket;
+}
 
 -- x is outside low to high
 abbrev pub outside : ℕ → ℕ → ℕ → Bool

@@ -11,6 +11,7 @@ use Rattle.lists.specs.Pads.{pad, keep-pad, length-pad}
 use Rattle.scheduler.specs.declared.Job.{Job}
 use Rattle.scheduler.specs.declared.Scheduler.{Scheduler}
 use Rattle.scheduler.specs.declared.Select.{Select}
+use Rattle.scheduler.specs.declared.Select.the-variants as select
 use Rattle.scheduler.specs.Limits.{slots}
 use Rattle.scheduler.specs.declared.Settings.{Settings}
 use Rattle.scheduler.specs.Jobs.{unused, isLive}
@@ -33,6 +34,10 @@ withModelJobs m js = record { settings = m .settings; clock = m .clock; next = m
 -- a job taken in stands last, and the next ticket is one more
 abbrev pub joined : Model → Job → Model
 joined m j = record { settings = m .settings; clock = m .clock; next = suc (m .next); jobs = m .jobs ++ (j ∷ []) }
+
+-- at a minute step: "stacks whose end is now"
+abbrev pub ending : Model → Select
+ending m = select.EndingAt (m .settings) (suc (m .clock))
 
 -- those that a test picks leave, and the clock is set
 abbrev pub without : Model → ℕ → Select → Model

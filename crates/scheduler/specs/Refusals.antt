@@ -8,8 +8,10 @@ use lib.ListN.{length}
 use Rattle.lists.specs.Lists.{any}
 use Rattle.scheduler.specs.declared.Refusal.{Refusal}
 use Rattle.scheduler.specs.declared.Refusal.the-variants as refusal
+use Rattle.scheduler.specs.declared.Settings.{Settings}
+use Rattle.scheduler.specs.declared.Submission.{Submission}
 use Rattle.scheduler.specs.declared.Select.the-variants as select
-use Rattle.scheduler.specs.Limits.{lastTicket, outside}
+use Rattle.scheduler.specs.Limits.{longestWait, lastTicket, outside}
 use Rattle.scheduler.specs.Jobs.{picks}
 use Rattle.scheduler.specs.Settings.{horizon, slots, longest}
 use Rattle.scheduler.specs.Model.{Model}
@@ -19,15 +21,18 @@ use Rattle.scheduler.specs.Answers.{Result, verdict, accepts, refuse}
 abbrev pub judged : Model → Refusal → Result → Result
 judged m r o = cond (accepts r) o (refuse m r)
 
--- of a submission, "intake 1, 2, 4, 5" and what the kind adds. 1: "stack nodes 0 or above the rack's"; 2: "estimate outside 1 to
--- 10,080"; 4: "64 stacks live"; 5: "ticket 999,999 has been given"
-abbrev pub submitTests : Model → ℕ → ℕ → List (Bool × Refusal) → List (Bool × Refusal)
-submitTests m n e more =
-    (outside 1 (m .settings .nodes) n, refusal.NodesOutOfRange)
-    ∷ (outside 1 (longest (m .settings)) e, refusal.MinutesOutOfRange)
-    ∷ (leb (slots (m .settings)) (length (m .jobs)), refusal.Full)
-    ∷ (ltb lastTicket (m .next), refusal.NoTicketLeft)
+-- of a submission, by what they look at: "intake 1, 2, 4, 5" and what the kind adds. 1: "stack nodes 0 or above the rack's"; 2:
+-- "estimate outside 1 to 10,080"; 4: "64 stacks live"; 5: "ticket 999,999 has been given"
+abbrev pub testsBy : Settings → (live next : ℕ) → Submission → List (Bool × Refusal) → List (Bool × Refusal)
+testsBy S live next o more =
+    (outside 1 (S .nodes) (o .nodes), refusal.NodesOutOfRange)
+    ∷ (outside 1 (longest S) (o .estimate), refusal.MinutesOutOfRange)
+    ∷ (leb (slots S) live, refusal.Full)
+    ∷ (ltb lastTicket next, refusal.NoTicketLeft)
     ∷ more
+
+abbrev pub submitTests : Model → Submission → List (Bool × Refusal) → List (Bool × Refusal)
+submitTests m o more = testsBy (m .settings) (length (m .jobs)) (m .next) o more
 
 -- 7: "the ended ticket is not running: waiting, over or never given"
 unfoldable pub completeRefusal : Model → ℕ → Refusal
@@ -41,6 +46,6 @@ tickRefusal m = verdict ((ltb (horizon (m .settings)) (suc (m .clock)), refusal.
 unfoldable pub waitRefusal : Model → ℕ → Refusal
 waitRefusal m n =
     verdict
-    ((outside 1 (longest (m .settings)) n, refusal.MinutesOutOfRange)
+    ((outside 1 longestWait n, refusal.MinutesOutOfRange)
     ∷ (ltb (horizon (m .settings)) (m .clock + n), refusal.PastHorizon)
     ∷ [])

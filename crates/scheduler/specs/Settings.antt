@@ -21,16 +21,16 @@ slots S = limit.slots
 
 -- "Estimate of a stack: 1 to 10,080 minutes."
 abbrev pub longest : Settings → ℕ
-longest S = limit.longest
+longest S = limit.longestEstimate
 
 -- the minutes for which a job of this estimate holds its nodes (document 01: "held time")
-abbrev pub holdTime : Settings → ℕ → ℕ
+unfoldable pub holdTime : Settings → ℕ → ℕ
 holdTime S e = wallTime e
 
 -- the longest of these: the unit of the bound, "r × 10,080"
-abbrev pub unit : Settings → ℕ
+unfoldable pub unit : Settings → ℕ
 unit S = holdTime S (longest S)
 
 -- the minute from which the nodes of a job are free again: "A stack that starts at minute s ends at s + held unless ended before"
-abbrev pub until : Settings → Job → ℕ
+unfoldable pub until : Settings → Job → ℕ
 until S j = j .start + holdTime S (j .estimate)

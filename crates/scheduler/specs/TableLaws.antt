@@ -18,7 +18,7 @@ pub picks-unused : (s : Select) → picks s unused ≡ false
 picks-unused select.Live = refl
 picks-unused select.Waiting = refl
 picks-unused (select.RunningTicket t) = refl
-picks-unused (select.EndingAt t) = refl
+picks-unused (select.EndingAt S t) = refl
 
 module _ (m : Model) where
   pub nodesHeld-stored : nodesHeld (store m .jobs) ≡ nodesHeld (m .jobs)

@@ -1,8 +1,9 @@
 // The scheduler of one machine (document 01: "desk", "rack"): its limits, its jobs by value, opening, and what calls answer.
 ghost use mathlib.Core.Path.{_≡_};
-ghost use Rattle.scheduler.specs.Limits.{limits, outside};
-ghost use Rattle.scheduler.specs.Jobs.{unused, picks};
-ghost use Rattle.scheduler.specs.Settings.{refusedSettings};
+ghost use Prim.Native.Nat.{_≤_};
+ghost use Rattle.scheduler.specs.Limits.{maxNodes, longestEstimate, limits, outside};
+ghost use Rattle.scheduler.specs.Jobs.{unused, fresh, jobAt, picks};
+ghost use Rattle.scheduler.specs.Settings.{refusedSettings, holdTime, unit};
 ghost use Rattle.scheduler.specs.Table.{tickets, oneIf};
 ghost use Rattle.scheduler.specs.Model.{store, empty};
 ghost use Rattle.scheduler.specs.Answers.{code, accepts, refusedAnswer, refusedOutcome, noTickets};
@@ -20,11 +21,12 @@ pub enum State {
     Running,
 }
 
-// A live job (document 01: "stack", "record"), or an unused slot, which is all zero.
+// A live job (document 01: "stack", "record"), or an unused slot, which is all zero. Nodes and estimates are within 16 bits: a scheduler
+// copies its 64 jobs wherever it is handed on.
 pub struct Job {
     pub ticket: u32,
-    pub nodes: u32,
-    pub estimate: u32,
+    pub nodes: u16,
+    pub estimate: u16,
     pub state: State,
     pub start: u32,
     pub promise: u32,
@@ -48,7 +50,9 @@ pub struct Limits {
     pub nodes: u32,
     pub horizon: u32,
     pub live: usize,
-    pub longest: u32,
+    pub longest_estimate: u32,
+    pub longest_wait: u32,
+    pub longest_hold: u32,
     pub last_ticket: u32,
 }
 
@@ -118,7 +122,7 @@ pub enum Select {
     Live,
     Waiting,
     RunningTicket(u32),
-    EndingAt(u32),
+    EndingAt(Settings, u32),
 }
 
 pub fn outside_range(x: u32, low: u32, high: u32) -> bool
@@ -217,6 +221,35 @@ impl Job {
         }
     }
 
+    // A job that comes in: what is asked for it, under its ticket.
+    pub fn fresh(ticket: u32, order: Submission, state: State, start: u32, promise: u32) -> Job
+        requires { ⌜ (order .nodes ≤ maxNodes) × (order .estimate ≤ longestEstimate) ⌝ }
+        ensures { λ r. ⌜ r ≡ fresh ticket order state start promise ⌝ }
+    {
+        Job {
+            ticket: ticket,
+            nodes: order.nodes as u16,
+            estimate: order.estimate as u16,
+            state: state,
+            start: start,
+            promise: promise,
+        }
+    }
+
+    // The same job in a state, with a start.
+    pub fn at(self, state: State, start: u32) -> Job
+        ensures { λ r. ⌜ r ≡ jobAt state start self ⌝ }
+    {
+        Job {
+            ticket: self.ticket,
+            nodes: self.nodes,
+            estimate: self.estimate,
+            state: state,
+            start: start,
+            promise: self.promise,
+        }
+    }
+
     pub fn is_live(self) -> bool
         ensures { λ r. ⌜ r ≡ picks Select.Live self ⌝ }
     {
@@ -252,8 +285,8 @@ impl Job {
     }
 
     // Whether it runs and its nodes are free again from this minute on. (A difference, so that no sum can leave its range.)
-    pub fn ends_at(self, minute: u32) -> bool
-        ensures { λ r. ⌜ r ≡ picks (Select.EndingAt minute) self ⌝ }
+    pub fn ends_at(self, settings: Settings, minute: u32) -> bool
+        ensures { λ r. ⌜ r ≡ picks (Select.EndingAt settings minute) self ⌝ }
     {
         let s = self.state;
         match s {
@@ -263,13 +296,27 @@ impl Job {
                 if minute < self.start {
                     return false;
                 }
-                minute - self.start == walltime::wall_time(self.estimate)
+                minute - self.start == settings.hold_time(self.estimate as u32)
             }
         }
     }
 }
 
 impl Settings {
+    // For how many minutes a job of this estimate holds its nodes.
+    pub fn hold_time(self, estimate: u32) -> u32
+        ensures { λ r. ⌜ r ≡ holdTime self estimate ⌝ }
+    {
+        walltime::wall_time(estimate)
+    }
+
+    // The longest of these: the unit of the bound.
+    pub fn unit(self) -> u32
+        ensures { λ r. ⌜ r ≡ unit self ⌝ }
+    {
+        self.hold_time(Scheduler::LONGEST_ESTIMATE)
+    }
+
     // What a refused opening hands back.
     pub fn of_refused(kind: Kind) -> Settings
         ensures { λ r. ⌜ r ≡ refusedSettings kind ⌝ }
@@ -307,7 +354,12 @@ impl Scheduler {
 
     pub const LIVE: usize = 64;
 
-    pub const LONGEST: u32 = 10_080;
+    pub const LONGEST_ESTIMATE: u32 = 10_080;
+
+    pub const LONGEST_WAIT: u32 = 10_080;
+
+    // No job holds its nodes for longer, whatever the settings.
+    pub const LONGEST_HOLD: u32 = 10_080;
 
     pub const LAST_TICKET: u32 = 999_999;
 
@@ -318,7 +370,9 @@ impl Scheduler {
             nodes: Scheduler::NODES,
             horizon: Scheduler::HORIZON,
             live: Scheduler::LIVE,
-            longest: Scheduler::LONGEST,
+            longest_estimate: Scheduler::LONGEST_ESTIMATE,
+            longest_wait: Scheduler::LONGEST_WAIT,
+            longest_hold: Scheduler::LONGEST_HOLD,
             last_ticket: Scheduler::LAST_TICKET,
         }
     }

@@ -7,7 +7,7 @@ use mathlib.Core.List.{List, [], _++_}
 use lib.ListN.{length, drop, replicate}
 use Rattle.scheduler.specs.declared.Kind.{Kind}
 use Rattle.scheduler.specs.declared.Refusal.the-variants as refusal
-use Rattle.scheduler.specs.Limits.{horizon, longest}
+use Rattle.scheduler.specs.Limits.{horizon, longestWait}
 use Rattle.scheduler.specs.Model.{Model, view}
 use Rattle.scheduler.specs.Answers.{Result, refusing}
 use Rattle.history.specs.Calls.{tick, after}
@@ -104,6 +104,6 @@ module _ (s : List ℕ) (p r : Play) (o : PassesOver p r) where
   passes-no-more = subst (λ (g : Stage). weightBy g s r ≤ weight s p) (sym (o .stage-is)) (by (p .stage))
     where
       by : (g : Stage) → weightBy g s r ≤ weightBy g s p
-      by First = let e = ap (λ (i : ℕ). (length s - i) * suc longest) (o .at-is) in omega (arith, o .steps-is)
-      by Playing = let e = ap (λ (i : ℕ). (length s - i) * suc longest) (o .at-is) in omega (arith, o .steps-is)
+      by First = let e = ap (λ (i : ℕ). (length s - i) * suc longestWait) (o .at-is) in omega (arith, o .steps-is)
+      by Playing = let e = ap (λ (i : ℕ). (length s - i) * suc longestWait) (o .at-is) in omega (arith, o .steps-is)
       by Over = omega arith

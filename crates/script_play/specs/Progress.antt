@@ -15,7 +15,7 @@ use Rattle.text.specs.Lines.{lineAt}
 use Rattle.scheduler.specs.declared.Opening.{Opening}
 use Rattle.scheduler.specs.declared.Refusal.the-variants as refusal
 use Rattle.scheduler.specs.declared.Scheduler.{Scheduler}
-use Rattle.scheduler.specs.Limits.{longest, outside}
+use Rattle.scheduler.specs.Limits.{longestWait, outside}
 use Rattle.scheduler.specs.Model.{Model, view}
 use Rattle.scheduler.specs.Opening.{openingRefusal}
 use Rattle.scheduler.specs.Answers.{accepts}
@@ -36,15 +36,15 @@ use Rattle.script_play.specs.Remainder.{left, leftBy, next-piece}
 pub record InPlay (s : List ℕ) (p : Play) : Type 0 where
   pub premise : Premise (p .scheduler)
   pub inside : p .at ≤ length s
-  pub few : p .steps ≤ longest
+  pub few : p .steps ≤ longestWait
 
 pub begin-ready : (s : List ℕ) → InPlay s beginning
 begin-ready s = record { premise = opened-premise _; inside = omega arith; few = omega arith }
 
 -- what there is still to play, at most: more for each byte than the steps of a wait
 abbrev pub weightBy : Stage → List ℕ → Play → ℕ
-weightBy First s p = suc ((length s - p .at) * suc longest + p .steps)
-weightBy Playing s p = suc ((length s - p .at) * suc longest + p .steps)
+weightBy First s p = suc ((length s - p .at) * suc longestWait + p .steps)
+weightBy Playing s p = suc ((length s - p .at) * suc longestWait + p .steps)
 weightBy Over s p = 0
 
 abbrev pub weight : List ℕ → Play → ℕ
@@ -66,11 +66,11 @@ past-line s at h =
     (λ e. record { further = rw e (omega arith); within = rw e (omega (arith, ltb-true (at + n) (length s) e)) })
     (λ e. record { further = rw e (omega (arith, ltb-false (at + n) (length s) e)); within = rw e (omega (arith, size, upto-le 10 t)) })
 
-pub wait-few : (m : Model) (n : ℕ) → accepts (waitRefusal m n) ≡ true → n ≤ longest
+pub wait-few : (m : Model) (n : ℕ) → accepts (waitRefusal m n) ≡ true → n ≤ longestWait
 unfolding waitRefusal
 wait-few m n a =
-    let p = passed (outside 1 longest n) refusal.MinutesOutOfRange _ refl a in
-    ltb-false longest n (neither (ltb n 1) (ltb longest n) (p .0) .1)
+    let p = passed (outside 1 longestWait n) refusal.MinutesOutOfRange _ refl a in
+    ltb-false longestWait n (neither (ltb n 1) (ltb longestWait n) (p .0) .1)
 
 -- ## Pieces
 
@@ -80,8 +80,8 @@ pub record Onward (s : List ℕ) (w : ℕ) (p : Play) : Type 0 where
   pub less : weight s p < w
 
 module _ (s : List ℕ) where
-  onward : (at next steps : ℕ) (d : Scheduler) → Premise d → at < next → next ≤ length s → steps ≤ longest
-      → Onward s (suc ((length s - at) * suc longest)) (going next steps d)
+  onward : (at next steps : ℕ) (d : Scheduler) → Premise d → at < next → next ≤ length s → steps ≤ longestWait
+      → Onward s (suc ((length s - at) * suc longestWait)) (going next steps d)
   onward at next steps d g low high few = record { ready = record { premise = g; inside = high; few = few }; less = omega (arith, low, high, few) }
 
   -- a line more
@@ -89,7 +89,7 @@ module _ (s : List ℕ) where
     past-at : Past s at
     past-at = past-line s at h
 
-    by-command : (d : Scheduler) → Premise d → (q : Option Command) → Onward s (suc ((length s - at) * suc longest)) (commandPiece (past s at) 0 d q .play)
+    by-command : (d : Scheduler) → Premise d → (q : Option Command) → Onward s (suc ((length s - at) * suc longestWait)) (commandPiece (past s at) 0 d q .play)
     by-command d g none = onward at (past s at) 0 d g (past-at .further) (past-at .within) (omega arith)
     by-command d g (some (ask c)) = onward at (past s at) 0 _ (call-premise d c g) (past-at .further) (past-at .within) (omega arith)
     by-command d g (some (wait n)) =

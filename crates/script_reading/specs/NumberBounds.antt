@@ -13,7 +13,7 @@ use Rattle.text.specs.NumberLaws.{number-most}
 use Rattle.text.specs.Fields.{fieldOf}
 use Rattle.scheduler.specs.declared.Kind.{Kind}
 use Rattle.scheduler.specs.declared.Opening.{Opening}
-use Rattle.history.specs.Calls.{Command, ask, wait, submit, complete, tick, unchanged}
+use Rattle.history.specs.Calls.{Command, ask, wait, submit, order, complete, tick, unchanged}
 use Rattle.script_rules.specs.Reading.{numberAt, withNumber, withKind, kindOf, hasForm, inWord, endWord, waitWord, deskWord, openingIn, commandIn}
 
 abbrev pub Small : ℕ → Type 0
@@ -23,7 +23,7 @@ abbrev pub SmallOpening : Opening → Type 0
 SmallOpening o = Small (o .settings .nodes) × Small (o .minute) × Small (o .ticket)
 
 abbrev pub SmallCommand : Command → Type 0
-SmallCommand (ask (submit n e)) = Small n × Small e
+SmallCommand (ask (submit o)) = Small (o .nodes) × Small (o .estimate)
 SmallCommand (ask (complete t)) = Small t
 SmallCommand (ask tick) = ⊥
 SmallCommand (ask (unchanged why)) = ⊥
@@ -68,7 +68,7 @@ pub command-small : (s : List ℕ) (q : Command) → commandIn s ≡ some q → 
 unfolding commandIn
 command-small s =
     any-cond SmallCommand (hasForm s 3 inWord) _ _
-    (any-field SmallCommand s 1 _ (λ n small-n. any-field SmallCommand s 2 _ (λ e small-e. any-some SmallCommand (ask (submit n e)) (small-n, small-e))))
+    (any-field SmallCommand s 1 _ (λ n small-n. any-field SmallCommand s 2 _ (λ e small-e. any-some SmallCommand (ask (submit (order n e))) (small-n, small-e))))
     (any-cond SmallCommand (hasForm s 2 endWord) _ _
     (any-field SmallCommand s 1 _ (λ t small-t. any-some SmallCommand (ask (complete t)) small-t))
     (any-cond SmallCommand (hasForm s 2 waitWord) _ none (any-field SmallCommand s 1 _ (λ n small-n. any-some SmallCommand (wait n) small-n))

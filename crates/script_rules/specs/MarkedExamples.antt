@@ -13,10 +13,11 @@ use Rattle.walltime.specs.WallTime.{wallTime}
 use Rattle.scheduler.specs.declared.Kind.{Kind}
 use Rattle.scheduler.specs.declared.Kind.the-variants.{Conservative, Easy}
 use Rattle.scheduler.specs.Answers.{Forecast, code, verdict}
+use Rattle.scheduler.specs.Settings as times
 use Rattle.scheduler.specs.Refusals as refusals
 use Rattle.scheduler.specs.Model.{Model}
 use Rattle.scheduler.specs.Opening as opening
-use Rattle.history.specs.Calls.{Command, ask, submit, Event, events, after, allCalls}
+use Rattle.history.specs.Calls.{Command, ask, submit, order, Event, events, after, allCalls}
 use Rattle.conservative_rules.specs.Conservative as conservative
 use Rattle.easy_rules.specs.Easy as easy
 use Rattle.guarantees.specs.Rules.{call}
@@ -62,7 +63,7 @@ play k qs = map said (events call (fresh k) (allCalls call (fresh k) qs))
 
 -- "after `in 6 20` and `in 8 10`": the answer to one submission more
 abbrev third : Kind → ℕ → ℕ → List Said
-third k n e = drop 2 (play k (ask (submit 6 20) ∷ ask (submit 8 10) ∷ ask (submit n e) ∷ []))
+third k n e = drop 2 (play k (ask (submit (order 6 20)) ∷ ask (submit (order 8 10)) ∷ ask (submit (order n e)) ∷ []))
 
 -- the scheduler after some submissions
 abbrev with-jobs : List Command → Model
@@ -133,14 +134,14 @@ rows =
     ∷ answered (third Conservative 4 20) (took (3 ∷ 0 ∷ []) (3 ∷ []) [] ∷ [])
     ∷ answered (third Conservative 4 21) (took (3 ∷ 30 ∷ []) [] [] ∷ [])
     -- "Loose: the head's forecast is 20, extra 2."
-    ∷ answered (play Easy (ask (submit 6 20) ∷ ask (submit 8 10) ∷ [])) (took (1 ∷ 0 ∷ []) (1 ∷ []) [] ∷ took (2 ∷ 0 ∷ []) [] (2 ∷ 20 ∷ []) ∷ [])
-    ∷ gives (easy.extra (with-jobs (ask (submit 6 20) ∷ ask (submit 8 10) ∷ [])) 8) 2
+    ∷ answered (play Easy (ask (submit (order 6 20)) ∷ ask (submit (order 8 10)) ∷ [])) (took (1 ∷ 0 ∷ []) (1 ∷ []) [] ∷ took (2 ∷ 0 ∷ []) [] (2 ∷ 20 ∷ []) ∷ [])
+    ∷ gives (easy.extra (with-jobs (ask (submit (order 6 20)) ∷ ask (submit (order 8 10)) ∷ [])) 8) 2
     -- "`in 4 20` starts by (i); `in 2 100` by (ii); `in 3 21` waits."
     ∷ answered (third Easy 4 20) (took (3 ∷ 0 ∷ []) (3 ∷ []) [] ∷ [])
     ∷ answered (third Easy 2 100) (took (3 ∷ 0 ∷ []) (3 ∷ []) [] ∷ [])
     ∷ answered (third Easy 3 21) (took (3 ∷ 0 ∷ []) [] [] ∷ [])
     -- "Loose, rack of 10, running 5 and 3 nodes, both to 20, head needing 4: extra is 6, not 3."
-    ∷ gives (easy.extra (with-jobs (ask (submit 5 20) ∷ ask (submit 3 20) ∷ ask (submit 4 20) ∷ [])) 4) 6
+    ∷ gives (easy.extra (with-jobs (ask (submit (order 5 20)) ∷ ask (submit (order 3 20)) ∷ ask (submit (order 4 20)) ∷ [])) 4) 6
     -- "Input .. prints exactly", byte for byte
     ∷ record { got = bytes (script.printout sheet); want = bytes sheetPrints }
     ∷ []
@@ -170,6 +171,9 @@ unfolding
     opening.opening
     opening.openingRefusal
     verdict
+    times.holdTime
+    times.unit
+    times.until
     refusals.completeRefusal
     refusals.tickRefusal
     refusals.waitRefusal

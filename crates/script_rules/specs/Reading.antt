@@ -15,7 +15,7 @@ use Rattle.text.specs.Words.{isWord}
 use Rattle.scheduler.specs.declared.Kind.{Kind}
 use Rattle.scheduler.specs.declared.Kind.the-variants.{Conservative, Easy}
 use Rattle.scheduler.specs.declared.Opening.{Opening}
-use Rattle.history.specs.Calls.{Command, ask, wait, submit, complete}
+use Rattle.history.specs.Calls.{Command, ask, wait, submit, order, complete}
 use Rattle.script_rules.specs.Lines.{Line}
 
 abbrev pub deskWord : List ℕ
@@ -68,7 +68,7 @@ unfoldable pub commandIn : List ℕ → Option Command
 commandIn s =
     cond
     (hasForm s 3 inWord)
-    (withNumber (numberAt s 1) (λ n. withNumber (numberAt s 2) (λ e. some (ask (submit n e)))))
+    (withNumber (numberAt s 1) (λ n. withNumber (numberAt s 2) (λ e. some (ask (submit (order n e))))))
     (cond
     (hasForm s 2 endWord)
     (withNumber (numberAt s 1) (λ t. some (ask (complete t))))

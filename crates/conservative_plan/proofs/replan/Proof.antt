@@ -13,25 +13,23 @@ split-requires c κs =
 
 search-requires : tie.Need-search-requires
 search-requires c κs =
-    let p = c .before .before .before .before .before .pre in
-    seeks-hold (p .0) (p .1) (c .before .before .split .ensures)
+    let p = c .before .before .before .before .before .before .pre in
+    seeks-hold (p .0) (p .1) (c .before .before .before .split .ensures)
 
 returns : tie.Need-returns
 returns c =
-    let p = c .before .before .before .before .before .before .before .before .pre in
-    let s = c .before .before .before .before .before .split .ensures in
-    λ q. turned-as q (p .1) s (c .before .before .search .ensures) (λ m. turned-stays m (omega (arith, c .if1 .taken)))
+    let s = c .before .before .before .before .before .before .split .ensures in
+    λ q w. turned-as q w s (c .before .before .search .ensures) (λ m. turned-stays m (omega (arith, c .if1 .taken)))
 
 move-to-requires : tie.Need-move-to-requires
 move-to-requires c κs =
-    let p = c .before .before .before .before .before .before .before .before .before .before .pre in
-    moves (p .0) (p .1) (c .before .before .before .before .before .before .before .split .ensures) (c .before .before .before .before .search .ensures)
+    let p = c .before .before .before .before .before .before .before .before .before .before .before .pre in
+    moves (p .0) (p .1) (c .before .before .before .before .before .before .before .before .split .ensures) (c .before .before .before .before .search .ensures)
 
 returns-2 : tie.Need-returns-2
 returns-2 c =
-    let p = c .before .before .before .before .before .before .before .before .before .before .before .pre in
-    let s = c .before .before .before .before .before .before .before .before .split .ensures in
-    λ q. turned-as q (p .1) s (c .before .before .before .before .before .search .ensures) (c .move-to .ensures)
+    let s = c .before .before .before .before .before .before .before .before .before .split .ensures in
+    λ q w. turned-as q w s (c .before .before .before .before .before .search .ensures) (c .move-to .ensures)
 
 pub replan-spec : {M : Type 1} → statement M
-replan-spec = tie.close (tie.spec split-requires search-requires returns move-to-requires returns-2)
+replan-spec = tie.close (tie.spec split-requires (λ c. search needs) search-requires returns move-to-requires returns-2)

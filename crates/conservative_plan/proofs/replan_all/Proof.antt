@@ -11,7 +11,7 @@ use Rattle.scheduler.specs.Model.{view}
 use Rattle.scheduler.specs.Table.{withJobs}
 use Rattle.jobs.specs.Premise.{holds-as}
 use Rattle.conservative_plan.specs.PlannedSlots.{Planned}
-use Rattle.conservative_plan.specs.Pass.{Replannable, Passing, held-before, pass-begins, replans, hold-is, turn-taken, turn-passed, pass-ends}
+use Rattle.conservative_plan.specs.Pass.{Replannable, Passing, held-before, pass-begins, turn-asked, turn-taken, turn-passed, pass-ends}
 use borrow.Author.Needs.{needs}
 use Rattle.conservative_plan.proofs.replan_all.Statement.{statement}
 use Rattle.conservative_plan.proofs.replan_all.Tie as tie
@@ -43,7 +43,7 @@ replan-requires c κs =
     let w = sym (c .before .before .before .is-waiting .ensures) ∙ c .before .before .if1 .taken in
     let q = held-before (s .args .d) (s .pre) in
     let t = c .before .before .before .before .before .before .before .tabulate .ensures in
-    (replans q (l .inv .passing) (omega arith) w, hold-is q (l .inv .passing) (omega arith) (t .1) w)
+    turn-asked q (l .inv .passing) (omega arith) (t .1) w
 
 loop-again : tie.Need-loop-again Inv-loop μ-loop
 loop-again c =
@@ -52,10 +52,11 @@ loop-again c =
     let h : l .i < 64 = omega arith in
     let q = held-before (s .args .d) (s .pre) in
     let e = c .before .is-waiting .ensures in
+    let t = c .before .before .before .before .before .tabulate .ensures in
     ⊎-elim
     (λ w. rw (w .5, w .6, w .7, w .8) (record {
       scheduler-is = ap (λ (f : Scheduler). withJobs f (set (l .e .jobs) (l .i) (w .3 .result .job))) (l .inv .scheduler-is);
-      passing = turn-taken q (l .inv .passing) h (sym e ∙ w .0 .taken) (w .3 .result) (w .3 .ensures);
+      passing = turn-taken q (l .inv .passing) h (t .1) (sym e ∙ w .0 .taken) (w .3 .result) (w .3 .ensures);
     }))
     (λ w. rw (w .1, w .2, w .3, w .4) (record { scheduler-is = l .inv .scheduler-is; passing = turn-passed q (l .inv .passing) h (sym e ∙ w .0 .left) }))
     (c .if1 .came)

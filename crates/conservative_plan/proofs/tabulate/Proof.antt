@@ -5,73 +5,80 @@ use mathlib.Core.Logic.{⊎-elim}
 use Prim.Native.Nat.{_-_, _≤_, _<_}
 use native.Mathlib.Omega.{arith}
 use lib.ListN.{getD}
-use Rattle.walltime.specs.Laws.{wallTime-le}
+use Rattle.scheduler.specs.Times.{hold-le}
 use Rattle.scheduler.specs.Jobs.{unused}
 use Rattle.scheduler.specs.Model.{view}
-use Rattle.conservative_plan.specs.PlannedSlots.{Laying, HoldsTo, held-slots, start-low, laying-begin, holds-none, holds-more}
+use Rattle.conservative_plan.specs.PlannedSlots.{span-at, Laying, HoldsTo, held-slots, start-low, laying-begin, holds-none, holds-more}
 use Rattle.conservative_plan.specs.PlannedSlots.{holds-skip, lay, laid-more, laid-unused, laid-all}
 use borrow.Author.Needs.{needs}
 use Rattle.conservative_plan.proofs.tabulate.Statement.{statement}
 use Rattle.conservative_plan.proofs.tabulate.Tie as tie
 
 abbrev Inv-loop : tie.InvT-loop
-Inv-loop minutes₀ free₀ holds₀ d count₀ i₀ minutes free holds count i = (i ≤ 64) × Laying (view d .settings) (d .clock) (d .jobs) i count minutes free
-    × HoldsTo (d .jobs) i holds
+Inv-loop minutes₀ free₀ holds₀ d settings count₀ i₀ minutes free holds count i = (i ≤ 64) × Laying (view d .settings) (d .clock) (d .jobs) i count minutes free
+    × HoldsTo (view d .settings) (d .jobs) i holds
 
 abbrev μ-loop : tie.MeasureT-loop
-μ-loop minutes₀ free₀ holds₀ d count₀ i₀ minutes free holds count i = 64 - i
+μ-loop minutes₀ free₀ holds₀ d settings count₀ i₀ minutes free holds count i = 64 - i
 
 idle-requires : tie.Need-idle-requires Inv-loop μ-loop
-idle-requires c κs = (c .before .before .pre .1, c .before .before .pre .2)
+idle-requires c κs = (c .before .before .before .pre .1, c .before .before .before .pre .2)
 
 loop-holds : tie.Need-loop-holds Inv-loop μ-loop
 unfolding view
 loop-holds c =
-    let s = c .before .before .before in
-    (omega arith, laying-begin (held-slots (s .args .t1) (s .pre .0)) _ _ (c .idle .ensures), holds-none (s .args .t1 .jobs) _ (s .pre .3))
+    let s = c .before .before .before .before in
+    let d = s .args .t1 in
+    (omega arith, laying-begin (held-slots d (s .pre .0)) _ _ (c .idle .ensures), holds-none (d .settings) (d .jobs) _ (s .pre .3))
 
 span-requires : tie.Need-span-requires Inv-loop μ-loop
 span-requires c κs =
-    let s = c .before .before .before .before .before .before .before .before .before .before .before in (
-      start-low (held-slots (s .args .t1) (s .pre .0)) (c .before .before .before .before .before .before .before .loop .i) (omega arith),
-      omega (
-        arith,
-        c .before .before .wall-time .ensures,
-        wallTime-le (getD (s .args .t1 .jobs) (c .before .before .before .before .before .before .before .loop .i) unused .estimate),
-      ),
+    let n = c .before .before .before .before .before .before .before .before in
+    let l = n .before in
+    let s = l .before .before .before .before .before in
+    let d = s .args .t1 in (
+      start-low (held-slots d (s .pre .0)) (l .loop .i) (omega (arith, n .loop-test .taken)),
+      omega (arith, c .before .before .before .hold-time .ensures, hold-le (d .settings) (getD (d .jobs) (l .loop .i) unused .estimate)),
     )
 
 lay-requires : tie.Need-lay-requires Inv-loop μ-loop
+unfolding view
 lay-requires c κs =
-    let s = c .before .before .before .before .before .before .before .before .before .before .before .before in
-    let l = c .before .before .before .before .before .before .before .before .loop in
-    rw (c .span .ensures, c .before .before .before .wall-time .ensures) (lay (held-slots (s .args .t1) (s .pre .0)) {i = l .i} (omega arith) (l .inv .1))
+    let n = c .before .before .before .before .before .before .before .before .before in
+    let l = n .before in
+    let s = l .before .before .before .before .before in
+    let d = s .args .t1 in
+    rw (c .span .ensures, c .before .before .before .before .hold-time .ensures, ← span-at (d .settings) (getD (d .jobs) (l .loop .i) unused))
+    (lay (held-slots d (s .pre .0)) {i = l .loop .i} (omega (arith, n .loop-test .taken)) (l .loop .inv .1))
 
 loop-again : tie.Need-loop-again Inv-loop μ-loop
+unfolding view
 loop-again c =
-    let s = c .before .before .before .before .before .before .before .before in
     let l = c .before .before .before .before .loop in
-    let q = held-slots (s .args .t1) (s .pre .0) in
+    let s = c .before .before .before .before .before .before .before .before .before in
+    let d = s .args .t1 in
+    let q = held-slots d (s .pre .0) in
     let h : l .i < 64 = omega arith in
     let e = c .before .is-live .ensures in
     ⊎-elim
-    (λ w. rw (w .6, w .7, w .8, w .9) (
+    (λ w. rw (w .8, w .9, w .10, w .11) (
       omega arith,
-      laid-more q {i = l .i} h (l .inv .1) (rw (w .4 .ensures, w .1 .ensures) at (w .5 .ensures)),
-      rw (w .1 .ensures) (holds-more (l .inv .2) h),
+      laid-more q {i = l .i} h (l .inv .1)
+          (rw (w .6 .ensures, w .2 .ensures, ← span-at (d .settings) (getD (d .jobs) (l .i) unused)) at (w .7 .ensures)),
+      rw (w .2 .ensures) (holds-more (l .inv .2) h),
     ))
     (λ w. rw (w .1, w .2, w .3, w .4) (omega arith, laid-unused q {i = l .i} h (l .inv .1) (sym e ∙ w .0 .left), holds-skip (l .inv .2) (sym e ∙ w .0 .left)))
     (c .if1 .came)
 
 returns : tie.Need-returns Inv-loop μ-loop
 returns c =
-    let s = c .before .before .before .before .before in
+    let s = c .before .before .before .before .before .before in
     let l = c .before .loop in
     let i-is : l .i ≡ 64 = omega arith in
     (laid-all (s .args .t1) (s .pre .0) (rw i-is at (l .inv .1)), rw i-is at (l .inv .2))
 
 pub tabulate-spec : {M : Type 1} → statement M
 tabulate-spec =
-    tie.close (tie.spec Inv-loop μ-loop idle-requires loop-holds (λ c. search needs) (λ c. search needs) (λ c κs. search needs)
-    (λ c κs. search needs) (λ c. search needs) (λ c. search needs) span-requires lay-requires (λ c. search needs) (λ c. search needs)
-    loop-again returns)
+    tie.close (tie.spec Inv-loop μ-loop idle-requires loop-holds (λ c. search needs) (λ c. search needs) (λ c κs. search needs) (λ c. search needs)
+    (λ c κs. search needs) (λ c. search needs) (λ c. search needs) (λ c. search needs) span-requires lay-requires (λ c. search needs)
+    (λ c. search needs) loop-again returns)

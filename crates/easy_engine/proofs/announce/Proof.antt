@@ -1,9 +1,13 @@
 -- `easy_engine::announce` meets its contract: nobody waits, the head is that of before, or it is another.
 -- Assumes nothing.
+use Prim.Native.Nat.{ℕ, _+_}
 use native.Mathlib.Omega.{arith}
 use mathlib.Core.Path.{_≡_, sym, ap, _∙_}
 use lib.ListN.{getD}
+use borrow.Author.Needs.{needs}
 use Rattle.scheduler.specs.Jobs.{unused}
+use Rattle.scheduler.specs.Settings.{unit}
+use Rattle.scheduler.specs.Times.{unit-le}
 use Rattle.scheduler.specs.Table.{ticketOf}
 use Rattle.easy_engine.specs.Columns.{column-at}
 use Rattle.easy_engine.specs.Choices.{nobody-waits, low, need-is, the-head, head-ticket, head-rests, head-lacks}
@@ -42,40 +46,45 @@ returns-2 c =
     let t = column-at ticketOf (s .asking) (w .before .args .tickets .now) (a .tickets-are) unused i (low s i e l) in
     sym (ap announced (forecast-same m (s .model) (getD (s .asking) i unused) (the-head s i e l) (head-ticket s i e l) (sym q ∙ c .if2 .taken ∙ t)))
 
+add-latest : tie.Need-add-latest
+add-latest c =
+    let a = c .before .before .before .before .before in
+    let s = a .pre .surveyed in
+    omega (arith, s .clock-is, s .ready .sound .clock-to, c .unit .ensures, unit-le (a .args .settings))
+
 mul-shadow : tie.Need-mul-shadow
-mul-shadow c = omega (arith, c .before .before .before .before .pre .surveyed .waits .few)
+mul-shadow c = omega (arith, c .before .before .before .before .before .pre .surveyed .waits .few)
 
 element-copy-out-shadow : tie.Need-element-copy-out-shadow
-element-copy-out-shadow c = omega (arith, c .before .before .before .before .pre .surveyed .waits .few)
+element-copy-out-shadow c = omega (arith, c .before .before .before .before .before .pre .surveyed .waits .few)
 
-add-shadow : tie.Need-add-shadow
-add-shadow c =
-    let s = c .before .before .before .before .before .pre .surveyed in
-    omega (arith, s .clock-is, s .ready .sound .clock-to)
+-- one unit from now
+latest : (c : tie.After-unit) → let a = c .before .before .before .before .before .args in a .clock + c .unit .result ≡ a .clock + unit (a .settings)
+latest c = ap (λ (n : ℕ). c .before .before .before .before .before .args .clock + n) (c .unit .ensures)
 
 shadow-requires : tie.Need-shadow-requires
 shadow-requires c κs =
-    let w = c .before .before .before .before in
+    let w = c .before .before .before .before .before in
     let i = w .first-within .result in
     let a = w .before .pre in
     let s = a .surveyed in
     let e = w .first-within .ensures (s .asking) (s .waits .asked-is) (s .waits .count-is) in
-    let l = c .before .before .before .if1 .left in
-    head-lacks s i e l (head-rests s i e l (a .rests))
+    let l = c .before .before .before .before .if1 .left in
+    head-lacks s i e l (head-rests s i e l (a .rests)) _ (latest (c .before))
 
 returns-3 : tie.Need-returns-3
 returns-3 c =
-    let w = c .before .before .before .before .before in
+    let w = c .before .before .before .before .before .before in
     let i = w .first-within .result in
     λ a m q.
     let s = a .surveyed in
     let e = w .first-within .ensures (s .asking) (s .waits .asked-is) (s .waits .count-is) in
-    let l = c .before .before .before .before .if1 .left in
+    let l = c .before .before .before .before .before .if1 .left in
     let t = column-at ticketOf (s .asking) (w .before .args .tickets .now) (a .tickets-are) unused i (low s i e l) in
     let h = getD (s .asking) i unused in
-    let n : c .shadow .result ≡ shadow (s .model) (h .nodes) = c .shadow .ensures (head-lacks s i e l (head-rests s i e l (a .rests)))
-    ∙ ap (shadow (s .model)) (need-is s i e l) in
-    rw (t, n) (sym (ap announced (forecast-new m (s .model) h (the-head s i e l) (head-ticket s i e l) (λ z. c .before .before .if2 .left (q ∙ z ∙ sym t)))))
+    let k = head-lacks s i e l (head-rests s i e l (a .rests)) _ (latest (c .before .before)) in
+    let n : c .shadow .result ≡ shadow (s .model) (h .nodes) = c .shadow .ensures k ∙ ap (shadow (s .model)) (need-is s i e l) in
+    rw (t, n) (sym (ap announced (forecast-new m (s .model) h (the-head s i e l) (head-ticket s i e l) (λ z. c .before .before .before .if2 .left (q ∙ z ∙ sym t)))))
 
 pub announce-spec : {M : Type 1} → statement M
 announce-spec =
@@ -86,8 +95,9 @@ announce-spec =
     mul-ticket
     element-copy-out-ticket
     returns-2
+    (λ c κs. search needs)
+    add-latest
     mul-shadow
     element-copy-out-shadow
-    add-shadow
     shadow-requires
     returns-3)

@@ -6,8 +6,8 @@ use mathlib.Core.Path.{_≡_, ap, _∙_}
 use lib.ListN.{length, getD}
 use Rattle.lists.specs.Lists.{in-getD}
 use Rattle.lists.specs.Pads.{pad}
-use Rattle.walltime.specs.Laws.{wallTime-le}
 use Rattle.scheduler.specs.Limits.{slots}
+use Rattle.scheduler.specs.Times.{hold-le, until-is}
 use Rattle.scheduler.specs.Jobs.{unused}
 use Rattle.easy_engine.specs.Survey.{estimateOf, StartsInTime}
 use Rattle.easy_engine.specs.Columns.{column-at}
@@ -17,11 +17,11 @@ use Rattle.easy_engine.proofs.fill_ends.Statement.{statement}
 use Rattle.easy_engine.proofs.fill_ends.Tie as tie
 
 abbrev Inv-loop : tie.InvT-loop
-Inv-loop ends₀ terms running i₀ ends i =
-    (i ≤ running) × ((s : StartsInTime ends₀ terms running) → ends ≡ pad slots 0 (filled (s .jobs) i))
+Inv-loop ends₀ terms running settings i₀ ends i =
+    (i ≤ running) × ((s : StartsInTime ends₀ terms running) → ends ≡ pad slots 0 (filled settings (s .jobs) i))
 
 abbrev μ-loop : tie.MeasureT-loop
-μ-loop ends₀ terms running i₀ ends i = running - i
+μ-loop ends₀ terms running settings i₀ ends i = running - i
 
 loop-holds : tie.Need-loop-holds Inv-loop μ-loop
 loop-holds c = (search needs, λ s. s .starts-are)
@@ -32,11 +32,11 @@ mul-ends c = omega (arith, c .before .before .pre .few)
 element-copy-out-ends : tie.Need-element-copy-out-ends Inv-loop μ-loop
 element-copy-out-ends c = omega (arith, c .before .before .pre .few)
 
-mul-wall-time : tie.Need-mul-wall-time Inv-loop μ-loop
-mul-wall-time c = omega (arith, c .before .before .before .pre .few)
+mul-hold-time : tie.Need-mul-hold-time Inv-loop μ-loop
+mul-hold-time c = omega (arith, c .before .before .before .pre .few)
 
-element-copy-out-wall-time : tie.Need-element-copy-out-wall-time Inv-loop μ-loop
-element-copy-out-wall-time c = omega (arith, c .before .before .before .pre .few)
+element-copy-out-hold-time : tie.Need-element-copy-out-hold-time Inv-loop μ-loop
+element-copy-out-hold-time c = omega (arith, c .before .before .before .pre .few)
 
 add-ends : tie.Need-add-ends Inv-loop μ-loop
 add-ends c =
@@ -44,11 +44,11 @@ add-ends c =
     let s = c .before .before .before .before .before in
     let p = s .pre in
     let h : l .i < length (p .jobs) = omega (arith, p .count-is) in
-    let e : getD (l .ends) (l .i) 0 ≡ getD (p .jobs) (l .i) unused .start = ap (λ ns. getD ns (l .i) 0) (l .inv .1 p) ∙ start-there (p .jobs) (l .i) h in
+    let e : getD (l .ends) (l .i) 0 ≡ getD (p .jobs) (l .i) unused .start = ap (λ ns. getD ns (l .i) 0) (l .inv .1 p) ∙ start-there (s .args .settings) (p .jobs) (l .i) h in
     omega (
       arith,
-      c .wall-time .ensures,
-      wallTime-le (getD (s .args .terms .now) (l .i) 0),
+      c .hold-time .ensures,
+      hold-le (s .args .settings) (getD (s .args .terms .now) (l .i) 0),
       p .ends (getD (p .jobs) (l .i) unused) (in-getD (p .jobs) (l .i) unused h),
     )
 
@@ -67,18 +67,20 @@ loop-again c =
           let h : l .i < length (p .jobs) = omega (arith, p .count-is) in
           rw (
             l .inv .1 p,
-            start-there (p .jobs) (l .i) h,
-            c .wall-time .ensures,
+            start-there (s .args .settings) (p .jobs) (l .i) h,
+            c .hold-time .ensures,
             column-at estimateOf (p .jobs) (s .args .terms .now) (p .terms-are) unused (l .i) h,
-          ) (fill-next (p .jobs) (l .i) h),
+            ← until-is (s .args .settings) (getD (p .jobs) (l .i) unused),
+          ) (fill-next (s .args .settings) (p .jobs) (l .i) h),
     )
 
 returns : tie.Need-returns Inv-loop μ-loop
 returns c =
     let l = c .before .loop in
-    λ p. l .inv .1 p ∙ ap (pad slots 0) (fill-done (p .jobs) (l .i) (omega (arith, p .count-is)))
+    let s = c .before .before in
+    λ p. l .inv .1 p ∙ ap (pad slots 0) (fill-done (s .args .settings) (p .jobs) (l .i) (omega (arith, p .count-is)))
 
 pub fill-ends-spec : {M : Type 1} → statement M
 fill-ends-spec =
-    tie.close (tie.spec Inv-loop μ-loop loop-holds mul-ends element-copy-out-ends mul-wall-time element-copy-out-wall-time
+    tie.close (tie.spec Inv-loop μ-loop loop-holds mul-ends element-copy-out-ends mul-hold-time element-copy-out-hold-time
     (λ c κs. search needs) add-ends mul-ends-2 element-write-ends (λ c. search needs) (λ c. search needs) loop-again returns)

@@ -39,7 +39,7 @@ settle-requires c κs =
     let f = c .before .before .before .before in
     let u = f .before .before .before .before .before .before .before .pre in
     let d = u .scheduler in
-    (surveyed d (u .ready) (u .passed) _ (u .clock-is) (f .fill-ends .last .0) (f .fill-ends .ensures (starts-of d (u .ready) (u .passed))), omega arith)
+    (surveyed d (u .ready) (u .passed) _ (u .clock-is) _ (u .settings-is) (f .fill-ends .last .0) (f .fill-ends .ensures (starts-of d (u .ready) (u .passed))), omega arith)
 
 announce-requires : tie.Need-announce-requires
 announce-requires c κs =
@@ -49,7 +49,7 @@ announce-requires c κs =
     let d = u .scheduler in
     let h = u .ready in
     let v = u .passed in
-    let p = g .settle .ensures (surveyed d h v _ (u .clock-is) (f .fill-ends .last .0) (f .fill-ends .ensures (starts-of d h v))) in
+    let p = g .settle .ensures (surveyed d h v _ (u .clock-is) _ (u .settings-is) (f .fill-ends .last .0) (f .fill-ends .ensures (starts-of d h v))) in
     record { estimates = _; surveyed = p .after; tickets-are = tickets-still d h v p (u .room); rests = rests-after d h v p (u .room) }
 
 returns-2 : tie.Need-returns-2
@@ -61,7 +61,7 @@ returns-2 c =
     λ u. let d = u .scheduler in
     let h = u .ready in
     let v = u .passed in
-    let p = g .settle .ensures (surveyed d h v _ (u .clock-is) (f .fill-ends .last .0) (f .fill-ends .ensures (starts-of d h v))) in
+    let p = g .settle .ensures (surveyed d h v _ (u .clock-is) _ (u .settings-is) (f .fill-ends .last .0) (f .fill-ends .ensures (starts-of d h v))) in
     record {
       applies = applies d h v p (u .room);
       head-is = λ m q.

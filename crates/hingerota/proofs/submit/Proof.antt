@@ -1,4 +1,5 @@
 use Rattle.history.specs.Calls as calls
+use Rattle.hingerota.specs.Mirror.{wanted}
 use Rattle.hingerota.specs.DeskPremise.{read-premise, call-given}
 use borrow.Author.Needs.{needs}
 use Rattle.hingerota.proofs.submit.Statement.{statement}
@@ -10,7 +11,7 @@ submit-requires c κs = read-premise _ _ (c .read .ensures) (c .before .pre)
 returns : tie.Need-returns
 returns c =
     let s = c .before .before .before in
-    call-given (s .args .d) (calls.submit (s .args .order .nodes) (s .args .order .estimate)) _ _ _ (c .before .before .read .ensures)
+    call-given (s .args .d) (calls.submit (wanted (s .args .order))) _ _ _ (c .before .before .read .ensures)
     (c .before .submit .ensures)
     (c .mirror-outcome .ensures)
 

@@ -15,10 +15,10 @@ use Rattle.job_table.proofs.expire.Statement.{statement}
 use Rattle.job_table.proofs.expire.Tie as tie
 
 abbrev Inv-loop : tie.InvT-loop
-Inv-loop none e₀ clock list₀ kept₀ gone₀ i₀ e list kept gone i = Compacts (select.EndingAt clock) e₀ e list kept gone i
+Inv-loop none settings e₀ clock list₀ kept₀ gone₀ i₀ e list kept gone i = Compacts (select.EndingAt settings clock) e₀ e list kept gone i
 
 abbrev μ-loop : tie.MeasureT-loop
-μ-loop none e₀ clock list₀ kept₀ gone₀ i₀ e list kept gone i = 64 - i
+μ-loop none settings e₀ clock list₀ kept₀ gone₀ i₀ e list kept gone i = 64 - i
 
 abbrev Inv-loop2 : tie.InvT-loop2
 Inv-loop2 none e₀ clock list kept₀ gone i e kept = Clears kept₀ e₀ e kept
@@ -28,7 +28,7 @@ abbrev μ-loop2 : tie.MeasureT-loop2
 
 add-clock : tie.Need-add-clock Inv-loop μ-loop Inv-loop2 μ-loop2
 unfolding view
-add-clock c = omega (arith, c .before .pre .holds .clock-to)
+add-clock c = omega (arith, c .before .before .pre .holds .clock-to)
 
 loop-holds : tie.Need-loop-holds Inv-loop μ-loop Inv-loop2 μ-loop2
 unfolding pad
@@ -37,7 +37,7 @@ loop-holds c = record { low = search needs; parts = search needs; kept-is = refl
 loop-again : tie.Need-loop-again Inv-loop μ-loop Inv-loop2 μ-loop2
 loop-again c =
     let l = c .before .before .before .before .loop in
-    let s = c .before .before .before .before .before .before .before in
+    let s = c .before .before .before .before .before .before .before .before in
     let len = whole (s .args .d) (s .good .0) in
     let h : l .i < 64 = omega arith in
     let there = still-there (l .inv) len h in
@@ -50,14 +50,14 @@ loop-again c =
 loop2-holds : tie.Need-loop2-holds Inv-loop μ-loop Inv-loop2 μ-loop2
 loop2-holds c =
     let l = c .before .loop in
-    let s = c .before .before .before .before in
+    let s = c .before .before .before .before .before in
     clears-first (l .kept) (l .e) (compacts-length (l .inv) (whole (s .args .d) (s .good .0))) (omega (arith, l .inv .parts, l .inv .low))
 
 loop2-again : tie.Need-loop2-again Inv-loop μ-loop Inv-loop2 μ-loop2
 loop2-again c =
     let l = c .before .loop2 in
     let o = c .before .before .before .loop in
-    let u = c .before .before .before .before .before in
+    let u = c .before .before .before .before .before .before in
     rw (u .unused .ensures) (clears-next (l .inv) (compacts-length (o .inv) (whole (u .before .args .d) (u .before .good .0))) (omega arith))
 
 returns : tie.Need-returns Inv-loop μ-loop Inv-loop2 μ-loop2
@@ -65,7 +65,7 @@ returns c =
     let l = c .before .before .loop2 in
     let o = c .before .before .before .before .loop in
     let k = c .before .before .before .before .before in
-    let s = k .before .before in
+    let s = k .before .before .before in
     let d = s .args .d in
     rw (c .past-horizon .ensures) (expires d (s .pre) (o .inv) (whole d (s .good .0)) (l .inv) (omega arith) (omega arith) (k .capped .ensures))
 

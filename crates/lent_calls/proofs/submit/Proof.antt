@@ -20,6 +20,6 @@ pub submit-spec : {M : Type 1} → stated.statement M
 unfolding code.routine
 submit-spec 𝓤 H 𝓜 𝓖 𝓡 =
     thin1 D.the-type D′.the-laws D′.the-plain answer answer-laws outcome-two submission submission-laws callee.name true true (λ d x. Premise d)
-    (λ d x s. s ≡ gives d (calls.submit (x .nodes) (x .estimate))) (λ d x a e. Leaves d (calls.submit (x .nodes) (x .estimate)) a e) (λ d x z. absurd z)
-    (λ d x s pre e. leaves-given d (calls.submit (x .nodes) (x .estimate)) s pre e)
+    (λ d x s. s ≡ gives d (calls.submit x)) (λ d x a e. Leaves d (calls.submit x) a e) (λ d x z. absurd z)
+    (λ d x s pre e. leaves-given d (calls.submit x) s pre e)
     𝓤 H 𝓜 𝓖 𝓡 code.env key.name (code.unfolded 𝓤 H 𝓜 𝓡) callee.routine code.calls-calls·submit (callee-thm.met 𝓤 H 𝓜 𝓖 𝓡)

@@ -19,7 +19,7 @@ pub lent-submit-spec : {M : Type 1} → stated.statement M
 unfolding code.routine
 lent-submit-spec 𝓤 H 𝓜 𝓖 𝓡 =
     own1 D.the-type D′.the-laws D′.the-plain answer answer-laws outcome-two outcome-built submission submission-laws callee.name true true
-    (λ d x. Premise d) (λ d x a e. Leaves d (calls.submit (x .nodes) (x .estimate)) a e)
-    (λ d x s. Leaves d (calls.submit (x .nodes) (x .estimate)) (s .answer) (s .scheduler)) (λ d x z. absurd z)
+    (λ d x. Premise d) (λ d x a e. Leaves d (calls.submit x) a e)
+    (λ d x s. Leaves d (calls.submit x) (s .answer) (s .scheduler)) (λ d x z. absurd z)
     (λ d x a e pre l. l)
     𝓤 H 𝓜 𝓖 𝓡 code.env key.name (code.unfolded 𝓤 H 𝓜 𝓡) callee.routine code.calls-lent-calls·submit (callee-thm.met 𝓤 H 𝓜 𝓖 𝓡)

@@ -1,27 +1,32 @@
-use Rattle.walltime.specs.WallTime.{wallTime}
-use mathlib.Core.Path.{_≡_}
+use mathlib.Core.Path.{_≡_, ap, _∙_}
+use mathlib.Core.Bool.{true}
 use native.Mathlib.Omega.{arith}
 use Prim.Native.Nat.{_+_}
 use borrow.Author.Tests.{ne-eqb}
 use borrow.Author.Needs.{needs}
 use Rattle.lists.specs.Tests.{eqb-sub}
+use Rattle.scheduler.specs.Jobs.{running?, isRunning}
+use Rattle.scheduler.specs.Settings.{holdTime, until}
+use Rattle.scheduler.specs.Times.{until-is, until-from}
 use Rattle.scheduler.proofs.Job.ends_at.Statement.{statement}
 use Rattle.scheduler.proofs.Job.ends_at.Tie as tie
 
 returns : tie.Need-returns
 returns c =
     let a = c .before .before .before .before .args in
-    rw (c .before .before .enum-told3 .given .1, ne-eqb (a .self .start + wallTime (a .self .estimate)) (a .minute) (λ e. omega arith))
+    let r : isRunning (a .self) ≡ true = ap running? (c .before .before .enum-told3 .given .1) in
+    rw (r, ne-eqb (until (a .settings) (a .self)) (a .minute) (λ e. omega (arith, until-from (a .settings) (a .self))))
 
 returns-4 : tie.Need-returns-4
 returns-4 c =
-    let a = c .before .before .before .before .before .before .args in
+    let a = c .before .before .before .before .before .before .before .args in
     let j = a .self in
-    let w : c .wall-time .result ≡ wallTime (j .estimate) = c .wall-time .ensures in
-    let swap : wallTime (j .estimate) + j .start ≡ j .start + wallTime (j .estimate) = omega arith in
-    rw (c .before .before .before .before .enum-told3 .given .1, w, eqb-sub (a .minute) (j .start) (wallTime (j .estimate)) (omega arith), swap)
+    let r : isRunning j ≡ true = ap running? (c .before .before .before .before .before .enum-told3 .given .1) in
+    let w : c .hold-time .result ≡ holdTime (a .settings) (j .estimate) = c .hold-time .ensures in
+    let u : holdTime (a .settings) (j .estimate) + j .start ≡ until (a .settings) j = omega (arith, until-is (a .settings) j) in
+    rw (r, w, eqb-sub (a .minute) (j .start) (holdTime (a .settings) (j .estimate)) (omega arith), u)
 
 pub ends-at-spec : {M : Type 1} → statement M
 ends-at-spec =
-    tie.close (tie.spec (λ c. search needs) (λ c. search needs) (λ c. search needs) returns (λ c κs. search needs) (λ c. search needs)
-    (λ c. search needs) returns-4)
+    tie.close (tie.spec (λ c. search needs) (λ c. search needs) (λ c. search needs) returns (λ c. search needs) (λ c κs. search needs)
+    (λ c. search needs) (λ c. search needs) returns-4)
