@@ -71,12 +71,12 @@ typedef struct {
  * Desk. On a Loose Desk `promise`, and the start of a job that waits, are 0. */
 typedef struct {
     uint32_t ticket;
-    uint32_t nodes;
-    uint32_t estimate;
+    uint16_t nodes;
+    uint16_t estimate;
     uint32_t state;
     uint32_t start;
     uint32_t promise;
-} hingerota_record; /* 24 bytes */
+} hingerota_record; /* 20 bytes */
 
 /* The live jobs stand first, in the order of their tickets. */
 typedef struct {
@@ -85,7 +85,7 @@ typedef struct {
     uint32_t clock;
     uint32_t next; /* the next ticket */
     hingerota_record jobs[64];
-} hingerota_desk; /* 1,552 bytes */
+} hingerota_desk; /* 1,296 bytes */
 
 /* Tickets; the places past the count are 0. */
 typedef struct {
@@ -107,7 +107,7 @@ typedef struct {
 typedef struct {
     uint32_t refusal;
     hingerota_desk desk;
-} hingerota_opened; /* 1,556 bytes */
+} hingerota_opened; /* 1,300 bytes */
 
 /* `free` nodes are free from `minute` on. */
 typedef struct {

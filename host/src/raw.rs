@@ -25,8 +25,8 @@ pub struct Order {
 #[derive(Clone, Copy, PartialEq, Eq, Debug)]
 pub struct Record {
     pub ticket: u32,
-    pub nodes: u32,
-    pub estimate: u32,
+    pub nodes: u16,
+    pub estimate: u16,
     /// 0 unused, 1 waiting, 2 running.
     pub state: u32,
     pub start: u32,

@@ -186,7 +186,14 @@ impl Played {
                         State::Waiting => 1,
                         State::Running => 2,
                     };
-                    Record { ticket: j.ticket, nodes: j.nodes, estimate: j.estimate, state, start: j.start, promise: j.promise }
+                    Record {
+                        ticket: j.ticket,
+                        nodes: j.nodes as u16,
+                        estimate: j.estimate as u16,
+                        state,
+                        start: j.start,
+                        promise: j.promise,
+                    }
                 }
                 None => Record { ticket: 0, nodes: 0, estimate: 0, state: 0, start: 0, promise: 0 },
             };
