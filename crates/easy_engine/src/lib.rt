@@ -183,15 +183,8 @@ fn choose(
     let latest = clock + settings.unit();
     let minute = shadow(held, ends, running, spare, need, latest);
     let extra = avail_at(held, ends, running, spare, minute) - need;
-    forward(
-        asked,
-        estimates,
-        waiting,
-        spare,
-        extra,
-        minute - clock,
-        settings,
-    )
+    let room = minute - clock;
+    forward(asked, estimates, waiting, spare, extra, room, settings)
 }
 
 // The job in this place starts now: it is added to those that run, asks for no nodes any more, and its place is noted. Its nodes are
