@@ -25,7 +25,7 @@ use Rattle.scheduler.specs.declared.Refusal.the-variants as refusal
 use Rattle.scheduler.specs.declared.Select.{Select}
 use Rattle.scheduler.specs.declared.Select.the-variants as select
 use Rattle.scheduler.specs.Limits as limit
-use Rattle.scheduler.specs.Jobs.{fresh, isWaiting, isRunning, isHolding, waiting?, running?, holding?, live?, picks, runsAs}
+use Rattle.scheduler.specs.Jobs.{fresh, jobAt, isWaiting, isRunning, isHolding, waiting?, running?, holding?, live?, picks, runsAs}
 use Rattle.scheduler.specs.declared.Settings.{Settings}
 use Rattle.scheduler.specs.Settings.{horizon, holdTime, until}
 use Rattle.scheduler.specs.Table.{ticketsOf, staying}
@@ -150,14 +150,7 @@ complete-ends m t v =
 -- "taken out of the plan and put in again at its smallest minute, the others staying at their places. One that comes to now starts."
 pub record Placed (S : Settings) (now : ℕ) (others : List Job) (j k : Job) : Type 0 where
   pub smallest : Earliest (free (S .nodes) (spans S others)) now (j .nodes) (holdTime S (j .estimate)) (k .start)
-  pub job-is : k ≡ record {
-    ticket = j .ticket;
-    nodes = j .nodes;
-    estimate = j .estimate;
-    state = cond (eqb (k .start) now) Running Waiting;
-    start = k .start;
-    promise = j .promise;
-  }
+  pub job-is : k ≡ jobAt (cond (eqb (k .start) now) Running Waiting) (k .start) j
 
 pub moved-waiting : (S : Settings) (now : ℕ) (others : List Job) (j : Job) → isWaiting j ≡ true → j .nodes ≤ S .nodes
     → Placed S now others j (moved S now others j)
@@ -208,7 +201,7 @@ starts-stay now S js =
 
 -- the job in another state
 abbrev pub withState : State → Job → Job
-withState s j = record { ticket = j .ticket; nodes = j .nodes; estimate = j .estimate; state = s; start = j .start; promise = j .promise }
+withState s j = jobAt s (j .start) j
 
 turned-is : (now : ℕ) (j : Job) → turned now j ≡ cond (startsAt now j) (withState Running j) j
 turned-is now j = go (j .state)

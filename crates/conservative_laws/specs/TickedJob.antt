@@ -9,19 +9,15 @@ use Rattle.lists.specs.Tests.{true-false}
 use Rattle.scheduler.specs.declared.State.{State}
 use Rattle.scheduler.specs.declared.State.the-variants.{Unused, Waiting, Running}
 use Rattle.scheduler.specs.declared.Job.{Job}
-use Rattle.scheduler.specs.Jobs.{waiting?}
+use Rattle.scheduler.specs.Jobs.{waiting?, jobAt}
 use Rattle.conservative_rules.specs.Conservative.{placed, turned}
 use Rattle.conservative_laws.specs.Sentences.{startsAt}
-
--- a job by its parts
-abbrev job : State → ℕ → Job → Job
-job s b j = record { ticket = j .ticket; nodes = j .nodes; estimate = j .estimate; state = s; start = b; promise = j .promise }
 
 -- one that starts is placed now
 pub turned-due : (now : ℕ) (j : Job) → startsAt now j ≡ true → turned now j ≡ placed now now j
 turned-due now j e = go (j .state) e
   where
-    go : (s : State) → (waiting? s && eqb (j .start) now) ≡ true → cond (waiting? s) (placed now (j .start) j) (job s (j .start) j) ≡ placed now now j
+    go : (s : State) → (waiting? s && eqb (j .start) now) ≡ true → cond (waiting? s) (placed now (j .start) j) (jobAt s (j .start) j) ≡ placed now now j
     go Unused q = true-false false q refl
     go Waiting q = ap (λ (b : ℕ). placed now b j) (eqb-true (j .start) now q)
     go Running q = true-false false q refl
@@ -30,7 +26,7 @@ turned-due now j e = go (j .state) e
 pub turned-other : (now : ℕ) (j : Job) → startsAt now j ≡ false → turned now j ≡ j
 turned-other now j e = go (j .state) e
   where
-    go : (s : State) → (waiting? s && eqb (j .start) now) ≡ false → cond (waiting? s) (placed now (j .start) j) (job s (j .start) j) ≡ job s (j .start) j
+    go : (s : State) → (waiting? s && eqb (j .start) now) ≡ false → cond (waiting? s) (placed now (j .start) j) (jobAt s (j .start) j) ≡ jobAt s (j .start) j
     go Unused q = refl
-    go Waiting q = ap (λ (t : Bool). job (cond t Running Waiting) (j .start) j) q
+    go Waiting q = ap (λ (t : Bool). jobAt (cond t Running Waiting) (j .start) j) q
     go Running q = refl

@@ -41,10 +41,11 @@ waits waiting = true
 waits (running s) = false
 waits (ended s) = false
 
-abbrev pub runs : Fate → Bool
-runs waiting = false
-runs (running s) = true
-runs (ended s) = false
+-- its nodes are taken: it runs
+abbrev pub holds : Fate → Bool
+holds waiting = false
+holds (running s) = true
+holds (ended s) = false
 
 abbrev pub start : Fate → Option ℕ
 start waiting = none

@@ -8,7 +8,7 @@ use Rattle.lists.specs.Tests.{on}
 use Rattle.lists.specs.Lists.{sum, In}
 use Rattle.scheduler.specs.declared.Kind.{Kind}
 use Rattle.scheduler.specs.declared.Kind.the-variants.{Conservative, Easy}
-use Rattle.history.specs.Book.{Entry, Book, runs, start, isWaiting, headOf}
+use Rattle.history.specs.Book.{Entry, Book, holds, start, isWaiting, headOf}
 
 -- it has started, no later than b
 pub record StartedBy (x : Entry) (b : ℕ) : Type 0 where
@@ -16,9 +16,9 @@ pub record StartedBy (x : Entry) (b : ℕ) : Type 0 where
   pub started : start (x .fate) ≡ some minute
   pub by : minute ≤ b
 
--- the nodes of a job that runs
-abbrev pub running-nodes : Entry → ℕ
-running-nodes x = on (runs (x .fate)) (x .nodes)
+-- the nodes that a job holds
+abbrev pub held-nodes : Entry → ℕ
+held-nodes x = on (holds (x .fate)) (x .nodes)
 
 pub record Guarantee (kind : Kind) (nodes : ℕ) (b : Book) : Type 0 where
   -- on the Promise Desk, once the clock has reached its promise, a job has started, no later than promised
@@ -30,4 +30,4 @@ pub record Guarantee (kind : Kind) (nodes : ℕ) (b : Book) : Type 0 where
   -- and whoever is head hears a forecast
   pub heads : kind ≡ Easy → (x : Entry) → In x (b .entries) → isWaiting x ≡ true → headOf (b .entries) ≡ some (x .ticket) → (f : ℕ) × (x .forecast ≡ some f)
   -- on both, running jobs together hold at most the machine's nodes
-  pub within : sum running-nodes (b .entries) ≤ nodes
+  pub within : sum held-nodes (b .entries) ≤ nodes

@@ -12,13 +12,13 @@ use Rattle.scheduler.specs.declared.State.{State}
 use Rattle.scheduler.specs.declared.State.the-variants.{Unused, Waiting, Running}
 use Rattle.scheduler.specs.declared.Job.{Job}
 use Rattle.scheduler.specs.Jobs as jobs
-use Rattle.scheduler.specs.Jobs.{live?, waiting?, running?}
+use Rattle.scheduler.specs.Jobs.{live?, waiting?, holding?}
 use Rattle.scheduler.specs.Table.{nodesHeld, ticketsOf}
 use Rattle.scheduler.specs.Model.{Live}
 use Rattle.scheduler.specs.Answers.{Forecast}
 use Rattle.history.specs.News.{Newcomer, News}
-use Rattle.history.specs.Book.{Fate, waiting, running, ended, Entry, Book, entry, waits, runs, isWaiting, fateAfter, marked, entryTicket, is, hearing, heard}
-use Rattle.history.specs.Guarantee.{running-nodes}
+use Rattle.history.specs.Book.{Fate, waiting, running, ended, Entry, Book, entry, waits, holds, isWaiting, fateAfter, marked, entryTicket, is, hearing, heard}
+use Rattle.history.specs.Guarantee.{held-nodes}
 use Rattle.history_proof.specs.Obligations.{JobShown, fateBy, shown, live, isLive, remark, newly}
 
 abbrev pub seen : Entry → JobShown
@@ -119,26 +119,26 @@ pub same-queue : (js : List Job) (xs : List Entry) → All Live js → map seen 
     → map entryTicket (keep isWaiting xs) ≡ ticketsOf (keep jobs.isWaiting js)
 same-queue js xs l e = queue-seen xs ∙ sym (queue-live (map seen xs)) ∙ ap queue (sym (keep-seen xs) ∙ e) ∙ queue-shown js l
 
--- ## Who runs
+-- ## Who holds nodes
 
 abbrev shown-nodes : JobShown → ℕ
-shown-nodes x = on (runs (x .fate)) (x .nodes)
+shown-nodes x = on (holds (x .fate)) (x .nodes)
 
-runs-live : (f : Fate) → live f ≡ false → runs f ≡ false
-runs-live waiting e = refl
-runs-live (running s) e = e
-runs-live (ended s) e = refl
+holds-live : (f : Fate) → live f ≡ false → holds f ≡ false
+holds-live waiting e = refl
+holds-live (running s) e = e
+holds-live (ended s) e = refl
 
-runs-job : (s : State) (t : ℕ) → runs (fateBy s t) ≡ running? s
-runs-job Unused t = refl
-runs-job Waiting t = refl
-runs-job Running t = refl
+holds-job : (s : State) (t : ℕ) → holds (fateBy s t) ≡ holding? s
+holds-job Unused t = refl
+holds-job Waiting t = refl
+holds-job Running t = refl
 
--- the nodes of running jobs, by the book and by the model
-pub same-nodes : (js : List Job) (xs : List Entry) → map seen (keep isLiveEntry xs) ≡ map shown js → sum running-nodes xs ≡ nodesHeld js
+-- the nodes held, by the book and by the model
+pub same-nodes : (js : List Job) (xs : List Entry) → map seen (keep isLiveEntry xs) ≡ map shown js → sum held-nodes xs ≡ nodesHeld js
 same-nodes js xs e =
-    sym (sum-kept running-nodes isLiveEntry xs (λ x q. ap (λ (t : Bool). on t (x .nodes)) (runs-live (x .fate) q)))
+    sym (sum-kept held-nodes isLiveEntry xs (λ x q. ap (λ (t : Bool). on t (x .nodes)) (holds-live (x .fate) q)))
     ∙ sym (sum-map shown-nodes seen (keep isLiveEntry xs))
     ∙ ap (sum shown-nodes) e
     ∙ sum-map shown-nodes shown js
-    ∙ sum-cong (λ (j : Job). shown-nodes (shown j)) jobs.held js (λ j i. ap (λ (t : Bool). on t (j .nodes)) (runs-job (j .state) (j .start)))
+    ∙ sum-cong (λ (j : Job). shown-nodes (shown j)) jobs.held js (λ j i. ap (λ (t : Bool). on t (j .nodes)) (holds-job (j .state) (j .start)))
