@@ -11,6 +11,7 @@ ghost use Rattle.guarantees.specs.Rules.{call};
 ghost use Rattle.guarantees.specs.Premise.{Premise};
 ghost use Rattle.calls.specs.ProfileCall.{showing, showIn, profileOutcome, pointAt};
 use conservative_profile::Profile;
+use scheduler::Departure;
 use scheduler::Kind;
 use scheduler::Outcome;
 use scheduler::Refusal;
@@ -45,7 +46,15 @@ pub fn complete(d: Scheduler, ticket: u32) -> Outcome
     requires { ⌜ Premise d ⌝ }
     ensures { λ r. ⌜ r ≡ outcome (call (view d) (calls.complete ticket)) ⌝ }
 {
-    call(d, Request::Complete(ticket))
+    call(d, Request::Depart(Departure::Complete, ticket))
+}
+
+// A waiting job is withdrawn (document 02, No. 1).
+pub fn cancel(d: Scheduler, ticket: u32) -> Outcome
+    requires { ⌜ Premise d ⌝ }
+    ensures { λ r. ⌜ r ≡ outcome (call (view d) (calls.cancel ticket)) ⌝ }
+{
+    call(d, Request::Depart(Departure::Cancel, ticket))
 }
 
 // One minute passes (document 01: "minute step").

@@ -1,4 +1,4 @@
--- What a call answers after some jobs have left and the others stand anew: an early completion and a tick both end so.
+-- What a call answers after some jobs have left and the others stand anew: an early completion, a withdrawal and a tick end so.
 -- Assumes nothing.
 use mathlib.Core.Path.{_≡_, refl, ap}
 use mathlib.Core.Bool.{Bool, true, false, _&&_}
@@ -9,7 +9,6 @@ use native.Mathlib.Numerals.{add-one}
 use native.Mathlib.Omega.{arith}
 use lib.ListN.{length, getD, take, replicate}
 use Rattle.lists.specs.Tests.{case}
-use Rattle.lists.specs.Lists.{keep}
 use Rattle.lists.specs.Pads.{pad}
 use Rattle.scheduler.specs.declared.State.{State}
 use Rattle.scheduler.specs.declared.State.the-variants.{Unused, Waiting, Running}
@@ -20,12 +19,12 @@ use Rattle.scheduler.specs.declared.Refusal.the-variants as refusal
 use Rattle.scheduler.specs.declared.Scheduler.{Scheduler}
 use Rattle.scheduler.specs.declared.Select.{Select}
 use Rattle.scheduler.specs.Limits.{slots}
-use Rattle.scheduler.specs.Jobs.{unused, waiting?, running?, isWaiting, isRunning, picks}
-use Rattle.scheduler.specs.Table.{oneIf, ticketsOf, tickets, staying}
+use Rattle.scheduler.specs.Jobs.{unused, waiting?, running?, isWaiting, isRunning}
+use Rattle.scheduler.specs.Table.{oneIf, tickets, endedOf, staying}
 use Rattle.scheduler.specs.Model.{Model, store, without, withModelJobs}
 use Rattle.scheduler.specs.Answers.{outcome, refuse}
 use Rattle.job_table.specs.declared.Part.{Part}
-use Rattle.job_table.specs.Parts.{leaving, part}
+use Rattle.job_table.specs.Parts.{leaving, refusedOwn, part}
 use Rattle.conservative_rules.specs.Conservative.{begun, advanced}
 
 -- it waits before and runs after
@@ -98,21 +97,21 @@ begun-self (j ∷ js) = rw (never (j .state)) (begun-self js)
     never Running = refl
 
 -- a refused call that leaves the table as it was
-pub refused-stored : (m : Model) (r : Refusal) → advancedBy (part (record { refusal = r; ticket = 0; ended = []; model = m })) (store m) ≡ outcome (refuse m r)
+pub refused-stored : (m : Model) (r : Refusal) → advancedBy (part (refusedOwn m r)) (store m) ≡ outcome (refuse m r)
 unfolding advancedBy
 refused-stored m r =
     ap (λ (ts : List ℕ). outcome
     (record { reply = record { refusal = r; ticket = 0; promise = 0; ended = []; started = ts; head = none }; model = m })) (begun-self (store m .jobs))
 
-pub advanced-stored : (m : Model) (clock : ℕ) (s : Select) (ks : List Job) → length (staying s (m .jobs)) ≡ length ks
-    → advancedBy (part (leaving m clock s)) (store (withModelJobs (without m clock s) ks)) ≡ outcome (advanced m clock s ks)
+pub advanced-stored : (m : Model) (clock : ℕ) (s : Select) (w : ℕ) (ks : List Job) → length (staying s (m .jobs)) ≡ length ks
+    → advancedBy (part (leaving m clock s w)) (store (withModelJobs (without m clock s) ks)) ≡ outcome (advanced m clock s ks)
 unfolding advancedBy advanced
-advanced-stored m clock s ks e = λ i. record {
+advanced-stored m clock s w ks e = λ i. record {
   answer = record {
     refusal = refusal.None;
     ticket = 0;
     promise = 0;
-    ended = tickets (ticketsOf (keep (picks s) (m .jobs)));
+    ended = tickets (endedOf s (m .jobs));
     started = tickets (begun-stored (without m clock s) ks e i);
     head = 0;
     forecast = 0;

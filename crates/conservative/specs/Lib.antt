@@ -1,4 +1,4 @@
 pub mod Submit
 pub mod Advance
-pub mod Complete
+pub mod Depart
 pub mod Tick

@@ -2,7 +2,7 @@
 -- Assumes nothing.
 use mathlib.Core.Path.{_≡_, refl, sym, ap, _∙_}
 use mathlib.Core.Bool.{true, false}
-use mathlib.Core.List.{List, [], _∷_, _++_, map, map-append, append-nil}
+use mathlib.Core.List.{List, _∷_, _++_, map, map-append, append-nil}
 use Prim.Native.Nat.{ℕ, zero, suc, _+_, _-_, _≤_, _<_}
 use native.Mathlib.Omega.{arith}
 use lib.ListN.{length, getD, set, take, drop, replicate, length-map, length-append, drop-of-length-le}
@@ -23,7 +23,7 @@ use Rattle.scheduler.specs.Model.{Model, ending, store, without, withModelJobs}
 use Rattle.scheduler.specs.Answers.{outcome, refuse, accepts}
 use Rattle.scheduler.specs.Refusals.{tickRefusal}
 use Rattle.job_table.specs.declared.Part.{Part}
-use Rattle.job_table.specs.Parts.{leaving, ticking, part}
+use Rattle.job_table.specs.Parts.{leaving, refusedOwn, ticking, part}
 use Rattle.history.specs.Calls.{tick}
 use Rattle.conservative_rules.specs.Conservative.{call, begun, ticked, placed, turned}
 use Rattle.conservative_laws.specs.Sentences.{startsAt, begun-turned}
@@ -67,11 +67,11 @@ module _ (m : Model) where
   unfolding store
   turned-rest = turned-stored n rest
 
-  taken-is : startedBy (part (leaving m n (ending m))) ≡ outcome (ticked m)
+  taken-is : startedBy (part (leaving m n (ending m) 0)) ≡ outcome (ticked m)
   unfolding ticked
   taken-is =
-      ap (advancedBy (part (leaving m n (ending m)))) turned-rest
-      ∙ advanced-stored m n (ending m) (map (turned n) (rest .jobs)) (sym (length-map (rest .jobs) (turned n)))
+      ap (advancedBy (part (leaving m n (ending m) 0))) turned-rest
+      ∙ advanced-stored m n (ending m) 0 (map (turned n) (rest .jobs)) (sym (length-map (rest .jobs) (turned n)))
 
   module _ (v : Valid m) where
     -- nobody is planned for the minute that is now
@@ -85,8 +85,8 @@ module _ (m : Model) where
     unfolding store
     turned-still = turned-stored (m .clock) m ∙ ap (λ (js : List Job). store (withModelJobs m js)) still
 
-    refused-is : (r : Refusal) → startedBy (part (record { refusal = r; ticket = 0; ended = []; model = m })) ≡ outcome (refuse m r)
-    refused-is r = ap (advancedBy (part (record { refusal = r; ticket = 0; ended = []; model = m }))) turned-still ∙ refused-stored m r
+    refused-is : (r : Refusal) → startedBy (part (refusedOwn m r)) ≡ outcome (refuse m r)
+    refused-is r = ap (advancedBy (part (refusedOwn m r))) turned-still ∙ refused-stored m r
 
     pub ticks-held : startedBy (part (ticking m)) ≡ outcome (call m tick)
     unfolding call

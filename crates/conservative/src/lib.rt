@@ -1,5 +1,5 @@
-// Conservative backfilling (document 01: "Promise Desk"), by value: submission, early completion and tick. Where jobs are placed, and the
-// profile, are in `conservative_plan`.
+// Conservative backfilling (document 01: "Promise Desk"), by value: submission, early completion, withdrawal and tick. Where jobs are
+// placed, and the profile, are in `conservative_plan`.
 ghost use mathlib.Core.Path.{_≡_};
 ghost use Prim.Native.Nat.{_≤_, _<_};
 ghost use Rattle.scheduler.specs.Limits.{maxNodes, longestEstimate, slots, lastTicket};
@@ -16,6 +16,7 @@ ghost use Rattle.conservative.specs.Submit.{accepted};
 ghost use Rattle.conservative.specs.Tick.{startedBy};
 use job_table::Part;
 use scheduler::Answer;
+use scheduler::Departure;
 use scheduler::Job;
 use scheduler::Outcome;
 use scheduler::Refusal;
@@ -81,11 +82,12 @@ fn advance(left: Part, after: Scheduler) -> Outcome
     }
 }
 
-pub fn complete(d: Scheduler, ticket: u32) -> Outcome
+// A job leaves, and whoever waits moves up, after an early completion and after a withdrawal alike.
+pub fn depart(d: Scheduler, how: Departure, ticket: u32) -> Outcome
     requires { ⌜ Holds Valid d ⌝ }
-    ensures { λ r. ⌜ r ≡ outcome (call (view d) (calls.complete ticket)) ⌝ }
+    ensures { λ r. ⌜ r ≡ outcome (call (view d) (calls.depart how ticket)) ⌝ }
 {
-    let left = job_table::leave(d, ticket);
+    let left = job_table::leave(d, how, ticket);
     let refusal = left.refusal;
     let mut after = left.scheduler;
     if refusal.is_none() {
@@ -206,7 +208,7 @@ pub fn call(d: Scheduler, request: Request) -> Outcome
 {
     match request {
         Request::Submit(s) => submit(d, s),
-        Request::Complete(ticket) => complete(d, ticket),
+        Request::Depart(how, ticket) => depart(d, how, ticket),
         Request::Tick => tick(d),
     }
 }

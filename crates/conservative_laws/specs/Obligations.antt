@@ -1,5 +1,5 @@
 -- Conservative backfilling owes what `Lawful` asks of each single call: its answer tells what has changed, and a job that waits has a
--- planned start, which only gets earlier, so that it starts as promised.
+-- planned start, which only gets earlier, so that it starts as promised unless it is withdrawn before.
 -- Assumes nothing.
 use Prim.Native.Nat.{ℕ, suc, min, _≤_, _<_}
 use native.Mathlib.Omega.{arith}
@@ -9,10 +9,9 @@ use mathlib.Core.List.{List, [], _∷_, map, foldr}
 use mathlib.Core.Logic.{_⊎_, inl, inr}
 use mathlib.Core.Option.{none, some}
 use lib.Dec.{eqb}
-use borrow.Author.Tests.{eqb-true, eq-eqb, ne-eqb}
-use Rattle.lists.specs.Tests.{case, true-false}
+use borrow.Author.Tests.{eqb-true, eq-eqb, ne-eqb, not-true}
+use Rattle.lists.specs.Tests.{case, true-false, both}
 use Rattle.lists.specs.Lists.{keep, elem, In, here, there, in-nil, in-cons, in-left, in-right, keep-in, in-keep}
-use Rattle.scheduler.specs.declared.Submission.{Submission}
 use Rattle.scheduler.specs.declared.Kind.the-variants.{Conservative}
 use Rattle.scheduler.specs.declared.State.{State}
 use Rattle.scheduler.specs.declared.State.the-variants.{Unused, Waiting, Running}
@@ -23,15 +22,16 @@ use Rattle.scheduler.specs.Table.{ticketsOf, staying}
 use Rattle.scheduler.specs.Model.{Model}
 use Rattle.scheduler.specs.Answers.{Result, refusing}
 use Rattle.jobs.specs.Order.{Asc, asc-in, asc-keep}
-use Rattle.jobs.specs.Soundness.{Leaving, leaving-runs, all-live}
+use Rattle.jobs.specs.Departing.{ended-ran}
+use Rattle.jobs.specs.Soundness.{all-live}
 use Rattle.history.specs.Calls.{Call, submit}
-use Rattle.history.specs.News.{Newcomer, News, newsOf, clockAfter}
+use Rattle.history.specs.News.{Newcomer, News, newsOf, clockAfter, came-stays}
 use Rattle.history.specs.Book.{running, fateAfter, lowest}
-use Rattle.history_proof.specs.Obligations.{shown, fateBy, remark, Tells, by, Kept, For, Lawful}
-use Rattle.history_proof.specs.Departures.{shown-with, lives, ends-lives, tells-leave, remark-same, tells-stay, tells-nothing, kept-by}
+use Rattle.history_proof.specs.Obligations.{shown, fateBy, live, remark, Tells, by, Kept, Queued, Comes, For, Lawful}
+use Rattle.history_proof.specs.Departures.{shown-with, waits-runs, queued-by, lives, lives-by, tells-leave, remark-same, tells-stay, tells-nothing, kept-by}
 use Rattle.conservative_rules.specs.Conservative.{planned, stateAt, newJob, submitted, begun, advanced, call}
 use Rattle.conservative_laws.specs.Validity.{Valid, Zip, zip-map, zip-left, Follows, stays, moves, follows-ticket, follows-start}
-use Rattle.conservative_laws.specs.Validity.{follows-begins, Moved, CameOut, idle, joins, leaves, outcome, call-valid}
+use Rattle.conservative_laws.specs.Validity.{follows-begins, Moved, Says, CameOut, idle, joins, leaves, outcome, call-valid}
 
 -- the job u waits, and is planned to start by b
 pub record OnCourse (m : Model) (u b : ℕ) : Type 0 where
@@ -68,21 +68,37 @@ begun-tells R lo (j ∷ js) (k ∷ ks) a z =
     ))
     (λ e. rw e ((z .0, begun-low (j .ticket) (suc (j .ticket)) js ks (omega arith) (a .1)), rest))
 
+-- so whoever starts waited
+pub begun-waited : (t : ℕ) (js ks : List Job) → elem t (begun js ks) ≡ true → (j : Job) × In j js × (isWaiting j ≡ true) × (j .ticket ≡ t)
+begun-waited t [] ks e = true-false false e refl
+begun-waited t (j ∷ js) [] e = true-false false e refl
+begun-waited t (j ∷ js) (k ∷ ks) e =
+    case (isWaiting j && isRunning k)
+    (λ w. case (eqb t (j .ticket))
+    (λ q. (j, here refl, both (isWaiting j) (isRunning k) w .0, sym (eqb-true t (j .ticket) q)))
+    (λ q. later (begun-waited t js ks (rw (w, q) at e))))
+    (λ w. later (begun-waited t js ks (rw w at e)))
+  where
+    later : (x : Job) × In x js × (isWaiting x ≡ true) × (x .ticket ≡ t) → (x : Job) × In x (j ∷ js) × (isWaiting x ≡ true) × (x .ticket ≡ t)
+    later r = (r .0, there (r .1), r .2, r .3)
+
 -- ## The answer tells what has changed
 
 module _ (c : ℕ) (e : News) where
   -- a job that waits and starts, or goes on waiting
   fate-placed : (t : ℕ) (s : State) (b d : ℕ) → waiting? s ≡ true → elem t (e .started) ≡ running? (stateAt c d)
-      → fateBy (stateAt c d) d ≡ fateAfter c e t (fateBy s b)
-  fate-placed t Unused b d w p = true-false false w refl
-  fate-placed t Waiting b d w p =
-      case (eqb d c) (λ q. rw (p, q) (ap running (eqb-true d c q))) (λ q. rw (p, q))
-  fate-placed t Running b d w p = true-false false w refl
+      → live (fateAfter c e t (fateBy s b)) ≡ true → fateBy (stateAt c d) d ≡ fateAfter c e t (fateBy s b)
+  fate-placed t Unused b d w p l = true-false false w refl
+  fate-placed t Waiting b d w p l =
+      case (elem t (e .withdrew))
+      (λ x. true-false false (rw x at l) refl)
+      (λ x. case (eqb d c) (λ q. rw (x, p, q) (ap running (eqb-true d c q))) (λ q. rw (x, p, q)))
+  fate-placed t Running b d w p l = true-false false w refl
 
   remark-follows : (j k : Job) → Follows c j k → elem (j .ticket) (e .started) ≡ (isWaiting j && isRunning k) → lives c e j ≡ true
       → shown k ≡ remark c e (shown j)
   remark-follows j k (stays w) p q = sym (remark-same c e j (rw w at p) q)
-  remark-follows j k (moves s w a b) p q = shown-with (remark c e (shown j)) _ (fate-placed (j .ticket) (j .state) (j .start) s w (rw w at p))
+  remark-follows j k (moves s w a b) p q = shown-with (remark c e (shown j)) _ (fate-placed (j .ticket) (j .state) (j .start) s w (rw w at p) q)
 
   remark-all : (js ks : List Job) → Zip (Told (Follows c) (e .started)) js ks → ((j : Job) → In j js → lives c e j ≡ true)
       → map shown ks ≡ map (remark c e) (map shown js)
@@ -96,14 +112,12 @@ module _ (c : ℕ) (e : News) where
 not-new : (s c t n : ℕ) → t < n → elem t (cond (eqb s c) (n ∷ []) []) ≡ false
 not-new s c t n l = case (eqb s c) (λ q. rw (q, ne-eqb t n (λ e. omega arith))) (λ q. rw q)
 
--- a job that runs does not wait, so one that waits does not leave
-pub runs-waits : (s : State) → running? s ≡ true → waiting? s ≡ false
-runs-waits Unused r = refl
-runs-waits Waiting r = true-false false r refl
-runs-waits Running r = refl
+-- who lives on stays; so does who waits and is not withdrawn
+pub lives-stays : (m : Model) (e : News) (c : ℕ) (s : Select) → Says m e c s → (j : Job) → In j (m .jobs) → lives c e j ≡ true → picks s j ≡ false
+lives-stays m e c s t j i l = not-true (picks s j) (sym (t .live-on j i) ∙ l)
 
-pub waits-stays : (m : Model) (c : ℕ) (s : Select) → Leaving m c s → (j : Job) → isWaiting j ≡ true → picks s j ≡ false
-waits-stays m c s l j w = case (picks s j) (λ p. true-false (isWaiting j) w (runs-waits (j .state) (leaving-runs m c s l j p))) (λ p. p)
+pub waits-lives : (c : ℕ) (e : News) (j : Job) → isWaiting j ≡ true → elem (j .ticket) (e .withdrew) ≡ false → lives c e j ≡ true
+waits-lives c e j w n = rw (waits-runs (j .state) w, n) at (lives-by c e j)
 
 -- those that stay, beside the jobs after
 module _ (m : Model) (c : ℕ) (s : Select) (ks : List Job) (v : Valid m) (g : Moved (m .settings) c (staying s (m .jobs)) ks) where
@@ -116,15 +130,14 @@ outcome-tells m v (idle c r n) = tells-nothing m (newsOf c (refusing r)) n
 outcome-tells m v (joins o f l) =
     let s = planned m o in
     let now = m .clock in
-    tells-stay now (newsOf (submit o) (submitted m o s .reply)) (m .jobs) (newJob m o s ∷ []) refl
+    tells-stay now (newsOf (submit o) (submitted m o s .reply)) (m .jobs) (newJob m o s ∷ []) refl refl
     (λ j i. not-new s now (j .ticket) (m .next) (v .sound .below j i))
     (case (eqb s now) (λ q. rw (q, eq-eqb (m .next) (m .next) refl, eqb-true s now q)) (λ q. rw q))
-outcome-tells m v (leaves c clock s after l g p q) =
+outcome-tells m v (leaves c clock s after l g t) =
     let e = newsOf c (advanced m clock s after .reply) in
-    let stay = ends-lives clock e (picks s) (m .jobs) (v .sound .asc) refl (leaving-runs m clock s l) in
-    tells-leave clock e (picks s) (m .jobs) after stay q
+    tells-leave clock e (picks s) (m .jobs) after (t .live-on) (t .none-comes)
     (remark-all clock e (staying s (m .jobs)) after (leaves-told m clock s after v g)
-    (λ j i. let k = keep-in (λ (j : Job). not (picks s j)) (m .jobs) i in stay j (k .0) ∙ k .1))
+    (λ j i. let k = keep-in (λ (j : Job). not (picks s j)) (m .jobs) i in t .live-on j (k .0) ∙ k .1))
 
 -- ## A job on course stays on course
 
@@ -137,13 +150,12 @@ follows-waits : (now : ℕ) (j k : Job) → Follows now j k → isWaiting j ≡ 
 follows-waits now j k (stays e) w r = true-false (isWaiting j) w e
 follows-waits now j k (moves s e a b) w r = case (eqb s now) (λ q. true-false true refl (rw q at r)) (λ q. rw q)
 
-leaves-keeps : (m : Model) (c : ℕ) (s : Select) (ks : List Job) (u b : ℕ) → Valid m → Leaving m c s → Moved (m .settings) c (staying s (m .jobs)) ks
-    → OnCourse m u b
-    → StartsBy u b (advanced m c s ks)
+leaves-keeps : (m : Model) (c : ℕ) (s : Select) (ks : List Job) (u b : ℕ) → Valid m → Moved (m .settings) c (staying s (m .jobs)) ks
+    → (o : OnCourse m u b) → picks s (o .job) ≡ false → StartsBy u b (advanced m c s ks)
 unfolding advanced
-leaves-keeps m c s ks u b v l g o =
+leaves-keeps m c s ks u b v g o n =
     let z = zip-left (Told (Follows c) (begun js ks)) js ks (leaves-told m c s ks v g)
-    (in-keep (λ (j : Job). not (picks s j)) (o .inside) (ap not (waits-stays m c s l (o .job) (o .waits)))) in
+    (in-keep (λ (j : Job). not (picks s j)) (o .inside) (ap not n)) in
     go (z .0) (z .1) (z .2 .0) (z .2 .1)
   where
     js : List Job
@@ -167,17 +179,21 @@ leaves-keeps m c s ks u b v l g o =
           },
         ))
 
-outcome-keeps : (m : Model) {c : Call} {r : Result} (u b : ℕ) → Valid m → OnCourse m u b → CameOut m c r → StartsBy u b r
+outcome-keeps : (m : Model) {c : Call} {r : Result} (u b : ℕ) → Valid m → OnCourse m u b → CameOut m c r → elem u (newsOf c (r .reply) .withdrew) ≡ false
+    → StartsBy u b r
 unfolding submitted advanced
-outcome-keeps m u b v o (idle c r n) = inr (refl, o)
-outcome-keeps m u b v o (joins w f l) = inr (
+outcome-keeps m u b v o (idle c r n) w = inr (refl, o)
+outcome-keeps m u b v o (joins w f l) n = inr (
   rw (← o .is-u) (not-new (planned m w) (m .clock) (o .job .ticket) (m .next) (v .sound .below (o .job) (o .inside))),
   record { job = o .job; inside = in-left _ (o .inside); waits = o .waits; is-u = o .is-u; by = o .by },
 )
-outcome-keeps m u b v o (leaves c clock s after l g p q) = leaves-keeps m clock s after u b v l g o
+outcome-keeps m u b v o (leaves c clock s after l g t) n =
+    let e = newsOf c (advanced m clock s after .reply) in
+    leaves-keeps m clock s after u b v g o
+    (lives-stays m e clock s t (o .job) (o .inside) (waits-lives clock e (o .job) (o .waits) (ap (λ (x : ℕ). elem x (e .withdrew)) (o .is-u) ∙ n)))
 
 -- who comes has the next ticket, and starts now or is planned for its promise
-outcome-joins : (m : Model) {c : Call} {r : Result} (o : Newcomer) → CameOut m c r → In o (newsOf c (r .reply) .came)
+pub outcome-joins : (m : Model) {c : Call} {r : Result} (o : Newcomer) → CameOut m c r → In o (newsOf c (r .reply) .came)
     → (o .ticket ≡ m .next) × StartsBy (o .ticket) (o .promise) r
 unfolding submitted advanced planned
 outcome-joins m o (idle c r n) i = in-nil (subst (λ (e : News). In o (e .came)) n i)
@@ -201,7 +217,38 @@ outcome-joins m o (joins w f l) i = one (in-cons i)
               (λ q. inl (rw (q, eq-eqb (m .next) (m .next) refl), omega (arith, eqb-true s now q)))
               (λ q. inr (rw q, record { job = newJob m w s; inside = in-right (m .jobs) (here refl); waits = rw q; is-u = refl; by = omega arith })),
         )
-outcome-joins m o (leaves c clock s after l g p q) i = in-nil (subst (In o) q i)
+outcome-joins m o (leaves c clock s after l g t) i = in-nil (subst (In o) (t .none-comes) i)
+
+-- ## Who starts, whose run ends, and who is withdrawn
+
+outcome-starts : (m : Model) {c : Call} {r : Result} (u : ℕ) → CameOut m c r → elem u (r .reply .started) ≡ true
+    → let e = newsOf c (r .reply) in (elem u (e .withdrew) ≡ false) × (Queued m u ⊎ Comes e u)
+unfolding submitted advanced
+outcome-starts m u (idle c r n) x = true-false false x refl
+outcome-starts m u (joins o f l) x =
+    case (eqb (planned m o) (m .clock))
+    (λ q. case (eqb u (m .next)) (λ y. (refl, inr (_, here refl, sym (eqb-true u (m .next) y)))) (λ y. true-false false (rw (q, y) at x) refl))
+    (λ q. true-false false (rw q at x) refl)
+outcome-starts m u (leaves c clock s after l g t) x =
+    let e = newsOf c (advanced m clock s after .reply) in
+    let w = begun-waited u (staying s (m .jobs)) after x in
+    let k = keep-in (λ (j : Job). not (picks s j)) (m .jobs) (w .1) in
+    let n : lives clock e (w .0) ≡ true = t .live-on (w .0) (k .0) ∙ k .1 in
+    let z : not (elem (w .0 .ticket) (e .withdrew)) ≡ true = sym (rw (waits-runs (w .0 .state) (w .2)) at (lives-by clock e (w .0))) ∙ n in
+    (ap (λ (y : ℕ). elem y (e .withdrew)) (sym (w .3)) ∙ not-true (elem (w .0 .ticket) (e .withdrew)) z, inl (queued-by m u (w .0) (k .0) (w .2) (w .3)))
+
+outcome-withdraws : (m : Model) {c : Call} {r : Result} (u : ℕ) → CameOut m c r → elem u (newsOf c (r .reply) .withdrew) ≡ true → Queued m u
+unfolding submitted advanced
+outcome-withdraws m u (idle c r n) x = true-false false (ap (λ (e : News). elem u (e .withdrew)) (sym n) ∙ x) refl
+outcome-withdraws m u (joins o f l) x = true-false false x refl
+outcome-withdraws m u (leaves c clock s after l g t) x = t .waited u x
+
+pub outcome-ends : (m : Model) {c : Call} {r : Result} (u : ℕ) → CameOut m c r → elem u (r .reply .ended) ≡ true
+    → elem u (ticketsOf (keep isRunning (m .jobs))) ≡ true
+unfolding submitted advanced
+outcome-ends m u (idle c r n) x = true-false false x refl
+outcome-ends m u (joins o f l) x = true-false false x refl
+outcome-ends m u (leaves c clock s after l g t) x = ended-ran m clock s l u x
 
 -- ## The rest
 
@@ -209,19 +256,19 @@ outcome-settings : (m : Model) {c : Call} {r : Result} → CameOut m c r → r .
 unfolding submitted advanced
 outcome-settings m (idle c r n) = refl
 outcome-settings m (joins o f l) = refl
-outcome-settings m (leaves c clock s after l g p q) = refl
+outcome-settings m (leaves c clock s after l g t) = refl
 
 outcome-clock : (m : Model) {c : Call} {r : Result} → CameOut m c r → r .model .clock ≡ clockAfter (newsOf c (r .reply)) (m .clock)
 unfolding submitted advanced
 outcome-clock m (idle c r n) = ap (λ (e : News). clockAfter e (m .clock)) (sym n)
 outcome-clock m (joins o f l) = refl
-outcome-clock m (leaves c clock s after l g p q) = sym p
+outcome-clock m (leaves c clock s after l g t) = sym (t .passes)
 
 outcome-head : (m : Model) {c : Call} {r : Result} → CameOut m c r → r .reply .head ≡ none
 unfolding submitted advanced
 outcome-head m (idle c r n) = refl
 outcome-head m (joins o f l) = refl
-outcome-head m (leaves c clock s after l g p q) = refl
+outcome-head m (leaves c clock s after l g t) = refl
 
 -- the lowest of some tickets is none above them all
 lowest-low : (n : ℕ) (js : List Job) (h : ℕ) → ((j : Job) → In j js → j .ticket < n) → lowest (ticketsOf js) ≡ some h → h < n
@@ -243,9 +290,11 @@ conservative-lawful = record {
   tells = λ m c v. outcome-tells m v (outcome m c v);
   keeps = λ b. record {
     rest = λ m u v o. omega (arith, v .ahead (o .job) (o .inside) (o .waits), o .by);
-    keeps = λ m c u v o. kept m c u b (outcome-keeps m u b v o (outcome m c v));
+    keeps = λ m c u v o n. kept m c u b n (outcome-keeps m u b v o (outcome m c v) n);
   };
-  joins = λ m c o v i. kept m c (o .ticket) (o .promise) (outcome-joins m o (outcome m c v) i .1);
+  joins = λ m c o v i. kept m c (o .ticket) (o .promise) (came-stays c (call m c .reply) (o .ticket) o i) (outcome-joins m o (outcome m c v) i .1);
+  starts = λ m c u v x. outcome-starts m u (outcome m c v) x;
+  withdraws = λ m c u v x. outcome-withdraws m u (outcome m c v) x;
   fresh = λ m c o v i h.
       omega (
         arith,
@@ -256,5 +305,6 @@ conservative-lawful = record {
   hears = λ k. absurd (let z : _≡_ {A = ℕ} 0 1 = cc in omega arith);
 }
   where
-    kept : (m : Model) (c : Call) (u b : ℕ) → StartsBy u b (call m c) → Kept (by b) (For OnCourse b) u (newsOf c (call m c .reply)) (call m c .model)
+    kept : (m : Model) (c : Call) (u b : ℕ) → elem u (newsOf c (call m c .reply) .withdrew) ≡ false → StartsBy u b (call m c)
+        → Kept (by b) (For OnCourse b) u (newsOf c (call m c .reply)) (call m c .model)
     kept m c u b = kept-by (m .clock) (newsOf c (call m c .reply)) (by b) (For OnCourse b) (call m c .model) u

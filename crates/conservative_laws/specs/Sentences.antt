@@ -10,7 +10,7 @@ use mathlib.Core.List.{List, [], _∷_, _++_, map}
 use lib.Dec.{leb, ltb, eqb}
 use lib.ListN.{length, length-append, length-map}
 use borrow.Author.Tests.{leb-false, le-leb, le-ltb, eqb-true, ne-eqb}
-use Rattle.lists.specs.Tests.{case, true-false, both, and-right-false, on}
+use Rattle.lists.specs.Tests.{case, true-false, both, on}
 use Rattle.lists.specs.Lists.{keep, any, sum, elem, In, here, there, in-left, in-keep, keep-in, keep-keep, keep-cong}
 use Rattle.walltime.specs.WallTime.{wallTime}
 use Rattle.spans.specs.Spans.{takes, used, free, Earliest, Profile}
@@ -22,28 +22,33 @@ use Rattle.scheduler.specs.declared.Job.{Job}
 use Rattle.scheduler.specs.declared.Submission.{Submission}
 use Rattle.scheduler.specs.declared.Refusal.{Refusal}
 use Rattle.scheduler.specs.declared.Refusal.the-variants as refusal
+use Rattle.scheduler.specs.declared.Departure.{Departure}
+use Rattle.scheduler.specs.declared.Departure.the-variants.{Complete, Cancel}
 use Rattle.scheduler.specs.declared.Select.{Select}
 use Rattle.scheduler.specs.declared.Select.the-variants as select
 use Rattle.scheduler.specs.Limits as limit
-use Rattle.scheduler.specs.Jobs.{fresh, jobAt, isWaiting, isRunning, isHolding, waiting?, running?, holding?, live?, picks, runsAs}
+use Rattle.scheduler.specs.Jobs.{fresh, jobAt, isWaiting, isRunning, isHolding, waiting?, running?, holding?, live?, departsAs, picks}
 use Rattle.scheduler.specs.declared.Settings.{Settings}
 use Rattle.scheduler.specs.Settings.{horizon, holdTime, until}
-use Rattle.scheduler.specs.Table.{ticketsOf, staying}
+use Rattle.scheduler.specs.Table.{ticketsOf, endedOf, staying}
 use Rattle.scheduler.specs.Model.{Model, ending}
 use Rattle.scheduler.specs.Answers.{Result, verdict, accepts, refuse}
-use Rattle.scheduler.specs.Refusals.{judged, submitTests, completeRefusal, tickRefusal}
+use Rattle.scheduler.specs.Refusals.{judged, submitTests, departRefusal, tickRefusal}
 use Rattle.jobs.specs.Order.{Asc, asc-keep, asc-one}
+use Rattle.jobs.specs.Departing.{departs-alone}
 use Rattle.jobs.specs.Soundness.{SoundJob}
-use Rattle.history.specs.Calls.{Call, submit, complete, tick, unchanged}
-use Rattle.history.specs.News.{newsOf}
+use Rattle.history.specs.Calls.{Call, submit, depart, complete, cancel, tick, unchanged}
+use Rattle.history.specs.News.{News, newsOf}
 use Rattle.history.specs.Tickets.{nextAfter}
+use Rattle.history_proof.specs.Obligations.{said, Ticketed}
+use Rattle.history_proof.specs.Departures.{queued-by, lives, leavers, lives-by}
 use Rattle.conservative_rules.specs.Conservative.{span, spans, planned, newJob, withNew, points, maxPoints, submitRefusal, submitted, begun}
-use Rattle.conservative_rules.specs.Conservative.{advanced, moved, completed, turned, ticked, profileRefusal, call}
+use Rattle.conservative_rules.specs.Conservative.{advanced, moved, departed, turned, ticked, profileRefusal, call}
 use Rattle.conservative_rules.specs.Computed.{startOf, promiseOf}
 use Rattle.jobs.specs.Judgement.{judged-by, judged-refusal, judged-refused}
 use Rattle.conservative_laws.specs.Validity.{Valid, zip-left, Follows, follows-ticket, follows-start, follows-promise, CameOut, idle}
 use Rattle.conservative_laws.specs.Validity.{joins, leaves, outcome, call-valid}
-use Rattle.conservative_laws.specs.Obligations.{runs-waits, waits-stays}
+use Rattle.conservative_laws.specs.Obligations.{OnCourse, begun-waited, lives-stays, waits-lives, outcome-joins, outcome-ends}
 use Rattle.conservative_laws.specs.PassLoop.{loop, pass-as-loop}
 
 -- ## Free nodes
@@ -122,30 +127,20 @@ submit-taken m o a =
     judged-taken (Taken m o s) m (submitRefusal m o s) (submitted m o s)
     (record { ticket-is = refl; next-is = refl; promise-is = refl; started-is = refl; ended-is = refl; jobs-are = refl }) a
 
--- ## Early end
-
-none-leaves : (t lo : ℕ) (js : List Job) → t < lo → Asc lo js → ticketsOf (keep (runsAs t) js) ≡ []
-none-leaves t lo [] l a = refl
-none-leaves t lo (j ∷ js) l a =
-    rw (ne-eqb (j .ticket) t (λ e. omega (arith, a .0)), and-right-false (isRunning j) refl)
-    (none-leaves t (suc (j .ticket)) js (omega (arith, a .0)) (a .1))
-
-one-leaves : (t lo : ℕ) (js : List Job) → Asc lo js → any (runsAs t) js ≡ true → ticketsOf (keep (runsAs t) js) ≡ t ∷ []
-one-leaves t lo [] a e = true-false false e refl
-one-leaves t lo (j ∷ js) a e = case (runsAs t j) (λ q. rw q (this q)) (λ q. rw q (one-leaves t (suc (j .ticket)) js (a .1) (rw q at e)))
-  where
-    this : runsAs t j ≡ true → j .ticket ∷ ticketsOf (keep (runsAs t) js) ≡ t ∷ []
-    this q =
-        let k : j .ticket ≡ t = eqb-true (j .ticket) t (both (isRunning j) (eqb (j .ticket) t) q .1) in
-        rw (none-leaves t (suc (j .ticket)) js (omega arith) (a .1), k)
+-- ## Early end and withdrawal
 
 -- "The stack leaves": the ticket that is ended, and no other
 pub complete-ends : (m : Model) (t : ℕ) → Valid m → accepts (call m (complete t) .reply .refusal) ≡ true → call m (complete t) .reply .ended ≡ t ∷ []
-unfolding call completed advanced completeRefusal verdict
+unfolding call departed advanced departRefusal verdict
 complete-ends m t v =
-    case (any (runsAs t) (m .jobs))
-    (λ e. rw e (λ a. one-leaves t 1 (m .jobs) (v .sound .asc) e))
+    case (any (departsAs Complete t) (m .jobs))
+    (λ e. rw e (λ a. departs-alone Complete t 1 (m .jobs) (v .sound .asc) e))
     (λ e. rw e (λ a. true-false false a refl))
+
+-- a job that is withdrawn has not run: no ticket is ended
+pub cancel-ends : (m : Model) (t : ℕ) → call m (cancel t) .reply .ended ≡ []
+unfolding call departed advanced
+cancel-ends m t = judged-by (λ (r : Result). r .reply .ended ≡ []) m (departRefusal m Cancel t) (departed m Cancel t) (λ a. refl) (λ a. refl)
 
 -- "taken out of the plan and put in again at its smallest minute, the others staying at their places. One that comes to now starts."
 pub record Placed (S : Settings) (now : ℕ) (others : List Job) (j k : Job) : Type 0 where
@@ -161,16 +156,16 @@ pub moved-running : (S : Settings) (now : ℕ) (others : List Job) (j : Job) →
 moved-running S now others j w = rw w
 
 -- "Then each waiting stack, once, in ticket order": the jobs that stay have their turns by their indices, each with all others as they are
--- then (`turn` moves the job at an index; z stands for what is past the list)
-pub complete-moves : (m : Model) (t : ℕ) (z : Job) → Valid m → accepts (call m (complete t) .reply .refusal) ≡ true
-    → let js = keep (λ (j : Job). not (runsAs t j)) (m .jobs) in call m (complete t) .model .jobs ≡ loop (m .settings) (m .clock) z (length js) 0 js
-unfolding call completed advanced
-complete-moves m t z v =
-    judged-taken (λ (r : Result). r .model .jobs ≡ loop (m .settings) (m .clock) z (length js) 0 js) m (completeRefusal m t) (completed m t)
-    (sym (pass-as-loop (m .settings) (m .clock) z js (λ j i. v .sound .each j (keep-in (λ (j : Job). not (runsAs t j)) (m .jobs) i .0) .nodes-to)))
+-- then (`turn` moves the job at an index; z stands for what is past the list). Document 02, No. 1: the same after a withdrawal.
+pub depart-moves : (m : Model) (h : Departure) (t : ℕ) (z : Job) → Valid m → accepts (call m (depart h t) .reply .refusal) ≡ true
+    → let js = keep (λ (j : Job). not (departsAs h t j)) (m .jobs) in call m (depart h t) .model .jobs ≡ loop (m .settings) (m .clock) z (length js) 0 js
+unfolding call departed advanced
+depart-moves m h t z v =
+    judged-taken (λ (r : Result). r .model .jobs ≡ loop (m .settings) (m .clock) z (length js) 0 js) m (departRefusal m h t) (departed m h t)
+    (sym (pass-as-loop (m .settings) (m .clock) z js (λ j i. v .sound .each j (keep-in (λ (j : Job). not (departsAs h t j)) (m .jobs) i .0) .nodes-to)))
   where
     js : List Job
-    js = staying (select.RunningTicket t) (m .jobs)
+    js = staying (select.Departing h t) (m .jobs)
 
 -- ## Minute step
 
@@ -189,6 +184,12 @@ turned-starts now j = case (isWaiting j) (λ w. rw w (case (eqb (j .start) now) 
 pub begun-turned : (now : ℕ) (js : List Job) → begun js (map (turned now) js) ≡ ticketsOf (keep (startsAt now) js)
 begun-turned now [] = refl
 begun-turned now (j ∷ js) = rw (turned-starts now j) (case (startsAt now j) (λ e. rw (e, begun-turned now js)) (λ e. rw (e, begun-turned now js)))
+
+-- a job that runs does not wait
+runs-waits : (s : State) → running? s ≡ true → waiting? s ≡ false
+runs-waits Unused r = refl
+runs-waits Waiting r = true-false false r refl
+runs-waits Running r = refl
 
 -- none of them leaves
 starts-stay : (now : ℕ) (S : Settings) (js : List Job) → keep (startsAt now) (keep (λ (j : Job). not (overAt S now j)) js) ≡ keep (startsAt now) js
@@ -241,33 +242,51 @@ tick-taken m a = judged-taken (Ticked m) m (tickRefusal m) (ticked m) (record {
 
 -- ## Planned starts
 
--- a job that waits is there after each call, its promise unchanged and its planned start no later
+-- a job that is there still, its promise unchanged and its planned start no later
 pub record Still (j k : Job) : Type 0 where
   pub ticket : k .ticket ≡ j .ticket
   pub start : k .start ≤ j .start
   pub promise : k .promise ≡ j .promise
 
-outcome-still : (m : Model) {c : Call} {r : Result} (j : Job) → CameOut m c r → In j (m .jobs) → isWaiting j ≡ true
+-- so is each that the answer does not say to leave
+outcome-still : (m : Model) {c : Call} {r : Result} (j : Job) → CameOut m c r → In j (m .jobs) → ((now : ℕ) → lives now (newsOf c (r .reply)) j ≡ true)
     → (k : Job) × In k (r .model .jobs) × Still j k
 unfolding submitted advanced
 outcome-still m j (idle c r n) i w = (j, i, record { ticket = refl; start = omega arith; promise = refl })
 outcome-still m j (joins o f l) i w = (j, in-left _ i, record { ticket = refl; start = omega arith; promise = refl })
-outcome-still m j (leaves c clock s after l g p q) i w =
+outcome-still m j (leaves c clock s after l g t) i w =
     let z = zip-left (Follows clock) (staying s (m .jobs)) after (g .follow)
-    (in-keep (λ (j : Job). not (picks s j)) i (ap not (waits-stays m clock s l j w))) in
+    (in-keep (λ (j : Job). not (picks s j)) i (ap not (lives-stays m _ clock s t j i (w clock)))) in
     let k = z .0 in
     (k, z .1, record { ticket = follows-ticket clock j k (z .2); start = follows-start clock j k (z .2); promise = follows-promise clock j k (z .2) })
 
-pub still-there : (m : Model) (c : Call) (j : Job) → Valid m → In j (m .jobs) → isWaiting j ≡ true → (k : Job) × In k (call m c .model .jobs) × Still j k
-still-there m c j v i w = outcome-still m j (outcome m c v) i w
+-- after every call this holds of each job that waits and that the call does not withdraw
+pub still-there : (m : Model) (c : Call) (j : Job) → Valid m → In j (m .jobs) → isWaiting j ≡ true → elem (j .ticket) (said call m c .withdrew) ≡ false
+    → (k : Job) × In k (call m c .model .jobs) × Still j k
+still-there m c j v i w n = outcome-still m j (outcome m c v) i (λ now. waits-lives now (said call m c) j w n)
 
 -- whichever job has its ticket after the call is this one: "each never later", and "This start is its promise and never changes"
-pub never-later : (m : Model) (c : Call) (j k : Job) → Valid m → In j (m .jobs) → isWaiting j ≡ true → In k (call m c .model .jobs) → k .ticket ≡ j .ticket
-    → (k .start ≤ j .start) × (k .promise ≡ j .promise)
-never-later m c j k v i w l e =
-    let r = still-there m c j v i w in
+pub never-later : (m : Model) (c : Call) (j k : Job) → Valid m → In j (m .jobs) → isWaiting j ≡ true → elem (j .ticket) (said call m c .withdrew) ≡ false
+    → In k (call m c .model .jobs) → k .ticket ≡ j .ticket → (k .start ≤ j .start) × (k .promise ≡ j .promise)
+never-later m c j k v i w n l e =
+    let r = still-there m c j v i w n in
     let q : r .0 ≡ k = asc-one 1 (call m c .model .jobs) (r .0) k (call-valid m c v .sound .asc) (r .1) l (r .2 .ticket ∙ sym e) in
     (omega (arith, r .2 .start, ap startOf q), sym (ap promiseOf q) ∙ r .2 .promise)
+
+-- document 02, No. 1: "no other planned start gets later through it": a withdrawal leaves every other job there, waiting or running
+pub withdrawal-never-later : (m : Model) (t : ℕ) (j : Job) → Valid m → In j (m .jobs) → (j .ticket ≡ t → ⊥)
+    → (k : Job) × In k (call m (cancel t) .model .jobs) × Still j k
+withdrawal-never-later m t j v i n = outcome-still m j (outcome m (cancel t) v) i (λ now. lives-by now e j ∙ ap not (stays now (isRunning j)))
+  where
+    e : News
+    e = said call m (cancel t)
+
+    other : (r : Refusal) → elem (j .ticket) (cond (accepts r) (t ∷ []) []) ≡ false
+    other r = case (accepts r) (λ a. rw (a, ne-eqb (j .ticket) t n)) (λ a. rw a)
+
+    stays : (now : ℕ) (runs : Bool) → elem (j .ticket) (leavers now e runs) ≡ false
+    stays now true = ap (elem (j .ticket)) (cancel-ends m t)
+    stays now false = other (call m (cancel t) .reply .refusal)
 
 -- so after no call is a job planned for later than promised (what replanning the whole queue would do is computed in Computed.antt)
 pub single-moves-keep : (m : Model) (c : Call) (j : Job) → Valid m → In j (call m c .model .jobs) → j .start ≤ j .promise
@@ -300,10 +319,20 @@ outcome-rises : (m : Model) {c : Call} {r : Result} → Valid m → CameOut m c 
 unfolding submitted advanced
 outcome-rises m v (idle c r n) = (tt, tt)
 outcome-rises m v (joins o f l) = (tt, case (eqb (planned m o) (m .clock)) (λ q. rw q (v .sound .next-from, tt)) (λ q. rw q tt))
-outcome-rises m v (leaves c clock s after l g p q) = (
-  tickets-rise 1 (keep (picks s) (m .jobs)) (asc-keep (picks s) 1 (m .jobs) (v .sound .asc)),
+outcome-rises m v (leaves c clock s after l g t) = (
+  ended-rises s,
   begun-rises 1 (staying s (m .jobs)) after (asc-keep (λ (j : Job). not (picks s j)) 1 (m .jobs) (v .sound .asc)),
 )
+  where
+    picked-rise : (s : Select) → Rising 1 (ticketsOf (keep (picks s) (m .jobs)))
+    picked-rise s = tickets-rise 1 (keep (picks s) (m .jobs)) (asc-keep (picks s) 1 (m .jobs) (v .sound .asc))
+
+    ended-rises : (s : Select) → Rising 1 (endedOf s (m .jobs))
+    ended-rises select.Live = picked-rise select.Live
+    ended-rises select.Waiting = picked-rise select.Waiting
+    ended-rises (select.Departing Complete t) = picked-rise (select.Departing Complete t)
+    ended-rises (select.Departing Cancel t) = tt
+    ended-rises (select.EndingAt S t) = picked-rise (select.EndingAt S t)
 
 pub answers-rise : (m : Model) (c : Call) → Valid m → Rising 1 (call m c .reply .ended) × Rising 1 (call m c .reply .started)
 answers-rise m c v = outcome-rises m v (outcome m c v)
@@ -315,19 +344,6 @@ pub record Waited (m : Model) (t : ℕ) : Type 0 where
   pub waits : isWaiting job ≡ true
   pub named : job .ticket ≡ t
 
-begun-waited : (t : ℕ) (js ks : List Job) → elem t (begun js ks) ≡ true → (j : Job) × In j js × (isWaiting j ≡ true) × (j .ticket ≡ t)
-begun-waited t [] ks e = true-false false e refl
-begun-waited t (j ∷ js) [] e = true-false false e refl
-begun-waited t (j ∷ js) (k ∷ ks) e =
-    case (isWaiting j && isRunning k)
-    (λ w. case (eqb t (j .ticket))
-    (λ q. (j, here refl, both (isWaiting j) (isRunning k) w .0, sym (eqb-true t (j .ticket) q)))
-    (λ q. later (begun-waited t js ks (rw (w, q) at e))))
-    (λ w. later (begun-waited t js ks (rw w at e)))
-  where
-    later : (x : Job) × In x js × (isWaiting x ≡ true) × (x .ticket ≡ t) → (x : Job) × In x (j ∷ js) × (isWaiting x ≡ true) × (x .ticket ≡ t)
-    later r = (r .0, there (r .1), r .2, r .3)
-
 outcome-waited : (m : Model) {c : Call} {r : Result} (t : ℕ) → CameOut m c r → elem t (r .reply .started) ≡ true → Waited m t ⊎ (t ≡ r .reply .ticket)
 unfolding submitted advanced
 outcome-waited m t (idle c r n) e = true-false false e refl
@@ -335,7 +351,7 @@ outcome-waited m t (joins o f l) x =
     case (eqb (planned m o) (m .clock))
     (λ q. case (eqb t (m .next)) (λ y. inr (eqb-true t (m .next) y)) (λ y. true-false false (rw (q, y) at x) refl))
     (λ q. true-false false (rw q at x) refl)
-outcome-waited m t (leaves c clock s after l g p q) e =
+outcome-waited m t (leaves c clock s after l g u) e =
     let w = begun-waited t (staying s (m .jobs)) after e in
     inl (record { job = w .0; isin = keep-in (λ (j : Job). not (picks s j)) (m .jobs) (w .1) .0; waits = w .2; named = w .3 })
 
@@ -347,13 +363,23 @@ abbrev Given : Model → Call → Result → Type 0
 Given m c x = x .model .next ≡ nextAfter (newsOf c (x .reply) .came) (m .next)
 
 pub next-is : (m : Model) (c : Call) → Given m c (call m c)
-unfolding call submitted completed ticked advanced
+unfolding call submitted departed ticked advanced
 next-is m (submit o) =
     let s = planned m o in
     judged-by (Given m (submit o)) m (submitRefusal m o s) (submitted m o s) (λ a. refl) (λ a. rw a)
-next-is m (complete t) = judged-by (Given m (complete t)) m (completeRefusal m t) (completed m t) (λ a. refl) (λ a. rw a)
+next-is m (depart h t) = judged-by (Given m (depart h t)) m (departRefusal m h t) (departed m h t) (λ a. refl) (λ a. rw a)
 next-is m tick = judged-by (Given m tick) m (tickRefusal m) (ticked m) (λ a. refl) (λ a. rw a)
 next-is m (unchanged w) = case (accepts w) (λ a. rw a) (λ a. rw a)
+
+-- what is owed of tickets
+pub conservative-ticketed : Ticketed call Valid OnCourse
+conservative-ticketed = record {
+  sound = λ m v. v .sound;
+  next = λ m c v. next-is m c;
+  gives = λ m c o v i. outcome-joins m o (outcome m c v) i .0;
+  ends = λ m c t v e. outcome-ends m t (outcome m c v) e;
+  waits = λ m t b o. queued-by m t (o .job) (o .inside) (o .waits) (o .is-u);
+}
 
 -- ## Profile
 
@@ -369,9 +395,9 @@ points-as-written m v = profile-agrees (m .clock) (points m) (λ t h. free-as-wr
 
 -- "A refusal gives its number, no tickets, and the desk .. unchanged": a refused call is its refusal and nothing else
 pub refused-is : (m : Model) (c : Call) → accepts (call m c .reply .refusal) ≡ false → call m c ≡ refuse m (call m c .reply .refusal)
-unfolding call submitted completed ticked advanced
+unfolding call submitted departed ticked advanced
 refused-is m (submit o) = let s = planned m o in judged-refused m (submitRefusal m o s) (submitted m o s) refl
-refused-is m (complete t) = judged-refused m (completeRefusal m t) (completed m t) refl
+refused-is m (depart h t) = judged-refused m (departRefusal m h t) (departed m h t) refl
 refused-is m tick = judged-refused m (tickRefusal m) (ticked m) refl
 refused-is m (unchanged w) = λ a. refl
 
@@ -408,8 +434,14 @@ submit-refusal m o = let s = planned m o in judged-refusal m (submitRefusal m o 
 -- 7: "the ended ticket is not running: waiting, over or never given"
 pub complete-refusal : (m : Model) (t : ℕ) → call m (complete t) .reply .refusal ≡ verdict
     ((not (any (λ (j : Job). isRunning j && eqb (j .ticket) t) (m .jobs)), refusal.NotRunning) ∷ [])
-unfolding call completed advanced completeRefusal
-complete-refusal m t = judged-refusal m (completeRefusal m t) (completed m t) refl
+unfolding call departed advanced departRefusal
+complete-refusal m t = judged-refusal m (departRefusal m Complete t) (departed m Complete t) refl
+
+-- 11, document 02, No. 1: "the withdrawn ticket is not waiting"
+pub cancel-refusal : (m : Model) (t : ℕ) → call m (cancel t) .reply .refusal ≡ verdict
+    ((not (any (λ (j : Job). isWaiting j && eqb (j .ticket) t) (m .jobs)), refusal.NotWaiting) ∷ [])
+unfolding call departed advanced departRefusal
+cancel-refusal m t = judged-refusal m (departRefusal m Cancel t) (departed m Cancel t) refl
 
 -- 6: "Step ..: the clock would pass it"
 pub tick-refusal : (m : Model) → call m tick .reply .refusal ≡ verdict ((ltb 1000000 (suc (m .clock)), refusal.PastHorizon) ∷ [])

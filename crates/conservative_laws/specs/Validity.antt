@@ -3,15 +3,15 @@
 -- Assumes nothing.
 use Prim.Native.Nat.{ℕ, suc, _+_, _≤_, _<_}
 use native.Mathlib.Omega.{arith}
-use mathlib.Core.Path.{_≡_, refl, ap}
+use mathlib.Core.Path.{_≡_, refl, sym, ap, _∙_}
 use mathlib.Core.Bool.{Bool, true, false, not}
 use mathlib.Core.List.{List, [], _∷_, _++_, map, map-append}
 use mathlib.Core.Logic.{_⊎_, inl, inr}
 use lib.Dec.{ltb, eqb}
 use lib.ListN.{length}
-use borrow.Author.Tests.{ltb-false, eqb-true, eqb-false}
+use borrow.Author.Tests.{ltb-false, eqb-true, eqb-false, not-false}
 use Rattle.lists.specs.Tests.{case, true-false, le-or}
-use Rattle.lists.specs.Lists.{sum, In, here, there, in-nil, in-cons, in-append, keep-in, sum-append, sum-map, sum-keep, sum-le}
+use Rattle.lists.specs.Lists.{keep, any, elem, sum, In, here, there, in-nil, in-cons, in-append, keep-in, sum-append, sum-map, sum-keep, sum-le}
 use Rattle.spans.specs.declared.Span.{Span}
 use Rattle.spans.specs.Spans.{takes, used, free, earliest, Fits, Earliest}
 use Rattle.spans.specs.UsedNodes.{takes-in, takes-before, takes-after}
@@ -24,6 +24,8 @@ use Rattle.scheduler.specs.declared.Submission.{Submission}
 use Rattle.scheduler.specs.declared.Refusal.{Refusal}
 use Rattle.scheduler.specs.declared.Refusal.the-variants as refusal
 use Rattle.scheduler.specs.declared.Opening.{Opening}
+use Rattle.scheduler.specs.declared.Departure.{Departure}
+use Rattle.scheduler.specs.declared.Departure.the-variants.{Complete, Cancel}
 use Rattle.scheduler.specs.declared.Select.{Select}
 use Rattle.scheduler.specs.declared.Select.the-variants as select
 use Rattle.scheduler.specs.Jobs.{isWaiting, isRunning, isHolding, waiting?, running?, holding?, live?, held, picks}
@@ -33,15 +35,19 @@ use Rattle.scheduler.specs.Times.{hold-pos, until-is, until-at, until-still, un
 use Rattle.scheduler.specs.Table.{nodesHeld, ticketsOf, staying}
 use Rattle.scheduler.specs.Model.{Model, ending, empty, without}
 use Rattle.scheduler.specs.Answers.{Result, accepts, refuse, refusing}
-use Rattle.scheduler.specs.Refusals.{completeRefusal, tickRefusal}
+use Rattle.scheduler.specs.Refusals.{notThere, departRefusal, tickRefusal}
 use Rattle.scheduler.specs.Opening.{openingRefusal, opening}
-use Rattle.jobs.specs.Order.{asc-same}
+use Rattle.jobs.specs.Order.{Asc, asc-same, elem-job}
+use Rattle.jobs.specs.Departing.{not-there, departs-alone}
 use Rattle.jobs.specs.Judgement.{judged-by}
 use Rattle.jobs.specs.Soundness.{SoundJob, Sound, Fit, opening-sound, passed, submit-fit, sound-join, Leaving, early, in-time, sound-leave}
-use Rattle.history.specs.Calls.{Call, submit, complete, tick, unchanged}
-use Rattle.history.specs.News.{newsOf, clockAfter, nothing, refused-news, unchanged-news}
+use Rattle.jobs.specs.Soundness.{withdrawn-waits, endsRuns, leaving-runs}
+use Rattle.history.specs.Calls.{Call, submit, depart, tick, unchanged}
+use Rattle.history.specs.News.{News, newsOf, clockAfter, nothing, refused-news, unchanged-news}
+use Rattle.history_proof.specs.Obligations.{Queued}
+use Rattle.history_proof.specs.Departures.{lives, ends-lives, withdraw-lives, queued-by}
 use Rattle.conservative_rules.specs.Conservative.{span, spans, planned, stateAt, newJob, withNew, submitRefusal, submitted, placed}
-use Rattle.conservative_rules.specs.Conservative.{advanced, moved, pass, completed, turned, ticked, call}
+use Rattle.conservative_rules.specs.Conservative.{advanced, moved, pass, departed, turned, ticked, call}
 
 pub record Valid (m : Model) : Type 0 where
   pub kind : m .settings .kind ≡ Conservative
@@ -195,17 +201,24 @@ pub record Moved (S : Settings) (now : ℕ) (js ks : List Job) : Type 0 where
 
 -- ## How a call comes out
 
+-- what the answer says where those that a test picks leave, and nobody comes
+pub record Says (m : Model) (e : News) (clock : ℕ) (s : Select) : Type 0 where
+  pub passes : clockAfter e (m .clock) ≡ clock
+  pub none-comes : e .came ≡ []
+  pub live-on : (j : Job) → In j (m .jobs) → lives clock e j ≡ not (picks s j)
+  -- who is withdrawn waited
+  pub waited : (t : ℕ) → elem t (e .withdrew) ≡ true → Queued m t
+
 pub data CameOut (m : Model) : Call → Result → Type 0 where
   -- refused, or a profile: nothing changes
   idle : (c : Call) (r : Refusal) → newsOf c (refusing r) ≡ nothing → CameOut m c (refuse m r)
   -- a submission is taken
   joins : (o : Submission) → Fit m o → planned m o + holdTime (m .settings) (o .estimate) ≤ horizon (m .settings) → CameOut m (submit o) (submitted m o (planned m o))
-  -- an early end, or a tick: jobs leave, and those that stay come to be `after`
+  -- an early end, a withdrawal or a tick: jobs leave, and those that stay come to be `after`
   leaves : (c : Call) (clock : ℕ) (s : Select) (after : List Job) → Leaving m clock s → Moved (m .settings) clock (staying s (m .jobs)) after
-      → clockAfter (newsOf c (advanced m clock s after .reply)) (m .clock) ≡ clock → newsOf c (advanced m clock s after .reply) .came ≡ []
-      → CameOut m c (advanced m clock s after)
+      → Says m (newsOf c (advanced m clock s after .reply)) clock s → CameOut m c (advanced m clock s after)
 
--- ### The pass of an early end
+-- ### The pass of an early end or a withdrawal
 
 module _ (S : Settings) (now : ℕ) where
   pub moved-follows : (others : List Job) (j : Job) → j .nodes ≤ S .nodes → (isWaiting j ≡ true → now < j .start)
@@ -262,10 +275,39 @@ module _ (S : Settings) (now : ℕ) where
   turns-used t [] = refl
   turns-used t (j ∷ js) = omega (arith, turned-takes S now t j, turns-used t js)
 
+-- ### What the answer says
+
+module _ (m : Model) (a : Asc 1 (m .jobs)) where
+  -- where runs end, and nobody is withdrawn
+  runs-end : (e : News) (clock : ℕ) (s : Select) → endsRuns s ≡ true → clockAfter e (m .clock) ≡ clock → e .came ≡ [] → e .withdrew ≡ []
+      → e .ended ≡ ticketsOf (keep (picks s) (m .jobs)) → Says m e clock s
+  runs-end e clock s r c n w d = record {
+    passes = c;
+    none-comes = n;
+    live-on = ends-lives clock e (picks s) (m .jobs) a w d (leaving-runs s r);
+    waited = λ t q. true-false false (ap (elem t) (sym w) ∙ q) refl;
+  }
+
+  -- where one that waits is withdrawn, and no run ends
+  one-withdrawn : (e : News) (t : ℕ) → any (picks (select.Departing Cancel t)) (m .jobs) ≡ true → clockAfter e (m .clock) ≡ m .clock → e .came ≡ []
+      → e .ended ≡ [] → e .withdrew ≡ t ∷ [] → Says m e (m .clock) (select.Departing Cancel t)
+  one-withdrawn e t f c n d w =
+      let gone = picks (select.Departing Cancel t) in
+      let alone : e .withdrew ≡ ticketsOf (keep gone (m .jobs)) = w ∙ sym (departs-alone Cancel t 1 (m .jobs) a f) in
+      record {
+        passes = c;
+        none-comes = n;
+        live-on = withdraw-lives (m .clock) e gone (m .jobs) a d alone (withdrawn-waits t);
+        waited = λ u q.
+            let j = elem-job u (keep gone (m .jobs)) (ap (elem u) (sym alone) ∙ q) in
+            let k = keep-in gone (m .jobs) (j .1) in
+            queued-by m u (j .0) (k .0) (withdrawn-waits t (j .0) (k .1)) (j .2);
+      }
+
 -- ### Every call comes out in one of these ways
 
 pub outcome : (m : Model) (c : Call) → Valid m → CameOut m c (call m c)
-unfolding call submitRefusal completeRefusal tickRefusal completed ticked advanced
+unfolding call submitRefusal departRefusal tickRefusal departed ticked advanced
 outcome m (submit o) v =
     let s = planned m o in
     judged-by (CameOut m (submit o)) m (submitRefusal m o s) (submitted m o s) (λ a. taken a)
@@ -276,15 +318,15 @@ outcome m (submit o) v =
         let f = submit-fit m o _ a in
         let b = passed (ltb (horizon (m .settings)) (planned m o + holdTime (m .settings) (o .estimate))) refusal.PastHorizon _ refl (f .1) in
         joins o (f .0) (ltb-false (horizon (m .settings)) (planned m o + holdTime (m .settings) (o .estimate)) (b .0))
-outcome m (complete t) v =
-    judged-by (CameOut m (complete t)) m (completeRefusal m t) (completed m t) (λ a. taken)
-    (λ a. idle (complete t) _ (refused-news (complete t) (completeRefusal m t) a))
+outcome m (depart h t) v =
+    judged-by (CameOut m (depart h t)) m (departRefusal m h t) (departed m h t) (λ a. taken a)
+    (λ a. idle (depart h t) _ (refused-news (depart h t) (departRefusal m h t) a))
   where
     S : Settings
     S = m .settings
 
     u : Select
-    u = select.RunningTicket t
+    u = select.Departing h t
 
     js : List Job
     js = staying u (m .jobs)
@@ -292,11 +334,18 @@ outcome m (complete t) v =
     in-all : (j : Job) → In j js → In j (m .jobs)
     in-all j i = keep-in (λ (j : Job). not (picks u j)) (m .jobs) i .0
 
-    taken : CameOut m (complete t) (completed m t)
-    taken =
+    says : (h : Departure) (after : List Job) → any (picks (select.Departing h t)) (m .jobs) ≡ true
+        → Says m (newsOf (depart h t) (advanced m (m .clock) (select.Departing h t) after .reply)) (m .clock) (select.Departing h t)
+    says Complete after f = runs-end m (v .sound .asc) _ (m .clock) (select.Departing Complete t) refl refl refl refl refl
+    says Cancel after f = one-withdrawn m (v .sound .asc) _ t f refl refl refl refl
+
+    taken : accepts (departRefusal m h t) ≡ true → CameOut m (depart h t) (departed m h t)
+    taken a =
         let p = pass-follows S (m .clock) [] js (λ j i. v .sound .each j (in-all j i) .nodes-to) (λ j i. v .ahead j (in-all j i))
         (λ r a. omega (arith, v .room r a, used-staying S r u (m .jobs))) in
-        leaves (complete t) (m .clock) u (pass S (m .clock) [] js) (early t) (record { follow = p .0; room = λ r a. omega (arith, p .1 r a) }) refl refl
+        let b = passed (not (any (picks u) (m .jobs))) (notThere h) [] (not-there h) a in
+        leaves (depart h t) (m .clock) u (pass S (m .clock) [] js) (early h t) (record { follow = p .0; room = λ r a. omega (arith, p .1 r a) })
+        (says h _ (not-false (any (picks u) (m .jobs)) (b .0)))
 outcome m tick v =
     judged-by (CameOut m tick) m (tickRefusal m) (ticked m) (λ a. taken a) (λ a. idle tick _ (refused-news tick (tickRefusal m) a))
   where
@@ -323,7 +372,7 @@ outcome m tick v =
           follow = turns-follow S now js (λ j i w. v .ahead j (in-all j i) w);
           room = λ t l. omega (arith, v .room t (omega arith), used-staying S t u (m .jobs), turns-used S now t js);
         })
-        refl refl
+        (runs-end m (v .sound .asc) _ now u refl refl refl refl refl)
 outcome m (unchanged r) v = idle (unchanged r) r (unchanged-news r r)
 
 -- ## Every model handed back is valid
@@ -450,7 +499,7 @@ outcome-valid : (m : Model) {c : Call} {r : Result} → Valid m → CameOut m c 
 unfolding submitted advanced
 outcome-valid m v (idle c r n) = v
 outcome-valid m v (joins o f l) = joins-valid m o v f l
-outcome-valid m v (leaves c clock s after l g p q) = leaves-valid m clock s after v l g
+outcome-valid m v (leaves c clock s after l g t) = leaves-valid m clock s after v l g
 
 pub call-valid : (m : Model) (c : Call) → Valid m → Valid (call m c .model)
 call-valid m c v = outcome-valid m v (outcome m c v)

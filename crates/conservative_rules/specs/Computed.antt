@@ -10,6 +10,7 @@ use Rattle.scheduler.specs.declared.Kind.the-variants.{Conservative}
 use Rattle.scheduler.specs.declared.Job.{Job}
 use Rattle.scheduler.specs.declared.Refusal.{Refusal}
 use Rattle.scheduler.specs.declared.Refusal.the-variants as refusal
+use Rattle.scheduler.specs.declared.Departure.the-variants.{Complete}
 use Rattle.scheduler.specs.declared.Select.the-variants as select
 use Rattle.scheduler.specs.Jobs.{isRunning}
 use Rattle.scheduler.specs.declared.Settings.{Settings}
@@ -19,8 +20,8 @@ use Rattle.scheduler.specs.Answers.{Reply, verdict}
 use Rattle.scheduler.specs.Settings as times
 use Rattle.scheduler.specs.Refusals as refusals
 use Rattle.scheduler.specs.Opening.{openingRefusal, opening}
-use Rattle.history.specs.Calls.{submit, order, complete, tick, after}
-use Rattle.conservative_rules.specs.Conservative.{planned, points, submitRefusal, submitted, advanced, moved, pass, completed, ticked, call}
+use Rattle.history.specs.Calls.{submit, order, complete, cancel, tick, after}
+use Rattle.conservative_rules.specs.Conservative.{planned, points, submitRefusal, submitted, advanced, moved, pass, departed, ticked, call}
 
 abbrev pub startOf : Job → ℕ
 startOf j = j .start
@@ -44,7 +45,7 @@ replan S now done [] = []
 replan S now done (j ∷ js) = let k : Job = moved S now (done ++ keep isRunning js) j in k ∷ replan S now (k ∷ done) js
 
 abbrev pub replanned : Model → ℕ → List Job
-replanned m t = replan (m .settings) (m .clock) [] (staying (select.RunningTicket t) (m .jobs))
+replanned m t = replan (m .settings) (m .clock) [] (staying (select.Departing Complete t) (m .jobs))
 
 -- the answer to the first job of such a machine, submitted at that minute
 abbrev alone : ℕ → ℕ → ℕ → Refusal
@@ -55,6 +56,13 @@ fifth-tick = call (after call figure2 (replicate 4 tick)) tick .reply
 
 abbrev early : Model
 early = call figure2 (complete 2) .model
+
+-- one job runs on both nodes until 5, the next needs both for 10 minutes, the third one
+abbrev queued : Model
+queued = after call (fresh 0) (submit (order 2 5) ∷ submit (order 2 10) ∷ submit (order 1 5) ∷ [])
+
+abbrev withdrawn : Model
+withdrawn = call queued (cancel 2) .model
 
 pub examples : (ticketsOf (figure2 .jobs) ≡ 1 ∷ 2 ∷ 3 ∷ 4 ∷ [])
     × (map promiseOf (figure2 .jobs) ≡ 0 ∷ 0 ∷ 15 ∷ 5 ∷ [])
@@ -72,13 +80,20 @@ pub examples : (ticketsOf (figure2 .jobs) ≡ 1 ∷ 2 ∷ 3 ∷ 4 ∷ [])
     × (ticketsOf (early .jobs) ≡ 1 ∷ 3 ∷ 4 ∷ [])
     × (map promiseOf (early .jobs) ≡ 0 ∷ 15 ∷ 5 ∷ [])
     × (map startOf (early .jobs) ≡ 0 ∷ 15 ∷ 0 ∷ [])
+    -- document 02, No. 1: the second is withdrawn, and the third moves from 15 to 5; the first runs, and cannot be
+    × (map startOf (queued .jobs) ≡ 0 ∷ 5 ∷ 15 ∷ [])
+    × (ticketsOf (withdrawn .jobs) ≡ 1 ∷ 3 ∷ [])
+    × (map startOf (withdrawn .jobs) ≡ 0 ∷ 5 ∷ [])
+    × (call queued (cancel 2) .reply .ended ≡ [])
+    × (call queued (cancel 1) .reply .refusal ≡ refusal.NotWaiting)
+    × (call withdrawn (cancel 2) .reply .refusal ≡ refusal.NotWaiting)
 unfolding
     opening
     openingRefusal
     verdict
     times.holdTime
     times.until
-    refusals.completeRefusal
+    refusals.departRefusal
     refusals.tickRefusal
     spans.takes
     spans.lastEnd
@@ -92,8 +107,8 @@ unfolding
     submitted
     advanced
     pass
-    completed
+    departed
     ticked
     call
     replan
-examples = (refl, refl, refl, refl, refl, refl, refl, refl, refl, refl, refl, refl)
+examples = (refl, refl, refl, refl, refl, refl, refl, refl, refl, refl, refl, refl, refl, refl, refl, refl, refl, refl)

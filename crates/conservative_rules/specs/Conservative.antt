@@ -6,7 +6,6 @@ use mathlib.Core.Option.{none}
 use Prim.Native.Nat.{ℕ, suc, _+_}
 use lib.Dec.{ltb, eqb}
 use lib.ListN.{length}
-use Rattle.lists.specs.Lists.{keep}
 use Rattle.spans.specs.declared.Span.{Span}
 use Rattle.spans.specs.declared.Point.{Point}
 use Rattle.spans.specs.Spans.{earliest, profile}
@@ -16,16 +15,17 @@ use Rattle.scheduler.specs.declared.Job.{Job}
 use Rattle.scheduler.specs.declared.Submission.{Submission}
 use Rattle.scheduler.specs.declared.Refusal.{Refusal}
 use Rattle.scheduler.specs.declared.Refusal.the-variants as refusal
+use Rattle.scheduler.specs.declared.Departure.{Departure}
 use Rattle.scheduler.specs.declared.Select.{Select}
 use Rattle.scheduler.specs.declared.Select.the-variants as select
-use Rattle.scheduler.specs.Jobs.{isWaiting, isRunning, fresh, jobAt, picks}
+use Rattle.scheduler.specs.Jobs.{isWaiting, isRunning, fresh, jobAt}
 use Rattle.scheduler.specs.declared.Settings.{Settings}
 use Rattle.scheduler.specs.Settings.{horizon, holdTime, until}
-use Rattle.scheduler.specs.Table.{ticketsOf, staying}
+use Rattle.scheduler.specs.Table.{endedOf, staying}
 use Rattle.scheduler.specs.Model.{Model, ending, joined}
 use Rattle.scheduler.specs.Answers.{Result, verdict, refuse}
-use Rattle.scheduler.specs.Refusals.{judged, submitTests, completeRefusal, tickRefusal}
-use Rattle.history.specs.Calls.{Rules, submit, complete, tick, unchanged}
+use Rattle.scheduler.specs.Refusals.{judged, submitTests, departRefusal, tickRefusal}
+use Rattle.history.specs.Calls.{Rules, submit, depart, tick, unchanged}
 
 -- a running job holds its nodes from its start, a waiting one from its planned start on, until they are free again
 abbrev pub span : Settings → Job → Span
@@ -80,7 +80,7 @@ submitted m o s = record {
   model = withNew m o s;
 }
 
--- ## What an early end and a tick share
+-- ## What an early end, a withdrawal and a tick share
 
 -- a job with the planned start s; it starts if that is now
 abbrev pub placed : ℕ → ℕ → Job → Job
@@ -99,14 +99,14 @@ advanced m clock s after = record {
     refusal = refusal.None;
     ticket = 0;
     promise = 0;
-    ended = ticketsOf (keep (picks s) (m .jobs));
+    ended = endedOf s (m .jobs);
     started = begun (staying s (m .jobs)) after;
     head = none;
   };
   model = record { settings = m .settings; clock = clock; next = m .next; jobs = after };
 }
 
--- ## Early completion (document 01: "Early end")
+-- ## Early completion (document 01: "Early end") and withdrawal
 
 -- "taken out of the plan and put in again at its smallest minute, the others staying at their places. One that comes to now starts."
 abbrev pub moved : Settings → ℕ → List Job → Job → Job
@@ -119,10 +119,11 @@ unfoldable pub pass : Settings → ℕ → List Job → List Job → List Job
 pass S now done [] = []
 pass S now done (j ∷ js) = let k : Job = moved S now (done ++ js) j in k ∷ pass S now (k ∷ done) js
 
-unfoldable pub completed : Model → ℕ → Result
-completed m t =
-    advanced m (m .clock) (select.RunningTicket t)
-    (pass (m .settings) (m .clock) [] (staying (select.RunningTicket t) (m .jobs)))
+-- document 02, No. 1: "A waiting stack can be withdrawn. The Promise Desk then moves the others as after an early end"
+unfoldable pub departed : Model → Departure → ℕ → Result
+departed m h t =
+    advanced m (m .clock) (select.Departing h t)
+    (pass (m .settings) (m .clock) [] (staying (select.Departing h t) (m .jobs)))
 
 -- ## Tick (document 01: "Minute step")
 
@@ -146,6 +147,6 @@ profileRefusal m room = verdict ((ltb room (length (points m)), refusal.TooShort
 
 unfoldable pub call : Rules
 call m (submit o) = let s = planned m o in judged m (submitRefusal m o s) (submitted m o s)
-call m (complete t) = judged m (completeRefusal m t) (completed m t)
+call m (depart h t) = judged m (departRefusal m h t) (departed m h t)
 call m tick = judged m (tickRefusal m) (ticked m)
 call m (unchanged r) = refuse m r

@@ -75,11 +75,11 @@ module _ (d : Scheduler) (s : Submission) (h : Holds Valid d) where
   judged-latest low latest e l = judged-by low latest e (ap (ltb horizon) l)
 
   module _ (why : Refusal) (w : why ≡ submitRefusal m s) where
-    pub turned-away : accepts why ≡ false → record { refusal = why; ticket = 0; ended = noTickets; scheduler = d } ≡ part (own m (request.Submit s))
+    pub turned-away : accepts why ≡ false → record { refusal = why; ticket = 0; ended = noTickets; withdrawn = 0; scheduler = d } ≡ part (own m (request.Submit s))
     turned-away k = rw (← w, k) (ap with-scheduler (h .stored))
       where
         with-scheduler : Scheduler → Part
-        with-scheduler x = record { refusal = why; ticket = 0; ended = noTickets; scheduler = x }
+        with-scheduler x = record { refusal = why; ticket = 0; ended = noTickets; withdrawn = 0; scheduler = x }
 
     module _ (k : accepts why ≡ true) where
       pub fits : Fit m s
@@ -87,7 +87,7 @@ module _ (d : Scheduler) (s : Submission) (h : Holds Valid d) where
       fits = submit-fit m s ((ltb horizon (latestEnd m (s .estimate)), refusal.PastHorizon) ∷ []) (rw w at k) .0
 
       pub admitted : (low : ℕ) → low ≡ length (m .jobs)
-          → record { refusal = why; ticket = d .next; ended = noTickets; scheduler = withNext (withJobs d (set (d .jobs) low job)) (d .next + 1) } ≡
+          → record { refusal = why; ticket = d .next; ended = noTickets; withdrawn = 0; scheduler = withNext (withJobs d (set (d .jobs) low job)) (d .next + 1) } ≡
           part (own m (request.Submit s))
       unfolding view
       admitted low e = rw (← w, k, enters d low e (h .stored) (fits .room) job, accepts-none why k)

@@ -14,13 +14,13 @@ use Rattle.scheduler.specs.Model.{Model, joined}
 use Rattle.scheduler.specs.Answers.{Result, verdict}
 use Rattle.scheduler.specs.Refusals.{testsBy}
 use Rattle.easy_rules.specs.Easy.{newJob, submitRefusal, finished}
-use Rattle.job_table.specs.Parts.{Own, taken, judgedOwn, completing, ticking}
+use Rattle.job_table.specs.Parts.{Own, coming, judgedOwn, departing, ticking}
 
 -- ## The own part
 
 abbrev pub own : Model → Request → Own
-own m (request.Submit s) = judgedOwn m (submitRefusal m s) (taken (m .next) [] (joined m (newJob (m .next) s)))
-own m (request.Complete t) = completing m t
+own m (request.Submit s) = judgedOwn m (submitRefusal m s) (coming (m .next) (joined m (newJob (m .next) s)))
+own m (request.Depart h t) = departing m h t
 own m request.Tick = ticking m
 
 -- ## The call

@@ -24,7 +24,7 @@ use Rattle.easy_rules.specs.Easy.{queue, head, headIs, shadow, free, Settling, 
 use Rattle.lists.specs.FirstLaws.{head-keep}
 use Rattle.easy_laws.specs.EngineLaws.{settle-rests}
 use Rattle.easy_laws.specs.Validity.{Ready}
-use Rattle.easy_engine.specs.Survey.{Column, asksTo, SurveyRests, ticketIn, headBefore, announced, Answers}
+use Rattle.easy_engine.specs.Survey.{Column, asksTo, SurveyRests, ticketIn, announced, Answers}
 use Rattle.easy_engine.specs.Choices.{none-start}
 
 -- ## The forecast, by the ticket of the head before
@@ -64,13 +64,12 @@ module _ (b m : Model) where
       by none e = forecast-none b m e
       by (some h) e = forecast-same b m h e (asc-in 1 (m .jobs) (s .asc) (head-in m h e)) (f h e)
 
--- ## The head before
+-- ## The head
 
--- by the first of the tickets of the waiting jobs
-pub before-is : (d : Scheduler) (ticket : ℕ) (tickets : List ℕ) → Column ticketOf (queue (view d .jobs)) tickets
-    → cond (eqb (getD tickets 0 0) ticket) 0 (getD tickets 0 0) ≡ headBefore ticket (head (view d))
+-- the first of the tickets of the waiting jobs
+pub first-is : (d : Scheduler) (tickets : List ℕ) → Column ticketOf (queue (view d .jobs)) tickets → getD tickets 0 0 ≡ ticketIn (head (view d))
 unfolding pad
-before-is d ticket tickets c = ap (λ (n : ℕ). cond (eqb n ticket) 0 n) (ap (λ (ns : List ℕ). getD ns 0 0) c ∙ by (queue (view d .jobs)))
+first-is d tickets c = ap (λ (ns : List ℕ). getD ns 0 0) c ∙ by (queue (view d .jobs))
   where
     by : (q : List Job) → getD (pad slots 0 (ticketsOf q)) 0 0 ≡ ticketIn (head? q)
     by [] = refl
@@ -85,9 +84,8 @@ module _ (d : Scheduler) (h : Holds Ready d) {spare before : ℕ} (f : spare ≡
       (none-start (view d) (queue (view d .jobs)) (keep-all isWaiting (queue (view d .jobs)) (λ j i. keep-in isWaiting (view d .jobs) i .1)) (h .holds .sound)
       (ap (λ (n : ℕ). first (asksTo n) (queue (view d .jobs))) (sym f) ∙ r .none-fits))
 
-  pub quiet-answers : (ticket : ℕ) (order places : List ℕ) → before ≡ headBefore ticket (head (view d))
-      → Answers d places ticket order (record { started = 0; head = 0; forecast = 0 })
-  quiet-answers ticket order places e = record {
+  pub quiet-answers : (order places : List ℕ) → Answers d places before order (record { started = 0; head = 0; forecast = 0 })
+  quiet-answers order places = record {
     applies = record {
       asc = h .holds .sound .asc;
       few = h .holds .sound .few;
@@ -100,5 +98,5 @@ module _ (d : Scheduler) (h : Holds Ready d) {spare before : ℕ} (f : spare ≡
     };
     head-is = λ b q.
         sym (ap (λ (x : Settling). announced (forecast b (x .model))) quiet
-        ∙ ap announced (forecast-still b (view d) (h .holds .sound) (λ k z. sym q ∙ sym e ∙ r .same-head k z)));
+        ∙ ap announced (forecast-still b (view d) (h .holds .sound) (λ k z. sym q ∙ r .same-head k z)));
   }

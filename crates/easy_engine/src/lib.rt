@@ -6,7 +6,7 @@ ghost use mathlib.Core.Path.{_≡_};
 ghost use mathlib.Core.Bool.{true, cond, _&&_, _||_};
 ghost use mathlib.Core.List.{List};
 ghost use Prim.Native.Nat.{_+_, _≤_, _<_};
-ghost use lib.Dec.{leb, ltb, eqb};
+ghost use lib.Dec.{leb, ltb};
 ghost use lib.ListN.{length};
 ghost use Rattle.lists.specs.Tests.{on};
 ghost use Rattle.lists.specs.Loops.{position};
@@ -18,7 +18,7 @@ ghost use Rattle.scheduler.specs.Model.{Model};
 ghost use Rattle.easy_rules.specs.Easy.{head, avail, shadow, choice, forecast};
 ghost use Rattle.easy_engine.specs.Survey.{Column, estimateOf, asks, Held, Lacks, Surveyed, placeOf, jobIn, asksTo, mayPass};
 ghost use Rattle.easy_engine.specs.Survey.{Begun, Settlement, StartsInTime, SurveyRests, ticketIn, announced, Announces, Unsettled};
-ghost use Rattle.easy_engine.specs.Survey.{Answers};
+ghost use Rattle.easy_engine.specs.Survey.{headBefore, Answers};
 
 // More nodes than any machine has: what a job asks for once it has started.
 const NOBODY: u32 = Scheduler::NODES + 1;
@@ -360,12 +360,18 @@ fn announce(
     }
 }
 
-// The head before a call that gave this ticket: the first that waits, unless it has that ticket.
-fn head_before(first: u32, ticket: u32) -> u32
-    ensures { λ r. ⌜ r ≡ cond (eqb first ticket) 0 first ⌝ }
+// The head before a call that gave this ticket or withdrew that one (0 for neither), by the first that waits now.
+pub fn head_before(first: u32, ticket: u32, withdrawn: u32) -> u32
+    ensures { λ r. ⌜ r ≡ headBefore ticket withdrawn first ⌝ }
 {
     if first == ticket {
-        return 0;
+        return withdrawn;
+    }
+    if withdrawn == 0 {
+        return first;
+    }
+    if withdrawn < first {
+        return withdrawn;
     }
     first
 }
@@ -377,10 +383,10 @@ pub struct Answered {
     pub forecast: u32,
 }
 
-// Settles after a call that gave this ticket, if any. The lists are filled by the survey, `ends` with the starts of the running jobs; the
+// Settles after a call that found this head. The lists are filled by the survey, `ends` with the starts of the running jobs; the
 // places of those who start are noted in order.
 pub fn settle_all(
-    ticket: u32,
+    before: u32,
     held: &mut [u32; 64],
     ends: &mut [u32; 64],
     terms: &[u32; 64],
@@ -397,9 +403,8 @@ pub fn settle_all(
     requires { ⌜ Unsettled (now held) (now ends) (now terms) running (now asked) (now estimates) (now tickets) waiting (now order) clock spare settings ⌝ }
     ensures { λ r.
         ⌜ ((u : Unsettled (now (held .entry)) (now (ends .entry)) (now (terms .entry)) running (now (asked .entry)) (now (estimates .entry))
-        (now (tickets .entry)) waiting (now (order .entry)) clock spare settings) → Answers (u .scheduler) (u .places) ticket (now (order .exit)) r) ⌝ }
+        (now (tickets .entry)) waiting (now (order .entry)) clock spare settings) → Answers (u .scheduler) (u .places) before (now (order .exit)) r) ⌝ }
 {
-    let before = head_before(tickets[0], ticket);
     if rests(before, asked, tickets, waiting, spare) {
         return Answered {
             started: 0,

@@ -5,20 +5,23 @@ use Prim.Native.Nat.{ℕ, suc, _+_, _-_, _*_, _≤_, _<_}
 use native.Mathlib.Omega.{arith}
 use native.Mathlib.Nat.{mul-le-mul-right}
 use mathlib.Core.Path.{_≡_, refl, sym, ap, subst, _∙_}
-use mathlib.Core.Bool.{true, false, not, _&&_, _||_}
+use mathlib.Core.Bool.{Bool, true, false, not, _&&_, _||_}
 use mathlib.Core.Option.{none}
 use mathlib.Core.List.{List, [], _∷_, _++_, append-nil}
 use mathlib.Core.Logic.{⊎-elim}
 use lib.Dec.{leb, ltb, eqb}
 use lib.ListN.{length}
-use borrow.Author.Tests.{leb-true, leb-false, lt-ltb, le-ltb, eqb-true, ne-eqb}
+use borrow.Author.Tests.{leb-true, leb-false, lt-ltb, le-ltb, eqb-true, eq-eqb, ne-eqb}
 use Rattle.lists.specs.Tests.{case, true-false, on, on-le, both, either}
 use Rattle.lists.specs.Lists.{keep, first, elem, sum, In, here, in-nil, in-cons, in-map, in-left, in-right, keep-in, in-keep, first-in}
-use Rattle.lists.specs.Lists.{keep-append, keep-cong, keep-keep, sum-append, sum-keep, sum-le, sum-zero, length-keep}
+use Rattle.lists.specs.Lists.{keep-append, keep-cong, keep-keep, sum-append, sum-keep, sum-le, sum-zero, sum-in, length-keep}
+use Rattle.lists.specs.Least.{least}
 use Rattle.scheduler.specs.declared.Submission.{Submission}
 use Rattle.scheduler.specs.declared.State.the-variants.{Running}
 use Rattle.scheduler.specs.declared.Job.{Job}
+use Rattle.scheduler.specs.declared.Departure.the-variants.{Complete, Cancel}
 use Rattle.scheduler.specs.declared.Select.{Select}
+use Rattle.scheduler.specs.declared.Select.the-variants as select
 use Rattle.scheduler.specs.Jobs.{isWaiting, isRunning, isHolding, held, picks}
 use Rattle.scheduler.specs.declared.Settings.{Settings}
 use Rattle.scheduler.specs.Settings.{holdTime, unit, until}
@@ -26,7 +29,7 @@ use Rattle.scheduler.specs.Times.{until-at}
 use Rattle.scheduler.specs.Table.{ticketOf, staying}
 use Rattle.scheduler.specs.Model.{Model, joined, without}
 use Rattle.jobs.specs.Order.{Asc, asc-in, asc-keep}
-use Rattle.jobs.specs.Soundness.{Sound, Leaving, leaving-runs, leaving-clock}
+use Rattle.jobs.specs.Soundness.{Sound, Leaving, early, in-time, endsRuns, leaving-runs, leaving-clock}
 use Rattle.easy_rules.specs.Easy.{queue, free, freed, avail, shadow, extra, qualifies, pick, choice, begun, mark, begin, newJob, rank}
 use Rattle.easy_laws.specs.Settling.{shadow-from, shadow-to, shadow-min, shadow-holds, avail-now, none-starts, How, as-head, passing}
 use Rattle.easy_laws.specs.Settling.{Chosen, chosen, each-begin, Settles, rest, start, idle, not-running, mark-same, sum-mark, queue-mark}
@@ -257,9 +260,9 @@ eased m m′ u b s r x o =
     }
 
 -- running jobs leave
-module _ (m : Model) (c : ℕ) (p : Select) (s : Sound m) (l : Leaving m c p) where
+module _ (m : Model) (c : ℕ) (p : Select) (s : Sound m) (l : Leaving m c p) (ends : endsRuns p ≡ true) where
   pub waits-stay : (j : Job) → isWaiting j ≡ true → picks p j ≡ false
-  waits-stay j w = case (picks p j) (λ e. true-false (isRunning j) (leaving-runs m c p l j e) (not-running j w)) (λ e. e)
+  waits-stay j w = case (picks p j) (λ e. true-false (isRunning j) (leaving-runs p ends j e) (not-running j w)) (λ e. e)
 
   pub queue-leave : queue (staying p (m .jobs)) ≡ queue (m .jobs)
   queue-leave =
@@ -290,6 +293,94 @@ module _ (m : Model) (c : ℕ) (p : Select) (s : Sound m) (l : Leaving m c p) wh
     fewer = λ u k. omega (arith, sum-keep (before u) (picks p) (m .jobs));
     stay = λ j i w. in-keep (λ (j : Job). not (picks p j)) i (rw (waits-stay j w));
   }
+
+-- a waiting job is withdrawn: the head's shadow stays, or another is head and one job fewer waits before u
+module _ (m : Model) (t : ℕ) (s : Sound m) where
+  abbrev gone : Job → Bool
+  gone = picks (select.Departing Cancel t)
+
+  abbrev pub left : Model
+  left = without m (m .clock) (select.Departing Cancel t)
+
+  pub queue-left : queue (left .jobs) ≡ keep (λ (j : Job). not (eqb (j .ticket) t)) (queue (m .jobs))
+  queue-left =
+      keep-keep isWaiting (λ (j : Job). not (gone j)) (m .jobs)
+      ∙ keep-cong (λ (j : Job). not (gone j) && isWaiting j) (λ (j : Job). isWaiting j && not (eqb (j .ticket) t)) (m .jobs)
+      (λ j i. case (isWaiting j) (λ w. rw w (case (eqb (j .ticket) t) (λ e. rw e) (λ e. rw e))) (λ w. rw w))
+      ∙ sym (keep-keep (λ (j : Job). not (eqb (j .ticket) t)) isWaiting (m .jobs))
+
+  -- one that waits holds no nodes, and frees none
+  none-of : (f : Job → ℕ) → ((j : Job) → isHolding j ≡ false → f j ≡ 0) → sum f (left .jobs) ≡ sum f (m .jobs)
+  none-of f n =
+      let a = sum-keep f gone (m .jobs) in
+      let b = sum-zero (λ (j : Job). on (gone j) (f j)) (m .jobs) (λ j i. zero-of j) in
+      omega arith
+    where
+      zero-of : (j : Job) → on (gone j) (f j) ≡ 0
+      zero-of j = case (isWaiting j) (λ w. rw (w, n j (idle j w)) (case (eqb (j .ticket) t) (λ e. rw e) (λ e. rw e))) (λ w. rw w)
+
+  pub free-left : free left ≡ free m
+  free-left = ap (λ (n : ℕ). m .settings .nodes - n) (none-of held (λ j h. rw h))
+
+  pub avail-left : (r : ℕ) → avail left r ≡ avail m r
+  avail-left r = omega (arith, free-left, none-of (freed (m .settings) r) (λ j h. rw h))
+
+  -- no shadow moves
+  pub shadow-left : (n : ℕ) → shadow left n ≡ shadow m n
+  unfolding shadow
+  shadow-left n = ap (λ (p : ℕ → Bool). least p (unit (m .settings)) (m .clock)) (λ i r. leb n (avail-left r i))
+
+  fewer-left : (u : ℕ) → ahead u (left .jobs) + sum (λ (j : Job). on (gone j) (before u j)) (m .jobs) ≡ ahead u (m .jobs)
+  fewer-left u = sum-keep (before u) gone (m .jobs)
+
+  pub withdraw-keeps : (u b : ℕ) → (u ≡ t → ⊥) → OnCourse m u b → OnCourse left u b
+  withdraw-keeps u b n o =
+      let w = o .waits in
+      record {
+        waits = record {
+          job = w .job;
+          isin = in-keep (λ (j : Job). not (gone j)) (w .isin) (rw (w .waits, ne-eqb (w .job .ticket) t (λ e. n (sym (w .named) ∙ e))));
+          waits = w .waits;
+          named = w .named;
+        };
+        by = λ h q e. let k = head-of m u w in by-head (k .job) (k .later) (k .first) h q e;
+      }
+    where
+      by-head : (k : Job) (later : List Job) → queue (m .jobs) ≡ k ∷ later → (h : Job) (q : List Job) → queue (left .jobs) ≡ h ∷ q
+          → shadow left (h .nodes) + ahead u (left .jobs) * unit (m .settings) ≤ b
+      by-head k later f h q e =
+          case (eqb (k .ticket) t)
+          (λ x. let y : k .ticket ≡ t = eqb-true (k .ticket) t x in
+          let l : k .ticket < u = head-before m k later f u (s .asc) (o .waits) (λ z. n (sym z ∙ y)) in
+          let i = head-in m k later f in
+          let z : on (gone k) (before u k) ≡ 1 = rw (i .1, x, lt-ltb (k .ticket) u l) in
+          let c : suc (ahead u (left .jobs)) ≤ ahead u (m .jobs) = omega (arith, fewer-left u, sum-in (λ (j : Job). on (gone j) (before u j)) (i .0)) in
+          omega (
+            arith,
+            mul-le-mul-right {m = suc (ahead u (left .jobs))} {n = ahead u (m .jobs)} (unit (m .settings)) c,
+            o .by k later f,
+            shadow-from m (k .nodes),
+            shadow-to left (h .nodes),
+          ))
+          (λ x. let p : k ∷ keep (λ (j : Job). not (eqb (j .ticket) t)) later ≡ h ∷ q = sym (rw (f, x) at queue-left) ∙ e in
+          let z : k ≡ h = cc in
+          rw (← z) (omega (
+            arith,
+            shadow-left (k .nodes),
+            mul-le-mul-right {m = ahead u (left .jobs)} {n = ahead u (m .jobs)} (unit (m .settings)) (omega (arith, fewer-left u)),
+            o .by k later f,
+          )))
+
+-- jobs leave, and one that waits and stays is on course still
+pub leave-keeps : (m : Model) (c : ℕ) (p : Select) → Sound m → choice m ≡ none → Leaving m c p → (u b : ℕ)
+    → ((j : Job) → In j (m .jobs) → isWaiting j ≡ true → j .ticket ≡ u → picks p j ≡ false) → OnCourse m u b → OnCourse (without m c p) u b
+leave-keeps m c p s r (early Complete t) u b n o = eased m _ u b s r (leave-eases m _ _ s (early Complete t) refl) o
+leave-keeps m c p s r (early Cancel t) u b n o =
+    withdraw-keeps m t s u b
+    (λ e. let w = o .waits in
+    true-false (eqb (w .job .ticket) t) (eq-eqb (w .job .ticket) t (w .named ∙ e)) (rw (w .waits) at (n (w .job) (w .isin) (w .waits) (w .named))))
+    o
+leave-keeps m c p s r (in-time l) u b n o = eased m _ u b s r (leave-eases m _ _ s (in-time l) refl) o
 
 -- a job joins at the end of the queue
 module _ (m : Model) (o : Submission) where

@@ -5,3 +5,4 @@ pub mod Obligations
 pub mod EngineLaws
 pub mod Sentences
 pub mod QuietTick
+pub mod Withdrawal

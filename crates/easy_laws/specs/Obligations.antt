@@ -1,6 +1,6 @@
 -- Every call of this kind owes what `Lawful` asks of it.
 -- Assumes nothing.
-use Prim.Native.Nat.{ℕ, suc, _<_, min}
+use Prim.Native.Nat.{ℕ, _<_, min}
 use native.Mathlib.Omega.{arith}
 use mathlib.Core.Path.{_≡_, refl, sym, ap, subst, _∙_}
 use mathlib.Core.Bool.{true, false, not, cond}
@@ -10,38 +10,43 @@ use mathlib.Core.Logic.{_⊎_, inl, inr, ⊎-elim}
 use lib.Dec.{eqb}
 use borrow.Author.Tests.{eqb-true}
 use Rattle.lists.specs.Tests.{case, true-false}
-use Rattle.lists.specs.Lists.{keep, elem, In, here, there, in-nil, in-cons, keep-in, keep-all, map-cong}
+use Rattle.lists.specs.Lists.{keep, any, elem, In, here, there, in-nil, in-cons, keep-in, keep-all, map-cong}
 use Rattle.scheduler.specs.declared.Kind.the-variants.{Easy}
 use Rattle.scheduler.specs.declared.State.{State}
 use Rattle.scheduler.specs.declared.State.the-variants.{Unused, Waiting, Running}
 use Rattle.scheduler.specs.declared.Job.{Job}
 use Rattle.scheduler.specs.declared.Refusal.the-variants as refusal
-use Rattle.scheduler.specs.declared.Select.{Select}
+use Rattle.scheduler.specs.declared.Submission.{Submission}
+use Rattle.scheduler.specs.declared.Departure.{Departure}
+use Rattle.scheduler.specs.declared.Departure.the-variants.{Complete, Cancel}
 use Rattle.scheduler.specs.declared.Select.the-variants as select
 use Rattle.scheduler.specs.Jobs.{waiting?, isWaiting, picks}
-use Rattle.scheduler.specs.Table.{ticketsOf}
+use Rattle.scheduler.specs.Table.{ticketsOf, endedOf}
 use Rattle.scheduler.specs.Model.{Model, ending, joined}
 use Rattle.scheduler.specs.Answers.{Reply, Result, Forecast, refusing}
 use Rattle.jobs.specs.Order.{Asc, asc-one}
-use Rattle.jobs.specs.Soundness.{Sound, Leaving, early, in-time, leaving-runs, all-live}
+use Rattle.jobs.specs.Departing.{departs-alone}
+use Rattle.jobs.specs.Soundness.{Sound, withdrawn-waits, leaving-runs, all-live}
 use Rattle.history.specs.Calls.{Call}
-use Rattle.history.specs.News.{Newcomer, News, newsOf, clockAfter}
+use Rattle.history.specs.News.{Newcomer, News, newsOf, clockAfter, came-stays}
 use Rattle.history.specs.Book.{waiting}
 use Rattle.history_proof.specs.Obligations.{JobShown, shown, fateBy, isLive, remark, shownAfter, newly, comers, Tells, boundAt}
-use Rattle.history_proof.specs.Obligations.{lowestWaiting, by, Kept, For, Lawful}
-use Rattle.history_proof.specs.Departures.{lives, none-leaves, ends-lives, remark-same, tells-by, tells-leave, tells-nothing, kept-by}
+use Rattle.history_proof.specs.Obligations.{lowestWaiting, Queued, Comes, by, Kept, For, Lawful}
+use Rattle.history_proof.specs.Departures.{lives, none-leaves, ends-lives, withdraw-lives, remark-same, tells-by, tells-leave, tells-nothing}
+use Rattle.history_proof.specs.Departures.{kept-by, queued-by}
 use Rattle.easy_rules.specs.Easy.{queue, head, shadow, headIs, forecast, newJob, call}
 use Rattle.easy_laws.specs.Settling.{marks, settles-clock, settles-settings, settles-jobs}
-use Rattle.easy_laws.specs.Course.{OnCourse, Head, head-in, head-lowest, head-course, course-rest, settles-waited, eased, join-course}
-use Rattle.easy_laws.specs.Validity.{Valid, OwnPart, submits, completes, ticks, moved-ready, moved-eases, settles-keeps, joiner}
-use Rattle.easy_laws.specs.Validity.{CallAccepted, taken-came, Unchanged, quiet-news, called, call-valid}
+use Rattle.easy_laws.specs.Course.{Waits, OnCourse, Head, head-in, head-lowest, head-course, course-rest, settles-waited, join-course}
+use Rattle.easy_laws.specs.Validity.{Valid, OwnPart, submits, departs, ticks, moved-ready, moved-settings, moved-keeps, settles-keeps}
+use Rattle.easy_laws.specs.Validity.{joiner, leaver, Joins, moved-waited, moved-stays, moved-withdraws}
+use Rattle.easy_laws.specs.Validity.{CallAccepted, taken-came, taken-withdrew, Unchanged, quiet-news, called, call-valid}
 
 -- ## The clock and the settings
 
 moved-clock : {m : Model} {c : Call} {mid : Model} {t : ℕ} {ts : List ℕ} → OwnPart m c mid t ts → (r : Reply) → r .refusal ≡ refusal.None
     → mid .clock ≡ clockAfter (newsOf c r) (m .clock)
 moved-clock (submits w f room) r q = rw q
-moved-clock (completes t a) r q = rw q
+moved-clock (departs h t a) r q = rw q
 moved-clock (ticks l) r q = rw q
 
 -- ## The answer tells what has changed
@@ -57,7 +62,8 @@ module _ (now : ℕ) (e : News) where
       → shown (marks now (e .started) j) ≡ remark now e (shown j)
   shown-marks j w n =
       case (elem (j .ticket) (e .started))
-      (λ q. rw (q, fate-waits (j .state) (j .start) (w q), q))
+      (λ q. let f = fate-waits (j .state) (j .start) (w q) in
+      case (elem (j .ticket) (e .withdrew)) (λ z. true-false false (rw (f, z) at n) refl) (λ z. rw (q, f, z, q)))
       (λ q. rw q (sym (remark-same now e j q n)))
 
   shown-after : (js : List Job) → ((j : Job) → In j js → elem (j .ticket) (e .started) ≡ true → isWaiting j ≡ true)
@@ -69,38 +75,46 @@ module _ (now : ℕ) (e : News) where
       ∙ sym (map-map (remark now e) shown js)
 
   module _ (m : Model) (s : Sound m) where
-    leaver : (c : ℕ) (p : Select) → Leaving m c p → e .ended ≡ ticketsOf (keep (picks p) (m .jobs))
-        → (j : Job) → In j (m .jobs) → lives now e j ≡ not (picks p j)
-    leaver c p l d = ends-lives now e (picks p) (m .jobs) (s .asc) d (leaving-runs m c p l)
+    -- who leaves is whom the call picks
+    departing-lives : (h : Departure) (t : ℕ) (x : any (picks (select.Departing h t)) (m .jobs) ≡ true) → e .ended ≡ endedOf (select.Departing h t) (m .jobs)
+        → e .withdrew ≡ leaver {m = m} (departs h t x) → (j : Job) → In j (m .jobs) → lives now e j ≡ not (picks (select.Departing h t) j)
+    departing-lives Complete t x d w =
+        ends-lives now e (picks (select.Departing Complete t)) (m .jobs) (s .asc) w d (leaving-runs (select.Departing Complete t) refl)
+    departing-lives Cancel t x d w =
+        withdraw-lives now e (picks (select.Departing Cancel t)) (m .jobs) (s .asc) d (w ∙ sym (departs-alone Cancel t 1 (m .jobs) (s .asc) x)) (withdrawn-waits t)
+
+    ending-lives : e .ended ≡ endedOf (ending m) (m .jobs) → e .withdrew ≡ [] → (j : Job) → In j (m .jobs) → lives now e j ≡ not (picks (ending m) j)
+    ending-lives d w = ends-lives now e (picks (ending m)) (m .jobs) (s .asc) w d (leaving-runs (ending m) refl)
 
     -- who is there before the settling is live after it
-    moved-lives : {c : Call} {mid : Model} {t : ℕ} {ts : List ℕ} → OwnPart m c mid t ts → e .ended ≡ ts → (j : Job) → In j (mid .jobs) → lives now e j ≡ true
-    moved-lives (submits y f room) d j i = none-leaves now e d j
-    moved-lives (completes t x) d j i =
-        let k = keep-in (λ (j : Job). not (picks (select.RunningTicket t) j)) (m .jobs) i in
-        leaver (m .clock) (select.RunningTicket t) (early t) d j (k .0) ∙ k .1
-    moved-lives (ticks l) d j i =
-        let k = keep-in (λ (j : Job). not (picks (ending m) j)) (m .jobs) i in
-        leaver (suc (m .clock)) (ending m) (in-time l) d j (k .0) ∙ k .1
+    moved-lives : {c : Call} {mid : Model} {t : ℕ} {ts : List ℕ} (x : OwnPart m c mid t ts) → e .ended ≡ ts → e .withdrew ≡ leaver x
+        → (j : Job) → In j (mid .jobs) → lives now e j ≡ true
+    moved-lives (submits y f room) d w j i = none-leaves now e d w j
+    moved-lives (departs h t x) d w j i =
+        let k = keep-in (λ (j : Job). not (picks (select.Departing h t) j)) (m .jobs) i in departing-lives h t x d w j (k .0) ∙ k .1
+    moved-lives (ticks l) d w j i = let k = keep-in (λ (j : Job). not (picks (ending m) j)) (m .jobs) i in ending-lives d w j (k .0) ∙ k .1
+
+    -- who comes is live
+    shown-new : (y : Submission) → e .withdrew ≡ []
+        → map (remark now e) (shown (newJob (m .next) y) ∷ []) ≡ keep isLive (map (remark now e) (shown (newJob (m .next) y) ∷ []))
+    shown-new y w = case (elem (m .next) (e .withdrew)) (λ z. true-false false (ap (elem (m .next)) (sym w) ∙ z) refl)
+        (λ z. case (elem (m .next) (e .started)) (λ k. rw (z, k)) (λ k. rw (z, k)))
 
     -- what the call did before it settled
-    moved-tells : {c : Call} {mid : Model} {t : ℕ} {ts : List ℕ} (x : OwnPart m c mid t ts) → e .ended ≡ ts → e .came ≡ joiner x
+    moved-tells : {c : Call} {mid : Model} {t : ℕ} {ts : List ℕ} (x : OwnPart m c mid t ts) → e .ended ≡ ts → e .withdrew ≡ leaver x → e .came ≡ joiner x
         → (after : List Job) → map shown after ≡ map (remark now e) (map shown (mid .jobs))
         → map shown after ≡ shownAfter now e (map shown (m .jobs) ++ comers e)
-    moved-tells (submits y f room) d q after h =
+    moved-tells (submits y f room) d w q after h =
         let js = m .jobs in
         let new : Job = newJob (m .next) y in
         let one : map (remark now e) (shown new ∷ []) ≡ keep isLive (map (remark now e) (shown new ∷ [])) =
-        case (elem (m .next) (e .started)) (λ z. rw z) (λ z. rw z) in
-        tells-by now e (λ (j : Job). false) js after (λ j i. none-leaves now e d j)
+        shown-new y w in
+        tells-by now e (λ (j : Job). false) js after (λ j i. none-leaves now e d w j)
         (h ∙ rw (keep-all (λ (j : Job). true) js (λ j i. refl), map-append shown js (new ∷ []), map-append (remark now e) (map shown js) (shown new ∷ []))
         (ap (λ (l : List JobShown). map (remark now e) (map shown js) ++ l)
         (one ∙ ap (λ (os : List Newcomer). keep isLive (map (remark now e) (map newly os))) (sym q))))
-    moved-tells (completes t x) d q after h =
-        tells-leave now e (picks (select.RunningTicket t)) (m .jobs) after (leaver (m .clock) (select.RunningTicket t) (early t) d) q h
-    moved-tells (ticks l) d q after h =
-        tells-leave now e (picks (ending m)) (m .jobs) after
-        (leaver (suc (m .clock)) (ending m) (in-time l) d) q h
+    moved-tells (departs h t x) d w q after r = tells-leave now e (picks (select.Departing h t)) (m .jobs) after (departing-lives h t x d w) q r
+    moved-tells (ticks l) d w q after h = tells-leave now e (picks (ending m)) (m .jobs) after (ending-lives d w) q h
 
 module _ (m : Model) (c : Call) (o : Result) (v : Valid m) where
   taken-tells : CallAccepted m c o → Tells m (newsOf c (o .reply)) (o .model)
@@ -111,12 +125,12 @@ module _ (m : Model) (c : Call) (o : Result) (v : Valid m) where
       let r = moved-ready (t .moved) v in
       let q : o .model .jobs ≡ map (marks now (o .reply .started)) (t .mid .jobs) =
       settles-jobs (t .trace) ∙ ap (λ (x : ℕ). map (marks x (o .reply .started)) (t .mid .jobs)) (sym (settles-clock (t .trace))) in
-      moved-tells now e m s (t .moved) refl (taken-came m c o t) (o .model .jobs)
+      moved-tells now e m s (t .moved) refl (taken-withdrew m c o t) (taken-came m c o t) (o .model .jobs)
       (ap (map shown) q
       ∙ shown-after now e (t .mid .jobs)
       (λ j i x. let w = settles-waited (j .ticket) (t .trace) x in
       ap isWaiting (asc-one 1 (t .mid .jobs) j (w .job) (r .sound .asc) i (w .isin) (sym (w .named))) ∙ w .waits)
-      (moved-lives now e m s (t .moved) refl))
+      (moved-lives now e m s (t .moved) refl (taken-withdrew m c o t)))
 
   quiet-tells : Unchanged m c o → Tells m (newsOf c (o .reply)) (o .model)
   quiet-tells q = subst (λ (x : Result). Tells m (newsOf c (x .reply)) (x .model)) (sym (q .same)) (tells-nothing m (newsOf c (refusing (q .why))) (q .silent))
@@ -134,7 +148,7 @@ moved-joins {m} (submits w f room) o i = one (in-cons i)
     one : (o ≡ record { ticket = m .next; nodes = w .nodes; promise = 0 }) ⊎ In o [] → Joins o
     one (inl q) = subst Joins (sym q) (refl, join-course m w)
     one (inr k) = in-nil k
-moved-joins (completes t a) o i = in-nil i
+moved-joins (departs h t a) o i = in-nil i
 moved-joins (ticks l) o i = in-nil i
 
 -- ## The head and its forecast
@@ -187,19 +201,39 @@ forecast-told b m h a n = rw (h .first, other (queue (b .jobs)) refl)
 
 -- ## Lawful
 
+-- a job that waits is in the queue
+pub waits-queued : (m : Model) (u : ℕ) → Waits m u → Queued m u
+waits-queued m u w = queued-by m u (w .job) (w .isin) (w .waits) (w .named)
+
 module _ (m : Model) (c : Call) (o : Result) (v : Valid m) where
-  settled-keeps : (u b : ℕ) (t : CallAccepted m c o) → OnCourse (t .mid) u b → Kept (by b) (For OnCourse b) u (newsOf c (o .reply)) (o .model)
-  settled-keeps u b t x =
-      kept-by (m .clock) (newsOf c (o .reply)) (by b) (For OnCourse b) (o .model) u
+  settled-keeps : (u b : ℕ) (t : CallAccepted m c o) → elem u (newsOf c (o .reply) .withdrew) ≡ false → OnCourse (t .mid) u b
+      → Kept (by b) (For OnCourse b) u (newsOf c (o .reply)) (o .model)
+  settled-keeps u b t n x =
+      kept-by (m .clock) (newsOf c (o .reply)) (by b) (For OnCourse b) (o .model) u n
       (settles-keeps u b (t .trace) (moved-ready (t .moved) v) x)
 
-  taken-keeps : (u b : ℕ) → CallAccepted m c o → OnCourse m u b → Kept (by b) (For OnCourse b) u (newsOf c (o .reply)) (o .model)
-  taken-keeps u b t x = settled-keeps u b t (eased m (t .mid) u b (v .ready .sound) (v .rests) (moved-eases (t .moved) (v .ready .sound)) x)
+  taken-keeps : (u b : ℕ) → CallAccepted m c o → OnCourse m u b → elem u (newsOf c (o .reply) .withdrew) ≡ false
+      → Kept (by b) (For OnCourse b) u (newsOf c (o .reply)) (o .model)
+  taken-keeps u b t x n = settled-keeps u b t n (moved-keeps (t .moved) v u b (ap (elem u) (sym (taken-withdrew m c o t)) ∙ n) x)
 
-  taken-joins : (t : CallAccepted m c o) (x : Newcomer) → In x (newsOf c (o .reply) .came) → (x .ticket ≡ m .next) × OnCourse (t .mid) (x .ticket) (boundAt m)
+  -- who starts waited or comes, and is not withdrawn; who is withdrawn waited
+  taken-starts : (u : ℕ) (t : CallAccepted m c o) → elem u (o .reply .started) ≡ true
+      → (elem u (newsOf c (o .reply) .withdrew) ≡ false) × (Queued m u ⊎ Comes (newsOf c (o .reply)) u)
+  taken-starts u t q =
+      let w = settles-waited u (t .trace) q in
+      (ap (elem u) (taken-withdrew m c o t) ∙ moved-stays (t .moved) u w, by-way (moved-waited (t .moved) u w))
+    where
+      by-way : Waits m u ⊎ Joins (t .moved) u → Queued m u ⊎ Comes (newsOf c (o .reply)) u
+      by-way (inl w) = inl (waits-queued m u w)
+      by-way (inr (x, i, e)) = inr (x, subst (In x) (sym (taken-came m c o t)) i, e)
+
+  taken-withdraws : (u : ℕ) (t : CallAccepted m c o) → elem u (newsOf c (o .reply) .withdrew) ≡ true → Queued m u
+  taken-withdraws u t q = waits-queued m u (moved-withdraws (t .moved) (v .ready .sound) u (ap (elem u) (sym (taken-withdrew m c o t)) ∙ q))
+
+  pub taken-joins : (t : CallAccepted m c o) (x : Newcomer) → In x (newsOf c (o .reply) .came) → (x .ticket ≡ m .next) × OnCourse (t .mid) (x .ticket) (boundAt m)
   taken-joins t x i = moved-joins (t .moved) x (subst (In x) (taken-came m c o t) i)
 
-  quiet-comes {ℓ} : {A : Type ℓ} → Unchanged m c o → (x : Newcomer) → In x (newsOf c (o .reply) .came) → A
+  pub quiet-comes {ℓ} : {A : Type ℓ} → Unchanged m c o → (x : Newcomer) → In x (newsOf c (o .reply) .came) → A
   quiet-comes q x i = in-nil (subst (λ (e : News). In x (e .came)) (quiet-news m c o q) i)
 
   forecast-kept : (f : Forecast) → CallAccepted m c o → Valid (o .model) → o .reply .head ≡ some f → OnCourse (o .model) (f .ticket) (f .minute)
@@ -218,6 +252,11 @@ module _ (m : Model) (c : Call) (o : Result) (v : Valid m) where
         x .1,
       )
 
+  quiet-keeps : (u b : ℕ) → Unchanged m c o → OnCourse m u b → Kept (by b) (For OnCourse b) u (newsOf c (o .reply)) (o .model)
+  quiet-keeps u b q x =
+      subst (λ (r : Result). Kept (by b) (For OnCourse b) u (newsOf c (r .reply)) (r .model)) (sym (q .same))
+      (subst (λ (e : News). Kept (by b) (For OnCourse b) u e m) (sym (q .silent)) x)
+
 pub easy-lawful : Lawful Easy call Valid OnCourse
 easy-lawful = record {
   kind-is = λ m v. v .ready .kind;
@@ -225,7 +264,7 @@ easy-lawful = record {
   capacity = λ m v. v .ready .sound .capacity;
   valid = call-valid;
   settings = λ m c v. either m c v
-      (λ (t : CallAccepted m c (call m c)). settles-settings (t .trace) ∙ moved-eases (t .moved) (v .ready .sound) .settings)
+      (λ (t : CallAccepted m c (call m c)). settles-settings (t .trace) ∙ moved-settings (t .moved))
       (λ (q : Unchanged m c (call m c)). ap (λ (o : Result). o .model .settings) (q .same));
   clock = λ m c v. either m c v
       (λ (t : CallAccepted m c (call m c)). settles-clock (t .trace) ∙ moved-clock (t .moved) (call m c .reply) (t .accepted))
@@ -234,13 +273,19 @@ easy-lawful = record {
   tells = λ m c v. either m c v (taken-tells m c (call m c) v) (quiet-tells m c (call m c) v);
   keeps = λ b. record {
     rest = λ m u v x. course-rest m u b x (v .ready .sound) (v .rests);
-    keeps = λ m c u v x. either m c v
-        (λ (t : CallAccepted m c (call m c)). taken-keeps m c (call m c) v u b t x)
-        (λ (q : Unchanged m c (call m c)). subst (λ (o : Result). Kept (by b) (For OnCourse b) u (newsOf c (o .reply)) (o .model)) (sym (q .same)) x);
+    keeps = λ m c u v x n. either m c v
+        (λ (t : CallAccepted m c (call m c)). taken-keeps m c (call m c) v u b t x n)
+        (λ (q : Unchanged m c (call m c)). quiet-keeps m c (call m c) v u b q x);
   };
   joins = λ m c o v i. either m c v
-      (λ (t : CallAccepted m c (call m c)). settled-keeps m c (call m c) v (o .ticket) (boundAt m) t (taken-joins m c (call m c) v t o i .1))
+      (λ (t : CallAccepted m c (call m c)). settled-keeps m c (call m c) v (o .ticket) (boundAt m) t (came-stays c (call m c .reply) (o .ticket) o i) (taken-joins m c (call m c) v t o i .1))
       (λ (q : Unchanged m c (call m c)). quiet-comes m c (call m c) v q o i);
+  starts = λ m c t v e. either m c v
+      (λ (x : CallAccepted m c (call m c)). taken-starts m c (call m c) v t x e)
+      (λ (q : Unchanged m c (call m c)). true-false false (ap (λ (o : Result). elem t (o .reply .started)) (sym (q .same)) ∙ e) refl);
+  withdraws = λ m c t v e. either m c v
+      (λ (x : CallAccepted m c (call m c)). taken-withdraws m c (call m c) v t x e)
+      (λ (q : Unchanged m c (call m c)). true-false false (ap (λ (n : News). elem t (n .withdrew)) (sym (quiet-news m c (call m c) q)) ∙ e) refl);
   fresh = λ m c o v i l. either m c v
       (λ (t : CallAccepted m c (call m c)).
       let h = lowest-head m _ (v .ready .sound .asc) l in

@@ -4,33 +4,36 @@
 use Prim.Native.Nat.{ℕ, zero, suc, _+_, _*_, _≤_, _<_}
 use native.Mathlib.Omega.{arith}
 use mathlib.Core.Path.{_≡_, refl, sym, ap, ap₂, subst, _∙_}
-use mathlib.Core.Bool.{true, false, not, _&&_, _||_, cond}
+use mathlib.Core.Bool.{true, false, _&&_, _||_, cond}
 use mathlib.Core.Option.{Option, none, some}
 use mathlib.Core.List.{List, [], _∷_, _++_}
 use mathlib.Core.Logic.{_⊎_, inl, inr, ⊎-elim}
 use lib.Dec.{leb, ltb, eqb}
 use lib.ListN.{length}
-use borrow.Author.Tests.{leb-true, leb-false, le-leb, lt-leb, ltb-true, ltb-false, le-ltb, lt-ltb, eqb-true, eq-eqb, ne-eqb}
-use Rattle.lists.specs.Tests.{case, true-false, both, either, neither}
-use Rattle.lists.specs.Lists.{keep, first, any, elem, In, in-nil, in-cons, in-append, map-in, keep-in, first-in}
+use borrow.Author.Tests.{leb-true, leb-false, le-leb, lt-leb, ltb-true, ltb-false, le-ltb, lt-ltb, eq-eqb, ne-eqb}
+use Rattle.lists.specs.Tests.{case, true-false, either, neither}
+use Rattle.lists.specs.Lists.{keep, first, any, elem, In, map-in, first-in}
 use Rattle.walltime.specs.WallTime.{wallTime}
 use Rattle.scheduler.specs.declared.Job.{Job}
 use Rattle.scheduler.specs.declared.Submission.{Submission}
 use Rattle.scheduler.specs.declared.Refusal.{Refusal}
 use Rattle.scheduler.specs.declared.Refusal.the-variants as refusal
+use Rattle.scheduler.specs.declared.Departure.{Departure}
+use Rattle.scheduler.specs.declared.Departure.the-variants.{Complete, Cancel}
 use Rattle.scheduler.specs.declared.Select.{Select}
 use Rattle.scheduler.specs.declared.Select.the-variants as select
 use Rattle.scheduler.specs.Limits.{lastTicket, outside}
-use Rattle.scheduler.specs.Jobs.{isWaiting, isRunning, runsAs, held, picks}
+use Rattle.scheduler.specs.Jobs.{isWaiting, isRunning, departsAs, held}
 use Rattle.scheduler.specs.Settings.{horizon, slots, longest, holdTime, unit, until}
-use Rattle.scheduler.specs.Table.{ticketOf, ticketsOf}
+use Rattle.scheduler.specs.Table.{ticketOf, ticketsOf, endedOf}
 use Rattle.scheduler.specs.Model.{Model, ending, joined}
 use Rattle.scheduler.specs.Answers.{Result, Forecast, verdict, accepts, refuse}
-use Rattle.scheduler.specs.Refusals.{completeRefusal, tickRefusal}
+use Rattle.scheduler.specs.Refusals.{notThere, departRefusal, tickRefusal}
 use Rattle.jobs.specs.Judgement.{judged-by, judged-accepted, judged-refusal, judged-refused}
 use Rattle.jobs.specs.Order.{Asc}
+use Rattle.jobs.specs.Departing.{departs-alone}
 use Rattle.jobs.specs.Soundness.{Sound, Fit}
-use Rattle.history.specs.Calls.{Call, submit, complete, tick, unchanged}
+use Rattle.history.specs.Calls.{Call, submit, depart, complete, cancel, tick, unchanged}
 use Rattle.history.specs.News.{Newcomer, News, newsOf}
 use Rattle.history.specs.Tickets.{nextAfter}
 use Rattle.easy_rules.specs.Easy.{queue, head, free, avail, shadow, extra, qualifies, pick, choice, begin, Settling, onChoice, settled}
@@ -39,8 +42,8 @@ use Rattle.easy_laws.specs.Settling.{shadow-from, shadow-min, shadow-hol
 use Rattle.easy_laws.specs.Settling.{queue-mark, one-fewer, asc-begin, each-begin, idle, marks, Settles, rest, start, settles}
 use Rattle.easy_laws.specs.Settling.{settles-jobs, settles-next}
 use Rattle.easy_laws.specs.Course.{Waits, head-lowest, settles-waited}
-use Rattle.easy_laws.specs.Validity.{Valid, latestEnd, OwnPart, submits, completes, ticks, joiner, CallAccepted, taken-came}
-use Rattle.easy_laws.specs.Validity.{Unchanged, quiet-news, called, call-valid}
+use Rattle.easy_laws.specs.Validity.{Valid, latestEnd, OwnPart, submits, departs, ticks, joiner, CallAccepted, taken-came}
+use Rattle.easy_laws.specs.Validity.{Unchanged, quiet-news, called, call-valid, Joins, joins-ticket, moved-waited}
 
 -- ## The shadow
 
@@ -216,7 +219,7 @@ settled-by-steps m s =
 -- a call is judged by these tests and no others
 abbrev pub refusalOf : Model → Call → Refusal
 refusalOf m (submit o) = submitRefusal m o
-refusalOf m (complete t) = completeRefusal m t
+refusalOf m (depart h t) = departRefusal m h t
 refusalOf m tick = tickRefusal m
 refusalOf m (unchanged r) = r
 
@@ -227,7 +230,7 @@ finished-none m mid t ts = refl
 pub refusal-is : (m : Model) (c : Call) → call m c .reply .refusal ≡ refusalOf m c
 unfolding call advanced
 refusal-is m (submit o) = judged-refusal m (submitRefusal m o) (finished m (joined m (newJob (m .next) o)) (m .next) []) (finished-none m _ _ _)
-refusal-is m (complete t) = judged-refusal m (completeRefusal m t) (advanced m (m .clock) (select.RunningTicket t)) (finished-none m _ _ _)
+refusal-is m (depart h t) = judged-refusal m (departRefusal m h t) (advanced m (m .clock) (select.Departing h t)) (finished-none m _ _ _)
 refusal-is m tick = judged-refusal m (tickRefusal m) (advanced m (suc (m .clock)) (ending m)) (finished-none m _ _ _)
 refusal-is m (unchanged r) = refl
 
@@ -235,7 +238,7 @@ refusal-is m (unchanged r) = refl
 pub refused-same : (m : Model) (c : Call) → accepts (call m c .reply .refusal) ≡ false → call m c ≡ refuse m (call m c .reply .refusal)
 unfolding call advanced
 refused-same m (submit o) a = judged-refused m (submitRefusal m o) (finished m (joined m (newJob (m .next) o)) (m .next) []) (finished-none m _ _ _) a
-refused-same m (complete t) a = judged-refused m (completeRefusal m t) (advanced m (m .clock) (select.RunningTicket t)) (finished-none m _ _ _) a
+refused-same m (depart h t) a = judged-refused m (departRefusal m h t) (advanced m (m .clock) (select.Departing h t)) (finished-none m _ _ _) a
 refused-same m tick a = judged-refused m (tickRefusal m) (advanced m (suc (m .clock)) (ending m)) (finished-none m _ _ _) a
 refused-same m (unchanged r) a = refl
 
@@ -265,6 +268,7 @@ Because m o refusal.NotRunning = ⊥
 Because m o refusal.ProfileTooLong = ⊥
 Because m o refusal.Malformed = ⊥
 Because m o refusal.TooShort = ⊥
+Because m o refusal.NotWaiting = ⊥
 
 pub submit-because : (m : Model) (o : Submission) → Because m o (submitRefusal m o)
 unfolding submitRefusal verdict
@@ -303,9 +307,10 @@ submit-accepts m o f l =
       le-ltb (horizon (m .settings)) (latestEnd m (o .estimate)) l,
     )
 
-pub complete-because : (m : Model) (t : ℕ) → completeRefusal m t ≡ cond (any (runsAs t) (m .jobs)) refusal.None refusal.NotRunning
-unfolding completeRefusal verdict
-complete-because m t = case (any (runsAs t) (m .jobs)) (λ e. rw e) (λ e. rw e)
+-- 7 if it does not run, 11 if it does not wait
+pub depart-because : (m : Model) (h : Departure) (t : ℕ) → departRefusal m h t ≡ cond (any (departsAs h t) (m .jobs)) refusal.None (notThere h)
+unfolding departRefusal verdict
+depart-because m h t = case (any (departsAs h t) (m .jobs)) (λ e. rw e) (λ e. rw e)
 
 pub tick-because : (m : Model) → tickRefusal m ≡ cond (leb (suc (m .clock)) (horizon (m .settings))) refusal.None refusal.PastHorizon
 unfolding tickRefusal verdict
@@ -355,7 +360,7 @@ pub call-forecasts : (m : Model) (c : Call) → Announces m (call m c)
 unfolding call advanced
 call-forecasts m (submit o) = judged-by (Announces m) m (submitRefusal m o) (finished m (joined m (newJob (m .next) o)) (m .next) [])
     (λ a. finished-forecasts m _ _ _) (λ a. same-heads m)
-call-forecasts m (complete t) = judged-by (Announces m) m (completeRefusal m t) (advanced m (m .clock) (select.RunningTicket t))
+call-forecasts m (depart h t) = judged-by (Announces m) m (departRefusal m h t) (advanced m (m .clock) (select.Departing h t))
     (λ a. finished-forecasts m _ _ _) (λ a. same-heads m)
 call-forecasts m tick = judged-by (Announces m) m (tickRefusal m) (advanced m (suc (m .clock)) (ending m))
     (λ a. finished-forecasts m _ _ _) (λ a. same-heads m)
@@ -363,7 +368,7 @@ call-forecasts m (unchanged r) = same-heads m
 
 -- ## Ends
 
-advanced-ended : (m : Model) (c : ℕ) (s : Select) → advanced m c s .reply .ended ≡ ticketsOf (keep (picks s) (m .jobs))
+advanced-ended : (m : Model) (c : ℕ) (s : Select) → advanced m c s .reply .ended ≡ endedOf s (m .jobs)
 unfolding advanced finished
 advanced-ended m c s = refl
 
@@ -375,52 +380,23 @@ tick-ends m a =
     ap (λ (o : Result). o .reply .ended) (judged-accepted m (tickRefusal m) (advanced m (suc (m .clock)) (ending m)) a .1)
     ∙ advanced-ended m (suc (m .clock)) (ending m)
 
--- An accepted early end ends that ticket alone.
+-- An accepted early end ends that ticket alone, an accepted withdrawal none.
 pub complete-ends : (m : Model) (t : ℕ) → Sound m → accepts (call m (complete t) .reply .refusal) ≡ true → call m (complete t) .reply .ended ≡ t ∷ []
-unfolding call completeRefusal verdict
+unfolding call departRefusal verdict
 complete-ends m t s a =
-    let j = judged-accepted m (completeRefusal m t) (advanced m (m .clock) (select.RunningTicket t)) a in
+    let j = judged-accepted m (departRefusal m Complete t) (advanced m (m .clock) (select.Departing Complete t)) a in
     ap (λ (o : Result). o .reply .ended) (j .1)
-    ∙ advanced-ended m (m .clock) (select.RunningTicket t)
-    ∙ alone 1 (m .jobs) (s .asc) (case (any (runsAs t) (m .jobs)) (λ e. e) (λ e. true-false false (rw e at (j .0)) refl))
-  where
-    none-after : (lo : ℕ) (js : List Job) → Asc lo js → t < lo → keep (runsAs t) js ≡ []
-    none-after lo [] a l = refl
-    none-after lo (j ∷ js) a l =
-        let z : eqb (j .ticket) t ≡ false = ne-eqb (j .ticket) t (λ q. omega arith) in
-        case (isRunning j) (λ x. rw (x, z) (none-after (suc (j .ticket)) js (a .1) (omega arith)))
-        (λ x. rw x (none-after (suc (j .ticket)) js (a .1) (omega arith)))
+    ∙ advanced-ended m (m .clock) (select.Departing Complete t)
+    ∙ departs-alone Complete t 1 (m .jobs) (s .asc)
+    (case (any (departsAs Complete t) (m .jobs)) (λ e. e) (λ e. true-false false (rw e at (j .0)) refl))
 
-    alone : (lo : ℕ) (js : List Job) → Asc lo js → any (runsAs t) js ≡ true → ticketsOf (keep (runsAs t) js) ≡ t ∷ []
-    alone lo [] a e = true-false false e refl
-    alone lo (j ∷ js) a e =
-        case (runsAs t j)
-        (λ x. let q = eqb-true (j .ticket) t (both (isRunning j) (eqb (j .ticket) t) x .1) in
-        rw (x, none-after (suc (j .ticket)) js (a .1) (omega arith), q))
-        (λ x. rw x (alone (suc (j .ticket)) js (a .1) (rw x at e)))
+pub cancel-ends : (m : Model) (t : ℕ) → call m (cancel t) .reply .ended ≡ []
+unfolding call
+cancel-ends m t =
+    judged-by (λ (o : Result). o .reply .ended ≡ []) m (departRefusal m Cancel t) (advanced m (m .clock) (select.Departing Cancel t))
+    (λ a. advanced-ended m (m .clock) (select.Departing Cancel t)) (λ a. refl)
 
 -- ## Starts
-
--- a job that waits before the settling waited before the call, or is the one that it took in
-moved-waited : {m : Model} {c : Call} {mid : Model} {t : ℕ} {ts : List ℕ} → OwnPart m c mid t ts → (u : ℕ) → Waits mid u → Waits m u ⊎ (u ≡ t)
-moved-waited {m} x u w = go x (w .job) (w .isin) (w .waits) (w .named)
-  where
-    stays : (p : Select) (j : Job) → In j (keep (λ (j : Job). not (picks p j)) (m .jobs)) → isWaiting j ≡ true → j .ticket ≡ u → Waits m u
-    stays p j i q n = record { job = j; isin = keep-in (λ (j : Job). not (picks p j)) (m .jobs) i .0; waits = q; named = n }
-
-    came : (j k : Job) → j .ticket ≡ u → (j ≡ k) ⊎ In j [] → u ≡ k .ticket
-    came j k n (inl z) = sym n ∙ ap ticketOf z
-    came j k n (inr i) = in-nil i
-
-    either-way : (j k : Job) → isWaiting j ≡ true → j .ticket ≡ u → In j (m .jobs) ⊎ In j (k ∷ []) → Waits m u ⊎ (u ≡ k .ticket)
-    either-way j k q n (inl i) = inl (record { job = j; isin = i; waits = q; named = n })
-    either-way j k q n (inr i) = inr (came j k n (in-cons i))
-
-    go : {c : Call} {mid : Model} {t : ℕ} {ts : List ℕ} → OwnPart m c mid t ts → (j : Job) → In j (mid .jobs) → isWaiting j ≡ true → j .ticket ≡ u
-        → Waits m u ⊎ (u ≡ t)
-    go (submits o f room) j i q z = either-way j (newJob (m .next) o) q z (in-append (m .jobs) i)
-    go (completes t a) j i q z = inl (stays (select.RunningTicket t) j i q z)
-    go (ticks l) j i q z = inl (stays (ending m) j i q z)
 
 -- after a settling no job that it started waits
 settles-runs : (t : ℕ) {m m′ : Model} {ts : List ℕ} → Settles m m′ ts → elem t ts ≡ true → Waits m′ t → ⊥
@@ -462,19 +438,23 @@ pub call-starts : (m : Model) (c : Call) → Valid m → Starts m c (call m c)
 call-starts m c v =
     ⊎-elim
     (λ (t : CallAccepted m c (call m c)). record {
-      waited = λ u e. moved-waited (t .moved) u (settles-waited u (t .trace) e);
+      waited = λ u e. came u t (moved-waited (t .moved) u (settles-waited u (t .trace) e));
       runs = λ u e. settles-runs u (t .trace) e;
       once = settles-distinct (t .trace);
     })
     (λ (q : Unchanged m c (call m c)). subst (λ (o : Result). Starts m c o) (sym (q .same))
     (record { waited = λ u e. true-false false e refl; runs = λ u e w. true-false false e refl; once = tt }))
     (called m c v)
+  where
+    came : (u : ℕ) (t : CallAccepted m c (call m c)) → Waits m u ⊎ Joins (t .moved) u → Waits m u ⊎ (u ≡ call m c .reply .ticket)
+    came u t (inl w) = inl w
+    came u t (inr (o, i, e)) = inr (sym e ∙ joins-ticket (t .moved) o i)
 
 -- ## Tickets
 
 moved-next : {m : Model} {c : Call} {mid : Model} {t : ℕ} {ts : List ℕ} (x : OwnPart m c mid t ts) → mid .next ≡ nextAfter (joiner x) (m .next)
 moved-next (submits o f room) = refl
-moved-next (completes t a) = refl
+moved-next (departs h t a) = refl
 moved-next (ticks l) = refl
 
 pub call-next : (m : Model) (c : Call) → Valid m → call m c .model .next ≡ nextAfter (newsOf c (call m c .reply) .came) (m .next)

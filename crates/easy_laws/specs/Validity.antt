@@ -8,9 +8,9 @@ use mathlib.Core.Option.{none}
 use mathlib.Core.List.{List, [], _∷_}
 use mathlib.Core.Logic.{_⊎_, inl, inr, ⊎-elim}
 use lib.Dec.{ltb, eqb}
-use borrow.Author.Tests.{ltb-false, eqb-false, not-false}
+use borrow.Author.Tests.{ltb-false, eqb-true, eq-eqb, eqb-false, not-true, not-false}
 use Rattle.lists.specs.Tests.{case, true-false}
-use Rattle.lists.specs.Lists.{keep, any, elem, In, in-nil, in-cons, in-append, keep-in}
+use Rattle.lists.specs.Lists.{keep, any, elem, In, here, in-nil, in-cons, in-append, keep-in}
 use Rattle.scheduler.specs.declared.Kind.the-variants.{Easy}
 use Rattle.scheduler.specs.declared.State.the-variants.{Waiting}
 use Rattle.scheduler.specs.declared.Job.{Job}
@@ -18,23 +18,27 @@ use Rattle.scheduler.specs.declared.Opening.{Opening}
 use Rattle.scheduler.specs.declared.Submission.{Submission}
 use Rattle.scheduler.specs.declared.Refusal.{Refusal}
 use Rattle.scheduler.specs.declared.Refusal.the-variants as refusal
+use Rattle.scheduler.specs.declared.Departure.{Departure}
+use Rattle.scheduler.specs.declared.Departure.the-variants.{Complete, Cancel}
 use Rattle.scheduler.specs.declared.Select.{Select}
 use Rattle.scheduler.specs.declared.Select.the-variants as select
 use Rattle.scheduler.specs.Jobs.{isWaiting, picks}
 use Rattle.scheduler.specs.declared.Settings.{Settings}
 use Rattle.scheduler.specs.Settings.{refusedSettings, horizon, holdTime, unit}
 use Rattle.scheduler.specs.Times.{until-fresh}
-use Rattle.scheduler.specs.Table.{ticketsOf}
+use Rattle.scheduler.specs.Table.{ticketOf, endedOf}
 use Rattle.scheduler.specs.Model.{Model, ending, empty, joined, without}
 use Rattle.scheduler.specs.Answers.{Result, accepts, refusing, refuse}
-use Rattle.scheduler.specs.Refusals.{judged, completeRefusal, tickRefusal}
+use Rattle.scheduler.specs.Refusals.{judged, notThere, departRefusal, tickRefusal}
 use Rattle.scheduler.specs.Opening.{openingRefusal, opening}
-use Rattle.jobs.specs.Soundness.{Sound, SoundJob, opening-sound, Fit, passed, submit-fit, sound-join, Leaving, early, in-time, sound-leave}
-use Rattle.history.specs.Calls.{Call, submit, complete, tick, unchanged}
+use Rattle.jobs.specs.Order.{asc-one, elem-job}
+use Rattle.jobs.specs.Departing.{not-there, departs-alone}
+use Rattle.jobs.specs.Soundness.{Sound, SoundJob, opening-sound, Fit, passed, submit-fit, sound-join, Leaving, early, in-time, withdrawn-waits, sound-leave}
+use Rattle.history.specs.Calls.{Call, submit, depart, tick, unchanged}
 use Rattle.history.specs.News.{Newcomer, newsOf, nothing, refused-news, unchanged-news}
 use Rattle.easy_rules.specs.Easy.{pick, choice, begin, forecast, finished, newJob, rank, submitRefusal, advanced, call}
-use Rattle.easy_laws.specs.Settling.{Chosen, chosen, each-begin, sound-begin, Settles, rest, start, settles, settles-rest, settles-clock}
-use Rattle.easy_laws.specs.Course.{OnCourse, course-clock, begin-keeps, Eases, eased, leave-eases, join-eases, join-course}
+use Rattle.easy_laws.specs.Settling.{Chosen, chosen, each-begin, not-running, sound-begin, Settles, rest, start, settles, settles-rest, settles-clock}
+use Rattle.easy_laws.specs.Course.{Waits, OnCourse, course-clock, begin-keeps, eased, withdraw-keeps, leave-keeps, join-eases, join-course}
 
 -- however late the job starts, its hold does not pass the last minute
 abbrev pub Room : Model → Job → Type 0
@@ -107,10 +111,9 @@ settles-keeps u b (start {m = m} j e s) r o =
 
 pub data OwnPart (m : Model) : Call → Model → ℕ → List ℕ → Type 0 where
   submits : (o : Submission) → Fit m o → latestEnd m (o .estimate) ≤ horizon (m .settings) → OwnPart m (submit o) (joined m (newJob (m .next) o)) (m .next) []
-  completes : (t : ℕ) → any (picks (select.RunningTicket t)) (m .jobs) ≡ true
-      → OwnPart m (complete t) (without m (m .clock) (select.RunningTicket t)) 0 (ticketsOf (keep (picks (select.RunningTicket t)) (m .jobs)))
-  ticks : suc (m .clock) ≤ horizon (m .settings)
-      → OwnPart m tick (without m (suc (m .clock)) (ending m)) 0 (ticketsOf (keep (picks (ending m)) (m .jobs)))
+  departs : (h : Departure) (t : ℕ) → any (picks (select.Departing h t)) (m .jobs) ≡ true
+      → OwnPart m (depart h t) (without m (m .clock) (select.Departing h t)) 0 (endedOf (select.Departing h t) (m .jobs))
+  ticks : suc (m .clock) ≤ horizon (m .settings) → OwnPart m tick (without m (suc (m .clock)) (ending m)) 0 (endedOf (ending m) (m .jobs))
 
 module _ (m : Model) (v : Valid m) where
   leave-ready : (c : ℕ) (p : Select) → Leaving m c p → Ready (without m c p)
@@ -120,11 +123,16 @@ module _ (m : Model) (v : Valid m) where
     promises = λ j i. v .ready .promises j (old j i);
     starts = λ j i. v .ready .starts j (old j i);
     room = λ j i w. let x = v .ready .room j (old j i) w in
-        (x .0, eased m (without m c p) (j .ticket) (x .0) (v .ready .sound) (v .rests) (leave-eases m c p (v .ready .sound) l) (x .1), x .2);
+        (x .0, leave-keeps m c p (v .ready .sound) (v .rests) l (j .ticket) (x .0) (stays j i) (x .1), x .2);
   }
     where
       old : (j : Job) → In j (without m c p .jobs) → In j (m .jobs)
       old j i = keep-in (λ (j : Job). not (picks p j)) (m .jobs) i .0
+
+      stays : (j : Job) → In j (without m c p .jobs) → (k : Job) → In k (m .jobs) → isWaiting k ≡ true → k .ticket ≡ j .ticket → picks p k ≡ false
+      stays j i k l w e =
+          ap (picks p) (asc-one 1 (m .jobs) k j (v .ready .sound .asc) l (old j i) e)
+          ∙ not-true (picks p j) (keep-in (λ (j : Job). not (picks p j)) (m .jobs) i .1)
 
   join-ready : (o : Submission) → Fit m o → latestEnd m (o .estimate) ≤ horizon (m .settings) → Ready (joined m (newJob (m .next) o))
   join-ready o f room = record {
@@ -163,19 +171,90 @@ module _ (m : Model) (v : Valid m) where
 
 pub moved-ready : {m : Model} {c : Call} {mid : Model} {t : ℕ} {ts : List ℕ} → OwnPart m c mid t ts → Valid m → Ready mid
 moved-ready {m} (submits o f room) v = join-ready m v o f room
-moved-ready {m} (completes t a) v = leave-ready m v (m .clock) (select.RunningTicket t) (early t)
+moved-ready {m} (departs h t a) v = leave-ready m v (m .clock) (select.Departing h t) (early h t)
 moved-ready {m} (ticks l) v = leave-ready m v (suc (m .clock)) (ending m) (in-time l)
 
-pub moved-eases : {m : Model} {c : Call} {mid : Model} {t : ℕ} {ts : List ℕ} → OwnPart m c mid t ts → Sound m → Eases m mid
-moved-eases {m} (submits o f room) s = join-eases m o
-moved-eases {m} (completes t a) s = leave-eases m (m .clock) (select.RunningTicket t) s (early t)
-moved-eases {m} (ticks l) s = leave-eases m (suc (m .clock)) (ending m) s (in-time l)
+pub moved-settings : {m : Model} {c : Call} {mid : Model} {t : ℕ} {ts : List ℕ} → OwnPart m c mid t ts → mid .settings ≡ m .settings
+moved-settings (submits o f room) = refl
+moved-settings (departs h t a) = refl
+moved-settings (ticks l) = refl
 
 -- who comes by it
 abbrev pub joiner : {m : Model} {c : Call} {mid : Model} {t : ℕ} {ts : List ℕ} → OwnPart m c mid t ts → List Newcomer
 joiner {m} (submits o f room) = record { ticket = m .next; nodes = o .nodes; promise = 0 } ∷ []
-joiner (completes t a) = []
+joiner (departs h t a) = []
 joiner (ticks l) = []
+
+-- and who is withdrawn
+abbrev pub leaver : {m : Model} {c : Call} {mid : Model} {t : ℕ} {ts : List ℕ} → OwnPart m c mid t ts → List ℕ
+leaver (submits o f room) = []
+leaver (departs Complete t a) = []
+leaver (departs Cancel t a) = t ∷ []
+leaver (ticks l) = []
+
+-- ## Who waits before the settling
+
+in-one : {A : Type 0} {a x : A} → In a (x ∷ []) → a ≡ x
+in-one i = ⊎-elim (λ e. e) (λ k. in-nil k) (in-cons i)
+
+abbrev pub Joins : {m : Model} {c : Call} {mid : Model} {t : ℕ} {ts : List ℕ} → OwnPart m c mid t ts → ℕ → Type 0
+Joins x u = (o : Newcomer) × In o (joiner x) × (o .ticket ≡ u)
+
+pub joins-ticket : {m : Model} {c : Call} {mid : Model} {t : ℕ} {ts : List ℕ} (x : OwnPart m c mid t ts) (o : Newcomer) → In o (joiner x) → o .ticket ≡ t
+joins-ticket {m} (submits s f room) o i = ap (λ (n : Newcomer). n .ticket) (in-one i)
+joins-ticket (departs h t a) o i = in-nil i
+joins-ticket (ticks l) o i = in-nil i
+
+-- it waited before the call, or is the one that the call took in
+pub moved-waited : {m : Model} {c : Call} {mid : Model} {t : ℕ} {ts : List ℕ} (x : OwnPart m c mid t ts) (u : ℕ) → Waits mid u → Waits m u ⊎ Joins x u
+moved-waited {m} x u w = go x (w .job) (w .isin) (w .waits) (w .named)
+  where
+    stays : (p : Select) (j : Job) → In j (keep (λ (j : Job). not (picks p j)) (m .jobs)) → isWaiting j ≡ true → j .ticket ≡ u → Waits m u
+    stays p j i q n = record { job = j; isin = keep-in (λ (j : Job). not (picks p j)) (m .jobs) i .0; waits = q; named = n }
+
+    go : {c : Call} {mid : Model} {t : ℕ} {ts : List ℕ} (x : OwnPart m c mid t ts) (j : Job) → In j (mid .jobs) → isWaiting j ≡ true → j .ticket ≡ u
+        → Waits m u ⊎ Joins x u
+    go (submits o f room) j i q z = either-way (in-append (m .jobs) i)
+      where
+        either-way : In j (m .jobs) ⊎ In j (newJob (m .next) o ∷ []) → Waits m u ⊎ Joins (submits o f room) u
+        either-way (inl i) = inl (record { job = j; isin = i; waits = q; named = z })
+        either-way (inr i) = inr (_, here refl, ap ticketOf (sym (in-one i)) ∙ z)
+    go (departs h t a) j i q z = inl (stays (select.Departing h t) j i q z)
+    go (ticks l) j i q z = inl (stays (ending m) j i q z)
+
+-- and is not withdrawn
+pub moved-stays : {m : Model} {c : Call} {mid : Model} {t : ℕ} {ts : List ℕ} (x : OwnPart m c mid t ts) (u : ℕ) → Waits mid u → elem u (leaver x) ≡ false
+moved-stays (submits o f room) u w = refl
+moved-stays (departs Complete t a) u w = refl
+moved-stays {m} (departs Cancel t a) u w =
+    let k = keep-in (λ (j : Job). not (picks (select.Departing Cancel t) j)) (m .jobs) (w .isin) in
+    case (eqb u t)
+    (λ e. true-false (picks (select.Departing Cancel t) (w .job)) (rw (w .waits) (eq-eqb (w .job .ticket) t (w .named ∙ eqb-true u t e))) (not-true _ (k .1)))
+    (λ e. rw e)
+moved-stays (ticks l) u w = refl
+
+-- who is withdrawn waited
+pub moved-withdraws : {m : Model} {c : Call} {mid : Model} {t : ℕ} {ts : List ℕ} (x : OwnPart m c mid t ts) → Sound m → (u : ℕ) → elem u (leaver x) ≡ true → Waits m u
+moved-withdraws (submits o f room) s u e = true-false false e refl
+moved-withdraws (departs Complete t a) s u e = true-false false e refl
+moved-withdraws {m} (departs Cancel t a) s u e =
+    let p = picks (select.Departing Cancel t) in
+    let j = elem-job u (keep p (m .jobs)) (ap (elem u) (departs-alone Cancel t 1 (m .jobs) (s .asc) a) ∙ e) in
+    let k = keep-in p (m .jobs) (j .1) in
+    record { job = j .0; isin = k .0; waits = withdrawn-waits t (j .0) (k .1); named = j .2 }
+moved-withdraws (ticks l) s u e = true-false false e refl
+
+-- ## What is kept
+
+-- who is on course, and is not withdrawn by it, is on course still
+pub moved-keeps : {m : Model} {c : Call} {mid : Model} {t : ℕ} {ts : List ℕ} (x : OwnPart m c mid t ts) → Valid m → (u b : ℕ) → elem u (leaver x) ≡ false
+    → OnCourse m u b → OnCourse mid u b
+moved-keeps {m} (submits o f room) v u b n x = eased m _ u b (v .ready .sound) (v .rests) (join-eases m o) x
+moved-keeps {m} (departs Complete t a) v u b n x =
+    leave-keeps m _ _ (v .ready .sound) (v .rests) (early Complete t) u b (λ j i w e. rw (not-running j w)) x
+moved-keeps {m} (departs Cancel t a) v u b n x =
+    withdraw-keeps m t (v .ready .sound) u b (λ e. true-false true refl (rw (eq-eqb u t e) at n)) x
+moved-keeps {m} (ticks l) v u b n x = leave-keeps m _ _ (v .ready .sound) (v .rests) (in-time l) u b (λ j i w e. rw (not-running j w)) x
 
 -- ## Each call is accepted or refused
 
@@ -200,8 +279,18 @@ taken-came m c o t = by (t .moved) refl (t .accepted) (t .promise)
     by : {c : Call} {mid : Model} {u : ℕ} {ts : List ℕ} (x : OwnPart m c mid u ts) → o .reply .ticket ≡ u
         → o .reply .refusal ≡ refusal.None → o .reply .promise ≡ 0 → newsOf c (o .reply) .came ≡ joiner x
     by (submits o f room) q a p = rw (a, q, p)
-    by (completes t y) q a p = rw a
+    by (departs h t y) q a p = rw a
     by (ticks l) q a p = rw a
+
+pub taken-withdrew : (m : Model) (c : Call) (o : Result) (t : CallAccepted m c o) → newsOf c (o .reply) .withdrew ≡ leaver (t .moved)
+taken-withdrew m c o t = by (t .moved) (t .accepted)
+  where
+    by : {c : Call} {mid : Model} {u : ℕ} {ts : List ℕ} (x : OwnPart m c mid u ts) → o .reply .refusal ≡ refusal.None
+        → newsOf c (o .reply) .withdrew ≡ leaver x
+    by (submits o f room) a = rw a
+    by (departs Complete t y) a = rw a
+    by (departs Cancel t y) a = rw a
+    by (ticks l) a = rw a
 
 pub quiet-news : (m : Model) (c : Call) (o : Result) → Unchanged m c o → newsOf c (o .reply) ≡ nothing
 quiet-news m c o q = ap (λ (x : Result). newsOf c (x .reply)) (q .same) ∙ q .silent
@@ -223,15 +312,14 @@ module _ (m : Model) where
       let p = passed (ltb (horizon (m .settings)) (latestEnd m (o .estimate))) refusal.PastHorizon [] refl (f .1) in
       submits o (f .0) (ltb-false (horizon (m .settings)) (latestEnd m (o .estimate)) (p .0))
 
-  pub complete-moves : (t : ℕ) → accepts (completeRefusal m t) ≡ true
-      → OwnPart m (complete t) (without m (m .clock) (select.RunningTicket t)) 0 (ticketsOf (keep (picks (select.RunningTicket t)) (m .jobs)))
-  unfolding completeRefusal
-  complete-moves t a =
-      let p = passed (not (any (picks (select.RunningTicket t)) (m .jobs))) refusal.NotRunning [] refl a in
-      completes t (not-false (any (picks (select.RunningTicket t)) (m .jobs)) (p .0))
+  pub depart-moves : (h : Departure) (t : ℕ) → accepts (departRefusal m h t) ≡ true
+      → OwnPart m (depart h t) (without m (m .clock) (select.Departing h t)) 0 (endedOf (select.Departing h t) (m .jobs))
+  unfolding departRefusal
+  depart-moves h t a =
+      let p = passed (not (any (picks (select.Departing h t)) (m .jobs))) (notThere h) [] (not-there h) a in
+      departs h t (not-false (any (picks (select.Departing h t)) (m .jobs)) (p .0))
 
-  pub tick-moves : accepts (tickRefusal m) ≡ true
-      → OwnPart m tick (without m (suc (m .clock)) (ending m)) 0 (ticketsOf (keep (picks (ending m)) (m .jobs)))
+  pub tick-moves : accepts (tickRefusal m) ≡ true → OwnPart m tick (without m (suc (m .clock)) (ending m)) 0 (endedOf (ending m) (m .jobs))
   unfolding tickRefusal
   tick-moves a =
       let p = passed (ltb (horizon (m .settings)) (suc (m .clock))) refusal.PastHorizon [] refl a in
@@ -242,9 +330,9 @@ unfolding call advanced
 called m (submit o) v =
     judge m (submit o) (submitRefusal m o) (finished m (joined m (newJob (m .next) o)) (m .next) [])
     (λ a. let x = submit-moves m o a in finished-taken m (submit o) (joined m (newJob (m .next) o)) (m .next) [] x (moved-ready x v))
-called m (complete t) v =
-    judge m (complete t) (completeRefusal m t) (advanced m (m .clock) (select.RunningTicket t))
-    (λ a. let x = complete-moves m t a in finished-taken m (complete t) _ 0 _ x (moved-ready x v))
+called m (depart h t) v =
+    judge m (depart h t) (departRefusal m h t) (advanced m (m .clock) (select.Departing h t))
+    (λ a. let x = depart-moves m h t a in finished-taken m (depart h t) _ 0 _ x (moved-ready x v))
 called m tick v =
     judge m tick (tickRefusal m) (advanced m (suc (m .clock)) (ending m))
     (λ a. let x = tick-moves m a in finished-taken m tick _ 0 _ x (moved-ready x v))

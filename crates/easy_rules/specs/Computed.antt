@@ -2,7 +2,7 @@
 -- Assumes nothing.
 use mathlib.Core.Path.{_≡_, refl}
 use mathlib.Core.List.{List, [], _∷_, map}
-use mathlib.Core.Option.{some}
+use mathlib.Core.Option.{none, some}
 use Prim.Native.Nat.{ℕ}
 use Rattle.scheduler.specs.declared.Kind.the-variants.{Easy}
 use Rattle.scheduler.specs.declared.Job.{Job}
@@ -13,7 +13,7 @@ use Rattle.scheduler.specs.Answers.{verdict}
 use Rattle.scheduler.specs.Settings as times
 use Rattle.scheduler.specs.Refusals as refusals
 use Rattle.scheduler.specs.Opening.{openingRefusal, opening}
-use Rattle.history.specs.Calls.{Call, submit, order, complete, after}
+use Rattle.history.specs.Calls.{Call, submit, order, complete, cancel, after}
 use Rattle.easy_rules.specs.Easy.{rank, shadow, extra, qualifies, pick, settle, forecast, finished, submitRefusal, advanced, call}
 
 abbrev fresh : ℕ → ℕ → Model
@@ -38,6 +38,10 @@ together = after call (fresh 10 0) (submit (order 5 20) ∷ submit (order 3 20) 
 abbrev one-may-pass : Model
 one-may-pass = after call (fresh 10 0) (submit (order 6 20) ∷ submit (order 4 100) ∷ submit (order 8 5) ∷ submit (order 2 200) ∷ submit (order 2 200) ∷ [])
 
+-- behind the head one of 3 nodes for 21 minutes and one of 5
+abbrev queued : Model
+queued = after call waited-for (submit (order 3 21) ∷ submit (order 5 20) ∷ [])
+
 -- the answer to the first job of a machine of 4 nodes, submitted at that minute
 abbrev alone : ℕ → ℕ → Refusal
 alone minute e = call (fresh 4 minute) (submit (order 1 e)) .reply .refusal
@@ -58,6 +62,13 @@ pub examples : (call (call (fresh 10 0) (submit (order 6 20)) .model) (submit (o
     -- "Loose, rack of 4, minute 989,900, empty: `in 1 20` is taken, `in 1 21` refused by 6"
     × (alone 989900 20 ≡ refusal.None)
     × (alone 989900 21 ≡ refusal.PastHorizon)
+    -- document 02, No. 1: the head is withdrawn, the next starts, and the one behind it hears a forecast; nobody is over
+    × (call queued (cancel 2) .reply .started ≡ 3 ∷ [])
+    × (call queued (cancel 2) .reply .head ≡ some (record { ticket = 4; minute = 20 }))
+    × (call queued (cancel 2) .reply .ended ≡ [])
+    -- a later one is withdrawn, and the head stays; one that runs cannot be
+    × (call queued (cancel 4) .reply .head ≡ none)
+    × (call queued (cancel 1) .reply .refusal ≡ refusal.NotWaiting)
 unfolding
     opening
     openingRefusal
@@ -65,7 +76,7 @@ unfolding
     times.holdTime
     times.unit
     times.until
-    refusals.completeRefusal
+    refusals.departRefusal
     shadow
     extra
     qualifies
@@ -76,4 +87,4 @@ unfolding
     submitRefusal
     advanced
     call
-examples = (refl, refl, refl, refl, refl, refl, refl, refl, refl, refl, refl, refl)
+examples = (refl, refl, refl, refl, refl, refl, refl, refl, refl, refl, refl, refl, refl, refl, refl, refl, refl)

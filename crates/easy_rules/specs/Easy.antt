@@ -16,14 +16,14 @@ use Rattle.scheduler.specs.declared.Refusal.{Refusal}
 use Rattle.scheduler.specs.declared.Refusal.the-variants as refusal
 use Rattle.scheduler.specs.declared.Select.{Select}
 use Rattle.scheduler.specs.declared.Select.the-variants as select
-use Rattle.scheduler.specs.Jobs.{isWaiting, isHolding, fresh, jobAt, picks}
+use Rattle.scheduler.specs.Jobs.{isWaiting, isHolding, fresh, jobAt}
 use Rattle.scheduler.specs.declared.Settings.{Settings}
 use Rattle.scheduler.specs.Settings.{horizon, holdTime, unit, until}
-use Rattle.scheduler.specs.Table.{nodesHeld, ticketsOf}
+use Rattle.scheduler.specs.Table.{nodesHeld, endedOf}
 use Rattle.scheduler.specs.Model.{Model, ending, joined, without}
 use Rattle.scheduler.specs.Answers.{Result, Forecast, verdict, refuse}
-use Rattle.scheduler.specs.Refusals.{judged, submitTests, completeRefusal, tickRefusal}
-use Rattle.history.specs.Calls.{Rules, submit, complete, tick, unchanged}
+use Rattle.scheduler.specs.Refusals.{judged, submitTests, departRefusal, tickRefusal}
+use Rattle.history.specs.Calls.{Rules, submit, depart, tick, unchanged}
 
 -- ## The queue and the nodes
 
@@ -148,13 +148,14 @@ submitRefusal m o =
     ((ltb (horizon (m .settings)) (m .clock + rank m * unit (m .settings) + holdTime (m .settings) (o .estimate)), refusal.PastHorizon)
     ∷ []))
 
--- an early end, or a tick: those that a test picks leave, and the others settle
+-- an early end, a withdrawal or a tick: those that a test picks leave, and the others settle
 unfoldable pub advanced : Model → ℕ → Select → Result
-advanced m clock s = finished m (without m clock s) 0 (ticketsOf (keep (picks s) (m .jobs)))
+advanced m clock s = finished m (without m clock s) 0 (endedOf s (m .jobs))
 
--- "After an intake (at the end of the queue), an early end or a minute step as above, the desk settles".
+-- "After an intake (at the end of the queue), an early end or a minute step as above, the desk settles"; document 02, No. 1: of a withdrawal,
+-- "the Loose Desk settles."
 unfoldable pub call : Rules
 call m (submit o) = judged m (submitRefusal m o) (finished m (joined m (newJob (m .next) o)) (m .next) [])
-call m (complete t) = judged m (completeRefusal m t) (advanced m (m .clock) (select.RunningTicket t))
+call m (depart h t) = judged m (departRefusal m h t) (advanced m (m .clock) (select.Departing h t))
 call m tick = judged m (tickRefusal m) (advanced m (suc (m .clock)) (ending m))
 call m (unchanged r) = refuse m r

@@ -6,3 +6,4 @@ pub mod TicketCounts
 pub mod Replies
 pub mod Chain
 pub mod Tickets
+pub mod Withdrawn

@@ -21,7 +21,7 @@ use Rattle.guarantees.specs.Rules.{rulesOf, call}
 
 -- "It starts from the desk that an opening hands back": nothing has been taken in
 abbrev pub blank : Model → Book
-blank m = record { clock = m .clock; entries = [] }
+blank m = record { clock = m .clock; entries = []; strays = [] }
 
 -- what calls and their answers say: from a model and a book on, and from an opening on
 abbrev pub bookFrom : Model → Book → List Event → Book
@@ -49,10 +49,10 @@ Demand3WithWaits =
 
 module _ {k : Kind} {Valid : Model → Type 0} {OnCourse : Model → ℕ → ℕ → Type 0} (L : Lawful k (rulesOf k) Valid OnCourse) where
   -- a valid model of the kind goes by the kind's rules
-  by-rules : (m : Model) (c : Call) → Valid m → call m c ≡ rulesOf k m c
+  pub by-rules : (m : Model) (c : Call) → Valid m → call m c ≡ rulesOf k m c
   by-rules m c v = ap (λ (j : Kind). rulesOf j m c) (L .kind-is m v)
 
-  same-events : (m : Model) (cs : List Call) → Valid m → events call m cs ≡ events (rulesOf k) m cs
+  pub same-events : (m : Model) (cs : List Call) → Valid m → events call m cs ≡ events (rulesOf k) m cs
   same-events m [] v = refl
   same-events m (c ∷ cs) v = rw (by-rules m c v)
       (ap (λ (es : List Event). record { call = c; reply = rulesOf k m c .reply } ∷ es) (same-events (rulesOf k m c .model) cs (L .valid m c v)))
@@ -72,4 +72,5 @@ module _ {k : Kind} {Valid : Model → Type 0} {OnCourse : Model → ℕ → ℕ
     forecasts = λ x f i q. in-nil i;
     heard-one = λ q x i h. in-nil i;
     heads = λ x i w h. in-nil i;
+    none-stray = refl;
   })

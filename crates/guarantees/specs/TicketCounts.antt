@@ -13,17 +13,18 @@ use Rattle.lists.specs.Lists.{keep, length-keep-le}
 use Rattle.scheduler.specs.declared.Kind.{Kind}
 use Rattle.scheduler.specs.declared.Kind.the-variants.{Conservative, Easy}
 use Rattle.scheduler.specs.declared.Job.{Job}
+use Rattle.scheduler.specs.declared.Departure.the-variants.{Complete, Cancel}
 use Rattle.scheduler.specs.declared.Select.{Select}
 use Rattle.scheduler.specs.declared.Select.the-variants as select
 use Rattle.scheduler.specs.Jobs.{picks, isWaiting, isRunning}
-use Rattle.scheduler.specs.Table.{ticketOf, ticketsOf, staying}
+use Rattle.scheduler.specs.Table.{ticketOf, ticketsOf, endedOf, staying}
 use Rattle.scheduler.specs.Model.{Model, ending, joined, without}
 use Rattle.scheduler.specs.declared.Refusal.{Refusal}
 use Rattle.scheduler.specs.Answers.{Result, refuse}
-use Rattle.scheduler.specs.Refusals.{completeRefusal, tickRefusal}
+use Rattle.scheduler.specs.Refusals.{departRefusal, tickRefusal}
 use Rattle.jobs.specs.Soundness.{submit-fit}
 use Rattle.jobs.specs.Judgement.{judged-by}
-use Rattle.history.specs.Calls.{Call, submit, complete, tick, unchanged}
+use Rattle.history.specs.Calls.{Call, submit, depart, tick, unchanged}
 use Rattle.conservative_rules.specs.Conservative as conservative
 use Rattle.easy_rules.specs.Easy as easy
 use Rattle.guarantees.specs.Rules.{rulesOf, call}
@@ -32,8 +33,18 @@ pub record FitsAnswer (r : Result) : Type 0 where
   pub ended : length (r .reply .ended) ≤ 64
   pub started : length (r .reply .started) ≤ 64
 
-left-few : (s : Select) (js : List Job) → length js ≤ 64 → length (ticketsOf (keep (picks s) js)) ≤ 64
-left-few s js h = omega (arith, length-map (keep (picks s) js) ticketOf, length-keep-le (picks s) js)
+left-few : (s : Select) (js : List Job) → length js ≤ 64 → length (endedOf s js) ≤ 64
+left-few s js h = by s
+  where
+    picked : (s : Select) → length (ticketsOf (keep (picks s) js)) ≤ 64
+    picked s = omega (arith, length-map (keep (picks s) js) ticketOf, length-keep-le (picks s) js)
+
+    by : (s : Select) → length (endedOf s js) ≤ 64
+    by select.Live = picked select.Live
+    by select.Waiting = picked select.Waiting
+    by (select.Departing Complete t) = picked (select.Departing Complete t)
+    by (select.Departing Cancel t) = omega arith
+    by (select.EndingAt S t) = picked (select.EndingAt S t)
 
 begun-few : (js ks : List Job) → length (conservative.begun js ks) ≤ length js
 begun-few [] ks = omega arith
@@ -74,7 +85,7 @@ unfolding
     conservative.call
     conservative.submitRefusal
     conservative.submitted
-    conservative.completed
+    conservative.departed
     conservative.ticked
     easy.call
     easy.submitRefusal
@@ -84,7 +95,7 @@ fits-by Conservative m (submit o) h =
     judged-by FitsAnswer m (conservative.submitRefusal m o s) (conservative.submitted m o s)
     (λ a. record { ended = omega arith; started = case (eqb s (m .clock)) (λ q. rw q (omega arith)) (λ q. rw q (omega arith)) })
     (λ a. refused-fits m _)
-fits-by Conservative m (complete t) h = judged-by FitsAnswer m (completeRefusal m t) (conservative.completed m t) (λ a. advanced-fits m _ _ _ h)
+fits-by Conservative m (depart i t) h = judged-by FitsAnswer m (departRefusal m i t) (conservative.departed m i t) (λ a. advanced-fits m _ _ _ h)
     (λ a. refused-fits m _)
 fits-by Conservative m tick h = judged-by FitsAnswer m (tickRefusal m) (conservative.ticked m) (λ a. advanced-fits m _ _ _ h) (λ a. refused-fits m _)
 fits-by Conservative m (unchanged r) h = refused-fits m _
@@ -93,8 +104,8 @@ fits-by Easy m (submit o) h =
     judged-by FitsAnswer m (easy.submitRefusal m o) (easy.finished m (joined m j) (m .next) [])
     (λ a. finished-fits m (joined m j) (m .next) [] (omega arith) (omega (arith, submit-fit m o _ a .0 .room, length-append (m .jobs) (j ∷ []))))
     (λ a. refused-fits m _)
-fits-by Easy m (complete t) h = judged-by FitsAnswer m (completeRefusal m t) (easy.advanced m (m .clock) (select.RunningTicket t))
-    (λ a. leaving-fits m _ (select.RunningTicket t) h) (λ a. refused-fits m _)
+fits-by Easy m (depart i t) h = judged-by FitsAnswer m (departRefusal m i t) (easy.advanced m (m .clock) (select.Departing i t))
+    (λ a. leaving-fits m _ (select.Departing i t) h) (λ a. refused-fits m _)
 fits-by Easy m tick h = judged-by FitsAnswer m (tickRefusal m) (easy.advanced m (suc (m .clock)) (ending m))
     (λ a. leaving-fits m _ (ending m) h) (λ a. refused-fits m _)
 fits-by Easy m (unchanged r) h = refused-fits m _

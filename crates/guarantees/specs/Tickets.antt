@@ -10,17 +10,18 @@ use Rattle.lists.specs.Lists.{keep}
 use Rattle.scheduler.specs.declared.Submission.{Submission}
 use Rattle.scheduler.specs.declared.Kind.{Kind}
 use Rattle.scheduler.specs.declared.Kind.the-variants.{Conservative, Easy}
+use Rattle.scheduler.specs.declared.Departure.the-variants.{Complete, Cancel}
 use Rattle.scheduler.specs.declared.Select.{Select}
 use Rattle.scheduler.specs.declared.Select.the-variants as select
 use Rattle.scheduler.specs.Jobs.{picks}
 use Rattle.scheduler.specs.Table.{ticketsOf}
 use Rattle.scheduler.specs.Model.{Model, ending}
 use Rattle.scheduler.specs.Answers.{Result, accepts}
-use Rattle.scheduler.specs.Refusals.{completeRefusal, tickRefusal}
+use Rattle.scheduler.specs.Refusals.{departRefusal, tickRefusal}
 use Rattle.jobs.specs.Order.{asc-keep}
 use Rattle.jobs.specs.Soundness.{Sound}
 use Rattle.jobs.specs.Judgement.{judged-by}
-use Rattle.history.specs.Calls.{Call, submit, complete, tick, unchanged, events}
+use Rattle.history.specs.Calls.{Call, submit, depart, tick, unchanged, events}
 use Rattle.history.specs.News.{Newcomer, newsOf}
 use Rattle.history.specs.Tickets.{givenTicket, nextAfter, ticketsGiven, Upward}
 use Rattle.conservative_laws.specs.Sentences as conservative
@@ -53,7 +54,7 @@ module _ (m : Model) (ts : List ℕ) where
   one-more : (c : Call) → Given c
   one-more (submit o) =
       case (accepts (call m (submit o) .reply .refusal)) (λ a. rw a (λ u. (ticket-by (m .settings .kind) m o a, u))) (λ a. rw a (λ u. u))
-  one-more (complete t) = none-more (complete t) (no-newcomers (accepts (call m (complete t) .reply .refusal)))
+  one-more (depart h t) = none-more (depart h t) (no-newcomers (accepts (call m (depart h t) .reply .refusal)))
   one-more tick = none-more tick (no-newcomers (accepts (call m tick .reply .refusal)))
   one-more (unchanged w) = none-more (unchanged w) (no-newcomers (accepts (call m (unchanged w) .reply .refusal)))
 
@@ -79,8 +80,10 @@ unfolding
     rules.finished
 ended-by Conservative m c v = conservative.answers-rise m c v .0
 ended-by Easy m (submit o) v = judged-by Ascends m (rules.submitRefusal m o) _ (λ a. tt) (λ a. tt)
-ended-by Easy m (complete t) v = judged-by Ascends m (completeRefusal m t) (rules.advanced m (m .clock) (select.RunningTicket t))
-    (λ a. leaves m (select.RunningTicket t) (v .ready .sound)) (λ a. tt)
+ended-by Easy m (depart Complete t) v = judged-by Ascends m (departRefusal m Complete t) (rules.advanced m (m .clock) (select.Departing Complete t))
+    (λ a. leaves m (select.Departing Complete t) (v .ready .sound)) (λ a. tt)
+ended-by Easy m (depart Cancel t) v = judged-by Ascends m (departRefusal m Cancel t) (rules.advanced m (m .clock) (select.Departing Cancel t))
+    (λ a. tt) (λ a. tt)
 ended-by Easy m tick v = judged-by Ascends m (tickRefusal m) (rules.advanced m (suc (m .clock)) (ending m))
     (λ a. leaves m (ending m) (v .ready .sound)) (λ a. tt)
 ended-by Easy m (unchanged w) v = tt

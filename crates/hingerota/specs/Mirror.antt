@@ -128,7 +128,8 @@ refusalOf n =
     (cond (eqb n 7) refusal.NotRunning
     (cond (eqb n 8) refusal.ProfileTooLong
     (cond (eqb n 9) refusal.Malformed
-    (cond (eqb n 10) refusal.TooShort refusal.None)))))))))
+    (cond (eqb n 10) refusal.TooShort
+    (cond (eqb n 11) refusal.NotWaiting refusal.None))))))))))
 
 abbrev pub readTickets : Tickets → scheduler-tickets.Tickets
 readTickets t = record { count = t .count; list = t .list }
@@ -156,6 +157,7 @@ refusal-back refusal.NotRunning = refl
 refusal-back refusal.ProfileTooLong = refl
 refusal-back refusal.Malformed = refl
 refusal-back refusal.TooShort = refl
+refusal-back refusal.NotWaiting = refl
 
 pub read-answer : (a : scheduler-answer.Answer) → readAnswer (mirrorAnswer a) ≡ a
 read-answer a = λ i. record {

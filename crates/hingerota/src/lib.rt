@@ -303,6 +303,13 @@ fn complete(d: Desk, ticket: u32) -> Outcome
     mirror_outcome(calls::complete(read(d), ticket))
 }
 
+fn cancel(d: Desk, ticket: u32) -> Outcome
+    requires { ⌜ Handed d ⌝ }
+    ensures { λ r. ⌜ r ≡ gives d (calls.cancel ticket) ⌝ }
+{
+    mirror_outcome(calls::cancel(read(d), ticket))
+}
+
 fn tick(d: Desk) -> Outcome
     requires { ⌜ Handed d ⌝ }
     ensures { λ r. ⌜ r ≡ gives d calls.tick ⌝ }
@@ -390,6 +397,17 @@ pub extern "C" fn hingerota_complete(d: &mut Desk, ticket: u32) -> Answer
     ensures { λ r. ⌜ HostLeaves (now (d .entry)) (calls.complete ticket) r (now (d .exit)) ⌝ }
 {
     let s = complete(*d, ticket);
+    *d = s.desk;
+    s.answer
+}
+
+// A waiting job is withdrawn.
+#[no_mangle]
+pub extern "C" fn hingerota_cancel(d: &mut Desk, ticket: u32) -> Answer
+    requires { ⌜ Handed (now d) ⌝ }
+    ensures { λ r. ⌜ HostLeaves (now (d .entry)) (calls.cancel ticket) r (now (d .exit)) ⌝ }
+{
+    let s = cancel(*d, ticket);
     *d = s.desk;
     s.answer
 }

@@ -1,6 +1,6 @@
 -- What a list of calls and their answers says, and nothing else: document 01, "The words go by the calls and their answers".
 -- Assumes nothing.
-use mathlib.Core.Bool.{Bool, true, false, not, _&&_, cond}
+use mathlib.Core.Bool.{Bool, true, false, not, _&&_, _||_, cond}
 use mathlib.Core.List.{List, [], _∷_, _++_, map, foldr}
 use mathlib.Core.Option.{Option, none, some}
 use Prim.Native.Nat.{ℕ, suc, _+_, _*_, min}
@@ -12,11 +12,13 @@ use Rattle.history.specs.Calls.{Event}
 use Rattle.history.specs.News.{Newcomer, News, news, clockAfter}
 
 -- "It has started once a call, its intake or a later one, gives its ticket among those started; the start is the clock after that
--- call. It runs from then until a call gives its ticket among those ended. It waits from intake until it has started."
+-- call. It runs from then until a call gives its ticket among those ended. It waits from intake until it has started (or a later request's call takes it out)."
 pub data Fate : Type 0 where
   waiting : Fate
   running : (start : ℕ) → Fate
   ended : (start : ℕ) → Fate
+  -- document 02, No. 1: it was withdrawn in this minute
+  withdrawn : (minute : ℕ) → Fate
 
 -- A job taken in.
 pub record Entry : Type 0 where
@@ -35,22 +37,33 @@ pub record Entry : Type 0 where
 pub record Book : Type 0 where
   pub clock : ℕ
   pub entries : List Entry
+  -- tickets that calls started or withdrew though no such job waited, or did both
+  pub strays : List ℕ
 
 abbrev pub waits : Fate → Bool
 waits waiting = true
 waits (running s) = false
 waits (ended s) = false
+waits (withdrawn w) = false
 
 -- its nodes are taken: it runs
 abbrev pub holds : Fate → Bool
 holds waiting = false
 holds (running s) = true
 holds (ended s) = false
+holds (withdrawn w) = false
 
 abbrev pub start : Fate → Option ℕ
 start waiting = none
 start (running s) = some s
 start (ended s) = some s
+start (withdrawn w) = none
+
+abbrev pub withdrawal : Fate → Option ℕ
+withdrawal waiting = none
+withdrawal (running s) = none
+withdrawal (ended s) = none
+withdrawal (withdrawn w) = some w
 
 abbrev pub isWaiting : Entry → Bool
 isWaiting x = waits (x .fate)
@@ -73,9 +86,10 @@ entry u b o = record {
 
 -- the fate of the job with ticket t, after an event that left the clock at c
 abbrev pub fateAfter : ℕ → News → ℕ → Fate → Fate
-fateAfter c e t waiting = cond (elem t (e .started)) (running c) waiting
+fateAfter c e t waiting = cond (elem t (e .withdrew)) (withdrawn c) (cond (elem t (e .started)) (running c) waiting)
 fateAfter c e t (running s) = cond (elem t (e .ended)) (ended s) (running s)
 fateAfter c e t (ended s) = ended s
+fateAfter c e t (withdrawn w) = withdrawn w
 
 abbrev pub withFate : Entry → Fate → Entry
 withFate x f = record {
@@ -99,8 +113,17 @@ lowest (t ∷ ts) = some (foldr min t ts)
 abbrev pub entryTicket : Entry → ℕ
 entryTicket x = x .ticket
 
+abbrev pub queued : List Entry → List ℕ
+queued xs = map entryTicket (keep isWaiting xs)
+
 abbrev pub headOf : List Entry → Option ℕ
-headOf xs = lowest (map entryTicket (keep isWaiting xs))
+headOf xs = lowest (queued xs)
+
+-- those that an event starts or withdraws, though none of these jobs waits, or that it both withdraws and starts
+abbrev pub stray : List Entry → News → List ℕ
+stray xs e =
+    keep (λ (t : ℕ). not (elem t (queued xs))) (e .withdrew)
+    ++ keep (λ (t : ℕ). elem t (e .withdrew) || not (elem t (queued xs))) (e .started)
 
 abbrev pub is : Option ℕ → ℕ → Bool
 is none t = false
@@ -132,7 +155,8 @@ told c e xs = map (heard (headOf (map (marked c e) xs)) (e .head)) (map (marked 
 unfoldable pub enter : ℕ → Book → News → Book
 enter u b e =
     let c = clockAfter e (b .clock) in
-    record { clock = c; entries = told c e (b .entries ++ map (entry u b) (e .came)) }
+    let xs = b .entries ++ map (entry u b) (e .came) in
+    record { clock = c; entries = told c e xs; strays = b .strays ++ stray xs e }
 
 abbrev pub enterAll : ℕ → Book → List Event → Book
 enterAll u b [] = b

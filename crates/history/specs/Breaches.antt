@@ -1,21 +1,21 @@
 -- The guarantees can fail: for each claim histories that break it, their words computed, and no further than they must: a job that waits
 -- in the minute it was told, or starts in the next; one node too many.
 -- Assumes nothing.
-use mathlib.Core.Path.{_≡_, refl, ap, subst, _∙_}
+use mathlib.Core.Path.{_≡_, refl, sym, ap, subst, _∙_}
 use mathlib.Core.Bool.{true}
 use mathlib.Core.List.{List, [], _∷_}
 use mathlib.Core.Option.{Option, none, some}
-use Prim.Native.Nat.{ℕ, zero, suc, _+_}
+use Prim.Native.Nat.{ℕ, zero, suc, _+_, _<_}
 use native.Mathlib.Omega.{arith}
 use lib.ListN.{replicate}
-use Rattle.lists.specs.Lists.{here}
+use Rattle.lists.specs.Lists.{In, here, there, in-nil}
 use Rattle.scheduler.specs.declared.Kind.the-variants.{Conservative, Easy}
 use Rattle.scheduler.specs.declared.Refusal.the-variants as refusal
 use Rattle.scheduler.specs.Answers.{Forecast}
-use Rattle.history.specs.Calls.{submit, order, tick, Event}
+use Rattle.history.specs.Calls.{submit, order, cancel, tick, Event}
 use Rattle.history.specs.News.{news}
 use Rattle.history.specs.Book.{Book, Entry, waiting, start, enter, enterAll}
-use Rattle.history.specs.Guarantee.{StartedBy, Guarantee}
+use Rattle.history.specs.Guarantee.{StartedBy, Kept, Guarantee}
 
 -- a submission accepted under a ticket, with a promise, the tickets that start and a forecast
 abbrev taken : ℕ → ℕ → ℕ → List ℕ → Option Forecast → Event
@@ -31,12 +31,16 @@ turned es ss = record { call = tick; reply = record { refusal = refusal.None; ti
 abbrev ticked : List ℕ → Event
 ticked ss = turned [] ss
 
+-- a withdrawal, with the tickets that start
+abbrev dropped : ℕ → List ℕ → Event
+dropped t ss = record { call = cancel t; reply = record { refusal = refusal.None; ticket = 0; promise = 0; ended = []; started = ss; head = none } }
+
 abbrev idle : Event
 idle = ticked []
 
 -- a book from minute 0, with the bound's unit
 abbrev book : List Event → Book
-book es = enterAll 10080 (record { clock = 0; entries = [] }) es
+book es = enterAll 10080 (record { clock = 0; entries = []; strays = [] }) es
 
 never : (x : Entry) (b : ℕ) → x .fate ≡ waiting → StartedBy x b → ⊥
 never x b e s = let q = s .started in absurd (let z : _≡_ {A = ℕ} 0 1 = cc in omega arith)
@@ -46,23 +50,23 @@ too-late x b e s = let q = s .started in let m : s .minute ≡ suc b = cc in abs
 
 pub promise-broken : Guarantee Conservative 10 (book (taken 1 4 2 [] none ∷ idle ∷ idle ∷ [])) → ⊥
 unfolding enter
-promise-broken g = never _ 2 refl (g .promises refl _ (here refl) (omega arith))
+promise-broken g = never _ 2 refl (g .promises refl _ (here refl) .starts refl (omega arith))
 
 pub promise-late : Guarantee Conservative 10 (book (taken 1 4 1 [] none ∷ idle ∷ ticked (1 ∷ []) ∷ [])) → ⊥
 unfolding enter
-promise-late g = too-late _ 1 refl (g .promises refl _ (here refl) (omega arith))
+promise-late g = too-late _ 1 refl (g .promises refl _ (here refl) .starts refl (omega arith))
 
 -- the same once its run has ended: its start is not forgotten
 pub promise-late-ended : Guarantee Conservative 10 (book (taken 1 4 1 [] none ∷ idle ∷ ticked (1 ∷ []) ∷ turned (1 ∷ []) [] ∷ [])) → ⊥
 unfolding enter
-promise-late-ended g = too-late _ 1 refl (g .promises refl _ (here refl) (omega arith))
+promise-late-ended g = too-late _ 1 refl (g .promises refl _ (here refl) .starts refl (omega arith))
 
 -- one that waits on, minute after minute
 late : Entry
 late = record { ticket = 1; nodes = 4; promise = 0; bound = 10080; fate = waiting; headed = true; forecast = none }
 
 abbrev waiting-at : ℕ → Book
-waiting-at c = record { clock = c; entries = late ∷ [] }
+waiting-at c = record { clock = c; entries = late ∷ []; strays = [] }
 
 waits-on : (k c : ℕ) → enterAll 10080 (waiting-at c) (replicate k idle) ≡ waiting-at (c + k)
 unfolding enter late
@@ -81,25 +85,25 @@ pub bound-broken : Guarantee Easy 10 at-bound → ⊥
 unfolding late
 bound-broken g =
     let h : Guarantee Easy 10 (waiting-at 10080) = subst (Guarantee Easy 10) at-bound-is g in
-    never late 10080 refl (h .bounds refl late (here refl) (omega arith))
+    never late 10080 refl (h .bounds refl late (here refl) .starts refl (omega arith))
 
 pub bound-late : Guarantee Easy 10 (enter 10080 at-bound (news (ticked (1 ∷ [])))) → ⊥
 unfolding enter late
 bound-late g =
     let h : Guarantee Easy 10 (enter 10080 (waiting-at 10080) (news (ticked (1 ∷ [])))) =
     subst (λ (b : Book). Guarantee Easy 10 (enter 10080 b (news (ticked (1 ∷ []))))) at-bound-is g in
-    too-late _ 10080 refl (h .bounds refl _ (here refl) (omega arith))
+    too-late _ 10080 refl (h .bounds refl _ (here refl) .starts refl (omega arith))
 
 abbrev soon : Option Forecast
 soon = some (record { ticket = 1; minute = 1 })
 
 pub forecast-broken : Guarantee Easy 10 (book (taken 1 4 0 [] soon ∷ idle ∷ [])) → ⊥
 unfolding enter
-forecast-broken g = never _ 1 refl (g .forecasts refl _ 1 (here refl) refl (omega arith))
+forecast-broken g = never _ 1 refl (g .forecasts refl _ 1 (here refl) refl .starts refl (omega arith))
 
 pub forecast-late : Guarantee Easy 10 (book (taken 1 4 0 [] soon ∷ idle ∷ ticked (1 ∷ []) ∷ [])) → ⊥
 unfolding enter
-forecast-late g = too-late _ 1 refl (g .forecasts refl _ 1 (here refl) refl (omega arith))
+forecast-late g = too-late _ 1 refl (g .forecasts refl _ 1 (here refl) refl .starts refl (omega arith))
 
 pub head-unheard : Guarantee Easy 10 (book (taken 1 4 0 [] none ∷ [])) → ⊥
 unfolding enter
@@ -108,3 +112,49 @@ head-unheard g = let f = g .heads refl _ (here refl) refl refl in absurd (let z 
 pub nodes-exceeded : Guarantee Easy 10 (book (taken 1 6 0 (1 ∷ []) none ∷ taken 2 5 0 (2 ∷ []) none ∷ [])) → ⊥
 unfolding enter
 nodes-exceeded g = let w = g .within in absurd (omega arith)
+
+-- ## Withdrawals
+
+-- withdrawn in the minute that it was told, and not before
+pub promise-withdrawn : Guarantee Conservative 10 (book (taken 1 4 2 [] none ∷ idle ∷ idle ∷ dropped 1 [] ∷ [])) → ⊥
+unfolding enter
+promise-withdrawn g = let l : 2 < 2 = g .promises refl _ (here refl) .before 2 refl in omega arith
+
+pub bound-withdrawn : Guarantee Easy 10 (enter 10080 at-bound (news (dropped 1 []))) → ⊥
+unfolding enter late
+bound-withdrawn g =
+    let h : Guarantee Easy 10 (enter 10080 (waiting-at 10080) (news (dropped 1 []))) =
+    subst (λ (b : Book). Guarantee Easy 10 (enter 10080 b (news (dropped 1 [])))) at-bound-is g in
+    let l : 10080 < 10080 = h .bounds refl _ (here refl) .before 10080 refl in
+    omega arith
+
+pub forecast-withdrawn : Guarantee Easy 10 (book (taken 1 4 0 [] soon ∷ idle ∷ dropped 1 [] ∷ [])) → ⊥
+unfolding enter
+forecast-withdrawn g = let l : 1 < 1 = g .forecasts refl _ 1 (here refl) refl .before 1 refl in omega arith
+
+some-none : (w : ℕ) → some w ≡ none → ⊥
+some-none w e = let z : _≡_ {A = ℕ} 0 1 = cc in omega arith
+
+-- a minute before, nothing was due and broken
+pub withdrawn-in-time : (x : Entry) → In x (book (taken 1 4 2 [] none ∷ idle ∷ dropped 1 [] ∷ idle ∷ []) .entries) → Kept 2 x 2
+unfolding enter
+withdrawn-in-time x (here q) =
+    subst (λ (y : Entry). Kept 2 y 2) (sym q)
+    (record { starts = λ n l. absurd (some-none 1 n); before = λ w e. let z : 1 ≡ w = cc in omega arith })
+withdrawn-in-time x (there i) = in-nil i
+
+strayed : (ts : List ℕ) (t : ℕ) → _≡_ {A = List ℕ} (t ∷ ts) [] → ⊥
+strayed ts t q = let z : _≡_ {A = ℕ} 0 1 = cc in omega arith
+
+-- one that was withdrawn starts after all; one is withdrawn that has started; both at once
+pub withdrawn-starts : Guarantee Easy 10 (book (taken 1 4 0 [] none ∷ dropped 1 [] ∷ ticked (1 ∷ []) ∷ [])) → ⊥
+unfolding enter
+withdrawn-starts g = strayed [] 1 (g .starts)
+
+pub started-withdrawn : Guarantee Easy 10 (book (taken 1 4 0 (1 ∷ []) none ∷ dropped 1 [] ∷ [])) → ⊥
+unfolding enter
+started-withdrawn g = strayed [] 1 (g .starts)
+
+pub withdrawn-and-started : Guarantee Easy 10 (book (taken 1 4 0 [] none ∷ dropped 1 (1 ∷ []) ∷ [])) → ⊥
+unfolding enter
+withdrawn-and-started g = strayed [] 1 (g .starts)

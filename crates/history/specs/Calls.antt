@@ -7,6 +7,8 @@ use Prim.Native.Nat.{ℕ}
 use lib.ListN.{replicate}
 use Rattle.scheduler.specs.declared.Refusal.{Refusal}
 use Rattle.scheduler.specs.declared.Submission.{Submission}
+use Rattle.scheduler.specs.declared.Departure.{Departure}
+use Rattle.scheduler.specs.declared.Departure.the-variants.{Complete, Cancel}
 use Rattle.scheduler.specs.declared.Request.{Request}
 use Rattle.scheduler.specs.declared.Request.the-variants as request
 use Rattle.scheduler.specs.Model.{Model}
@@ -15,7 +17,8 @@ use Rattle.scheduler.specs.Refusals.{waitRefusal}
 
 pub data Call : Type 0 where
   submit : Submission → Call
-  complete : (ticket : ℕ) → Call
+  -- a job leaves: an early end, or a withdrawal (document 02, No. 1)
+  depart : Departure → (ticket : ℕ) → Call
   tick : Call
   -- a call that leaves the scheduler as it is, and answers with this refusal or none: a profile, a refused wait
   unchanged : Refusal → Call
@@ -24,10 +27,16 @@ pub data Call : Type 0 where
 abbrev pub order : (nodes estimate : ℕ) → Submission
 order n e = record { nodes = n; estimate = e }
 
+abbrev pub complete : ℕ → Call
+complete t = depart Complete t
+
+abbrev pub cancel : ℕ → Call
+cancel t = depart Cancel t
+
 -- the call that a request of the code asks for
 abbrev pub asked : Request → Call
 asked (request.Submit o) = submit o
-asked (request.Complete t) = complete t
+asked (request.Depart h t) = depart h t
 asked request.Tick = tick
 
 -- what each call gives

@@ -2,13 +2,14 @@
 -- Assumes nothing.
 use mathlib.Core.Path.{_≡_}
 use mathlib.Core.Bool.{true}
-use mathlib.Core.Option.{some}
-use Prim.Native.Nat.{ℕ, _≤_}
+use mathlib.Core.List.{[]}
+use mathlib.Core.Option.{none, some}
+use Prim.Native.Nat.{ℕ, _≤_, _<_}
 use Rattle.lists.specs.Tests.{on}
 use Rattle.lists.specs.Lists.{sum, In}
 use Rattle.scheduler.specs.declared.Kind.{Kind}
 use Rattle.scheduler.specs.declared.Kind.the-variants.{Conservative, Easy}
-use Rattle.history.specs.Book.{Entry, Book, holds, start, isWaiting, headOf}
+use Rattle.history.specs.Book.{Entry, Book, holds, start, withdrawal, isWaiting, headOf}
 
 -- it has started, no later than b
 pub record StartedBy (x : Entry) (b : ℕ) : Type 0 where
@@ -16,18 +17,25 @@ pub record StartedBy (x : Entry) (b : ℕ) : Type 0 where
   pub started : start (x .fate) ≡ some minute
   pub by : minute ≤ b
 
+-- Once the clock has reached d, a job that is not withdrawn has started by d; one that is withdrawn was so before d: it was not yet due.
+pub record Kept (clock : ℕ) (x : Entry) (d : ℕ) : Type 0 where
+  pub starts : withdrawal (x .fate) ≡ none → d ≤ clock → StartedBy x d
+  pub before : (w : ℕ) → withdrawal (x .fate) ≡ some w → w < d
+
 -- the nodes that a job holds
 abbrev pub held-nodes : Entry → ℕ
 held-nodes x = on (holds (x .fate)) (x .nodes)
 
 pub record Guarantee (kind : Kind) (nodes : ℕ) (b : Book) : Type 0 where
   -- on the Promise Desk, once the clock has reached its promise, a job has started, no later than promised
-  pub promises : kind ≡ Conservative → (x : Entry) → In x (b .entries) → x .promise ≤ b .clock → StartedBy x (x .promise)
+  pub promises : kind ≡ Conservative → (x : Entry) → In x (b .entries) → Kept (b .clock) x (x .promise)
   -- on the Loose Desk, once the clock has reached its bound, it has started within it
-  pub bounds : kind ≡ Easy → (x : Entry) → In x (b .entries) → x .bound ≤ b .clock → StartedBy x (x .bound)
+  pub bounds : kind ≡ Easy → (x : Entry) → In x (b .entries) → Kept (b .clock) x (x .bound)
   -- and once the clock has reached its forecast, it has started no later
-  pub forecasts : kind ≡ Easy → (x : Entry) (f : ℕ) → In x (b .entries) → x .forecast ≡ some f → f ≤ b .clock → StartedBy x f
+  pub forecasts : kind ≡ Easy → (x : Entry) (f : ℕ) → In x (b .entries) → x .forecast ≡ some f → Kept (b .clock) x f
   -- and whoever is head hears a forecast
   pub heads : kind ≡ Easy → (x : Entry) → In x (b .entries) → isWaiting x ≡ true → headOf (b .entries) ≡ some (x .ticket) → (f : ℕ) × (x .forecast ≡ some f)
+  -- on both, only jobs that wait start or are withdrawn: none that was withdrawn starts, and none that has started is withdrawn
+  pub starts : b .strays ≡ []
   -- on both, running jobs together hold at most the machine's nodes
   pub within : sum held-nodes (b .entries) ≤ nodes

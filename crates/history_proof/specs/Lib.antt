@@ -2,3 +2,4 @@ pub mod Obligations
 pub mod Departures
 pub mod Seen
 pub mod Proof
+pub mod Gone

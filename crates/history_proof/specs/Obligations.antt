@@ -1,25 +1,29 @@
--- What a kind of scheduler owes, of each single call: from this alone the guarantees of whole lists follow (Proof.antt).
+-- What a kind of scheduler owes, of each single call: from this alone the guarantees of whole lists follow (Proof.antt), and that a ticket
+-- that is over is in no later answer (Gone.antt).
 -- Assumes nothing.
 use mathlib.Core.Path.{_≡_}
 use mathlib.Core.Bool.{Bool, true, false}
 use mathlib.Core.List.{List, _++_, map}
+use mathlib.Core.Logic.{_⊎_}
 use mathlib.Core.Option.{Option, some}
 use Prim.Native.Nat.{ℕ, suc, _+_, _*_, _≤_, _<_}
 use lib.ListN.{length}
-use Rattle.lists.specs.Lists.{keep, All, In}
+use Rattle.lists.specs.Lists.{keep, elem, All, In}
 use Rattle.scheduler.specs.declared.Kind.{Kind}
 use Rattle.scheduler.specs.declared.Kind.the-variants.{Conservative, Easy}
 use Rattle.scheduler.specs.declared.State.{State}
 use Rattle.scheduler.specs.declared.State.the-variants.{Unused, Waiting, Running}
 use Rattle.scheduler.specs.declared.Job.{Job}
-use Rattle.scheduler.specs.Jobs.{isWaiting}
+use Rattle.scheduler.specs.Jobs.{isWaiting, isRunning}
 use Rattle.scheduler.specs.Settings.{unit}
 use Rattle.scheduler.specs.Table.{nodesHeld, ticketsOf}
 use Rattle.scheduler.specs.Model.{Model, Live}
 use Rattle.scheduler.specs.Answers.{Forecast}
+use Rattle.jobs.specs.Soundness.{Sound}
 use Rattle.history.specs.Calls.{Call, Rules}
 use Rattle.history.specs.News.{Newcomer, News, newsOf, clockAfter}
-use Rattle.history.specs.Book.{Fate, waiting, running, ended, fateAfter, lowest}
+use Rattle.history.specs.Tickets.{nextAfter}
+use Rattle.history.specs.Book.{Fate, waiting, running, ended, withdrawn, fateAfter, lowest}
 
 -- ## What calls and answers can show of a job
 
@@ -41,6 +45,7 @@ abbrev pub live : Fate → Bool
 live waiting = true
 live (running s) = true
 live (ended s) = false
+live (withdrawn w) = false
 
 abbrev pub isLive : JobShown → Bool
 isLive x = live (x .fate)
@@ -79,20 +84,22 @@ pub record Aim : Type 1 where
 abbrev pub by : ℕ → Aim
 by d = record { mayStart = λ (s : ℕ). s ≤ d; mayWait = λ (w : ℕ). w < d }
 
--- A job with this fate has started as the aim says, or waits and is on course to: `Course m t`.
+-- A job with this fate has started as the aim says, or waits and is on course to: `Course m t`; or it was withdrawn in a minute in which it
+-- might still wait.
 abbrev pub Meets : Aim → (Model → ℕ → Type 0) → Model → ℕ → Fate → Type 0
 Meets a Course m t waiting = Course m t
 Meets a Course m t (running s) = a .mayStart s
 Meets a Course m t (ended s) = a .mayStart s
+Meets a Course m t (withdrawn w) = a .mayWait w
 
 -- one that waited does so after the event
 abbrev pub Kept : Aim → (Model → ℕ → Type 0) → ℕ → News → Model → Type 0
 Kept a Course t e m = Meets a Course m t (fateAfter (m .clock) e t waiting)
 
--- a job on course may still wait, and every call keeps it so or starts it so
+-- a job on course may still wait, and every call that does not withdraw it keeps it so or starts it so
 pub record Keeps (R : Rules) (Valid : Model → Type 0) (a : Aim) (Course : Model → ℕ → Type 0) : Type 0 where
   pub rest : (m : Model) (t : ℕ) → Valid m → Course m t → a .mayWait (m .clock)
-  pub keeps : (m : Model) (c : Call) (t : ℕ) → Valid m → Course m t → Kept a Course t (said R m c) (R m c .model)
+  pub keeps : (m : Model) (c : Call) (t : ℕ) → Valid m → Course m t → elem t (said R m c .withdrew) ≡ false → Kept a Course t (said R m c) (R m c .model)
 
 -- ## Deadlines
 
@@ -105,9 +112,20 @@ deadline Easy promise bound = bound
 abbrev pub boundAt : Model → ℕ
 boundAt m = m .clock + suc (length (keep isWaiting (m .jobs))) * unit (m .settings)
 
+-- the tickets of those that wait, in order
+abbrev pub waitingTickets : Model → List ℕ
+waitingTickets m = ticketsOf (keep isWaiting (m .jobs))
+
 -- the ticket of the head
 abbrev pub lowestWaiting : Model → Option ℕ
-lowestWaiting m = lowest (ticketsOf (keep isWaiting (m .jobs)))
+lowestWaiting m = lowest (waitingTickets m)
+
+-- a job with this ticket waits; one comes
+abbrev pub Queued : Model → ℕ → Type 0
+Queued m t = elem t (waitingTickets m) ≡ true
+
+abbrev pub Comes : News → ℕ → Type 0
+Comes e t = (o : Newcomer) × In o (e .came) × (o .ticket ≡ t)
 
 -- `OnCourse m u b`: the job u waits, and will start by b
 abbrev pub For : (Model → ℕ → ℕ → Type 0) → ℕ → Model → ℕ → Type 0
@@ -127,9 +145,24 @@ pub record Lawful (k : Kind) (R : Rules) (Valid : Model → Type 0) (OnCourse : 
   pub keeps : (b : ℕ) → Keeps R Valid (by b) (For OnCourse b)
   pub joins : (m : Model) (c : Call) (o : Newcomer) → Valid m → In o (said R m c .came)
       → let d = deadline k (o .promise) (boundAt m) in Kept (by d) (For OnCourse d) (o .ticket) (said R m c) (R m c .model)
+  -- whoever starts waited or comes, and is not withdrawn; whoever is withdrawn waited
+  pub starts : (m : Model) (c : Call) (t : ℕ) → Valid m → elem t (said R m c .started) ≡ true
+      → (elem t (said R m c .withdrew) ≡ false) × (Queued m t ⊎ Comes (said R m c) t)
+  pub withdraws : (m : Model) (c : Call) (t : ℕ) → Valid m → elem t (said R m c .withdrew) ≡ true → Queued m t
   -- a ticket given is not that of the head
   pub fresh : (m : Model) (c : Call) (o : Newcomer) → Valid m → In o (said R m c .came) → lowestWaiting m ≡ some (o .ticket) → ⊥
   -- a forecast is kept, and on the Loose Desk whoever is head and was not before hears one
   pub forecasts : (m : Model) (c : Call) (f : Forecast) → Valid m → said R m c .head ≡ some f → OnCourse (R m c .model) (f .ticket) (f .minute)
   pub hears : k ≡ Easy → (m : Model) (c : Call) (h : ℕ) → Valid m → lowestWaiting (R m c .model) ≡ some h → (lowestWaiting m ≡ some h → ⊥)
       → (f : Forecast) × (said R m c .head ≡ some f) × (f .ticket ≡ h)
+
+-- what it owes of tickets
+pub record Ticketed (R : Rules) (Valid : Model → Type 0) (OnCourse : Model → ℕ → ℕ → Type 0) : Type 0 where
+  -- live jobs have tickets of their own, given before
+  pub sound : (m : Model) → Valid m → Sound m
+  -- tickets are given upward by one
+  pub next : (m : Model) (c : Call) → Valid m → R m c .model .next ≡ nextAfter (said R m c .came) (m .next)
+  pub gives : (m : Model) (c : Call) (o : Newcomer) → Valid m → In o (said R m c .came) → o .ticket ≡ m .next
+  -- whose run ends ran, and who is on course waits
+  pub ends : (m : Model) (c : Call) (t : ℕ) → Valid m → elem t (said R m c .ended) ≡ true → elem t (ticketsOf (keep isRunning (m .jobs))) ≡ true
+  pub waits : (m : Model) (t b : ℕ) → OnCourse m t b → Queued m t

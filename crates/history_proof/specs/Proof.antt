@@ -1,19 +1,19 @@
 -- From what a kind of scheduler owes of each single call to the guarantees of every list of calls.
--- A book agrees with a model: it has the model's clock and live jobs, and every job in it has met, or is on course to meet, its deadline
--- and its forecast. Every call keeps that.
+-- A book agrees with a model: it has the model's clock and live jobs and no strays, and every job in it has met, or is on course to meet,
+-- its deadline and its forecast, or was withdrawn before them. Every call keeps that.
 -- Assumes nothing.
 use mathlib.Core.Path.{_≡_, refl, sym, ap, subst, _∙_}
-use mathlib.Core.Bool.{true, false, not, _&&_}
-use mathlib.Core.List.{List, [], _∷_, _++_, map}
+use mathlib.Core.Bool.{Bool, true, false, not, _&&_, _||_, cond}
+use mathlib.Core.List.{List, [], _∷_, _++_, map, map-append, map-map}
 use mathlib.Core.Logic.{_⊎_, inl, inr}
 use mathlib.Core.Option.{Option, none, some}
-use Prim.Native.Nat.{ℕ, _+_, _*_, _≤_}
+use Prim.Native.Nat.{ℕ, suc, _+_, _*_, _≤_}
 use native.Mathlib.Omega.{arith}
 use lib.Dec.{eqb}
 use lib.ListN.{length, length-map}
 use borrow.Author.Tests.{eqb-true, eq-eqb, not-false}
 use Rattle.lists.specs.Tests.{case, true-false}
-use Rattle.lists.specs.Lists.{keep, elem, In, in-append, map-in}
+use Rattle.lists.specs.Lists.{keep, elem, In, in-left, in-right, in-append, in-map, map-in, keep-append, keep-all, keep-none, keep-map}
 use Rattle.scheduler.specs.declared.Kind.{Kind}
 use Rattle.scheduler.specs.declared.Kind.the-variants.{Conservative, Easy}
 use Rattle.scheduler.specs.Jobs as jobs
@@ -21,19 +21,22 @@ use Rattle.scheduler.specs.Settings.{unit}
 use Rattle.scheduler.specs.Table.{ticketOf}
 use Rattle.scheduler.specs.Model.{Model}
 use Rattle.scheduler.specs.Answers.{Forecast}
+use Rattle.jobs.specs.Order.{elem-job}
 use Rattle.history.specs.Calls.{Call, Rules, after, events}
-use Rattle.history.specs.News.{Newcomer, News, clockAfter}
-use Rattle.history.specs.Book.{Fate, waiting, running, ended, Entry, Book, waits, start, isWaiting, rank, entry, fateAfter, marked, lowest}
-use Rattle.history.specs.Book.{entryTicket, headOf, is, given, hearing, heard, enter, enterAll}
+use Rattle.history.specs.News.{Newcomer, News, clockAfter, withdraws-now}
+use Rattle.history.specs.Tickets.{givenTicket}
+use Rattle.history.specs.Book.{Fate, waiting, running, ended, withdrawn, Entry, Book, waits, start, withdrawal, isWaiting, rank, entry, fateAfter, marked, lowest}
+use Rattle.history.specs.Book.{entryTicket, queued, headOf, is, given, hearing, heard, enter, enterAll}
+use Rattle.history.specs.Guarantee as guarantee
 use Rattle.history.specs.Guarantee.{StartedBy, Guarantee}
 use Rattle.history_proof.specs.Seen.{seen, isLiveEntry, keep-seen, marked-seen, Heard, same, first-time, heard-by, heard-seen}
-use Rattle.history_proof.specs.Seen.{drop-ended, queue, queue-seen, came-seen, same-queue, same-nodes}
-use Rattle.history_proof.specs.Obligations.{JobShown, shown, isLive, remark, comers, deadline, boundAt, lowestWaiting, said, Aim, by}
-use Rattle.history_proof.specs.Obligations.{For, Meets, Kept, Keeps, Lawful}
+use Rattle.history_proof.specs.Seen.{drop-ended, in-elem, queue, queue-seen, came-seen, same-queue, same-nodes}
+use Rattle.history_proof.specs.Obligations.{JobShown, shown, isLive, remark, comers, deadline, boundAt, waitingTickets, lowestWaiting, said, Aim, by}
+use Rattle.history_proof.specs.Obligations.{For, Meets, Kept, Keeps, Queued, Comes, Lawful}
 
 -- ## Agreement
 
--- the job t, whose fate is f, has met the deadline d, or is on course to meet it
+-- the job t, whose fate is f, has met the deadline d, or is on course to meet it, or was withdrawn before it
 abbrev pub OnTime : (Model → ℕ → ℕ → Type 0) → Model → ℕ → Fate → ℕ → Type 0
 OnTime OnCourse m t f d = Meets (by d) (For OnCourse d) m t f
 
@@ -47,6 +50,7 @@ pub record Agrees (k : Kind) (OnCourse : Model → ℕ → ℕ → Type 0) (m : 
   pub forecasts : (x : Entry) (f : ℕ) → In x (b .entries) → x .forecast ≡ some f → OnTime OnCourse m (x .ticket) (x .fate) f
   pub heard-one : k ≡ Easy → (x : Entry) → In x (b .entries) → x .headed ≡ true → (f : ℕ) × (x .forecast ≡ some f)
   pub heads : (x : Entry) → In x (b .entries) → isWaiting x ≡ true → headOf (b .entries) ≡ some (x .ticket) → x .headed ≡ true
+  pub none-stray : b .strays ≡ []
 
 -- ## One call
 
@@ -61,12 +65,14 @@ waiting-is : (f : Fate) → waits f ≡ true → f ≡ waiting
 waiting-is waiting e = refl
 waiting-is (running s) e = true-false false e refl
 waiting-is (ended s) e = true-false false e refl
+waiting-is (withdrawn w) e = true-false false e refl
 
 -- who waits after a call waited before it
 waited : (c : ℕ) (r : News) (t : ℕ) (f : Fate) → waits (fateAfter c r t f) ≡ true → waits f ≡ true
 waited c r t waiting e = refl
 waited c r t (running s) e = case (elem t (r .ended)) (λ q. rw q at e) (λ q. rw q at e)
 waited c r t (ended s) e = e
+waited c r t (withdrawn w) e = e
 
 -- a forecast given is the answer's
 given-is : (f : Option Forecast) (t d : ℕ) → given f t ≡ some d → (F : Forecast) × (f ≡ some F) × (F .ticket ≡ t) × (F .minute ≡ d)
@@ -83,12 +89,18 @@ given-is (some F) t d e = case (eqb (F .ticket) t) (λ q. (F, refl, eqb-true (F 
 given-told : (h : Option Forecast) (F : Forecast) (t : ℕ) → h ≡ some F → F .ticket ≡ t → given h t ≡ some (F .minute)
 given-told h F t e q = rw (e, eq-eqb (F .ticket) t q)
 
--- what each call keeps of the start of a job that waits, it keeps of every job
-module _ (R : Rules) (Valid : Model → Type 0) (a : Aim) (Course : Model → ℕ → Type 0) (K : Keeps R Valid a Course) (m : Model) (c : Call) (v : Valid m) where
+-- what each call keeps of the start of a job that waits, it keeps of every job; and a call that withdraws passes no minute, so that a job
+-- withdrawn might still wait in the minute after it
+module _ (R : Rules) (Valid : Model → Type 0) (a : Aim) (Course : Model → ℕ → Type 0) (K : Keeps R Valid a Course)
+    (C : (m : Model) (c : Call) → Valid m → R m c .model .clock ≡ clockAfter (said R m c) (m .clock)) (m : Model) (c : Call) (v : Valid m) where
   pub kept-after : (t : ℕ) (f : Fate) → Meets a Course m t f → Meets a Course (R m c .model) t (fateAfter (R m c .model .clock) (said R m c) t f)
-  kept-after t waiting o = K .keeps m c t v o
+  kept-after t waiting o =
+      case (elem t (said R m c .withdrew))
+      (λ w. rw w (subst (a .mayWait) (sym (C m c v ∙ ap (λ (p : Bool). cond p (suc (m .clock)) (m .clock)) (withdraws-now c (R m c .reply) t w))) (K .rest m t v o)))
+      (λ w. K .keeps m c t v o w)
   kept-after t (running s) o = case (elem t (R m c .reply .ended)) (λ e. rw e o) (λ e. rw e o)
   kept-after t (ended s) o = o
+  kept-after t (withdrawn w) o = o
 
 module _ {k : Kind} {R : Rules} {Valid : Model → Type 0} {OnCourse : Model → ℕ → ℕ → Type 0} (L : Lawful k R Valid OnCourse) where
   -- ### the book after the call
@@ -125,9 +137,13 @@ module _ {k : Kind} {R : Rules} {Valid : Model → Type 0} {OnCourse : Model →
         (came-seen u b (b .entries) (r .came) ∙ ap (λ (l : List JobShown). l ++ comers r) (a .jobs-are))
         ∙ sym (rw clock-after at (L .tells m c v))
 
+    -- who waits
+    queue-before : queued (b .entries) ≡ waitingTickets m
+    queue-before = same-queue (m .jobs) (b .entries) (L .all-live m v) (a .jobs-are)
+
     -- the heads
     head-before : headOf (b .entries) ≡ lowestWaiting m
-    head-before = ap lowest (same-queue (m .jobs) (b .entries) (L .all-live m v) (a .jobs-are))
+    head-before = ap lowest queue-before
 
     head-after : headOf (b′ .entries) ≡ lowestWaiting m′
     head-after = ap lowest (same-queue (m′ .jobs) (b′ .entries) (L .all-live m′ (L .valid m c v)) live-after)
@@ -142,7 +158,7 @@ module _ {k : Kind} {R : Rules} {Valid : Model → Type 0} {OnCourse : Model →
     bound-is =
         let q : length (keep isWaiting (b .entries)) ≡ length (keep jobs.isWaiting (m .jobs)) =
         sym (length-map (keep isWaiting (b .entries)) entryTicket)
-        ∙ ap length (same-queue (m .jobs) (b .entries) (L .all-live m v) (a .jobs-are))
+        ∙ ap length queue-before
         ∙ length-map (keep jobs.isWaiting (m .jobs)) ticketOf in
         rw (u-is, a .clock-is, q)
 
@@ -176,7 +192,7 @@ module _ {k : Kind} {R : Rules} {Valid : Model → Type 0} {OnCourse : Model →
     on-time : (t d : ℕ) (f : Fate) → OnTime OnCourse m t f d → OnTime OnCourse m′ t (fateAfter c′ r t f) d
     on-time t d f o =
         subst (λ (x : ℕ). OnTime OnCourse m′ t (fateAfter x r t f) d) clock-after
-        (kept-after R Valid (by d) (For OnCourse d) (L .keeps d) m c v t f o)
+        (kept-after R Valid (by d) (For OnCourse d) (L .keeps d) (L .clock) m c v t f o)
 
     deadline-came : (x : Entry) → Came x → OnTime OnCourse m′ (x .ticket) (fateAfter c′ r (x .ticket) (x .fate)) (deadlineOf k x)
     deadline-came x (old y i) = on-time (x .ticket) (deadlineOf k x) (x .fate) (a .deadlines x i)
@@ -230,6 +246,38 @@ module _ {k : Kind} {R : Rules} {Valid : Model → Type 0} {OnCourse : Model →
         (λ x o t w h. not-false (x .headed) (rw (w, some-is (headOf ys) (x .ticket) (sym head-heard ∙ h)) at t))
         (λ x o w hd n w′ h. refl)
 
+    -- those that wait before the call, and those that come
+    queue-came : queued xs ≡ waitingTickets m ++ map givenTicket (r .came)
+    queue-came =
+        ap (map entryTicket) (keep-append isWaiting (b .entries) (map (entry u b) (r .came)))
+        ∙ map-append entryTicket (keep isWaiting (b .entries)) (keep isWaiting (map (entry u b) (r .came)))
+        ∙ ap (λ (l : List ℕ). l ++ map entryTicket (keep isWaiting (map (entry u b) (r .came)))) queue-before
+        ∙ ap (λ (l : List ℕ). waitingTickets m ++ l)
+        (ap (map entryTicket) (keep-map isWaiting (entry u b) (r .came) ∙ ap (map (entry u b)) (keep-all (λ (o : Newcomer). true) (r .came) (λ o i. refl)))
+        ∙ map-map entryTicket (entry u b) (r .came))
+
+    in-queue : (t : ℕ) → Queued m t ⊎ Comes r t → elem t (queued xs) ≡ true
+    in-queue t w = ap (elem t) queue-came ∙ in-elem (waitingTickets m ++ map givenTicket (r .came)) (go w)
+      where
+        go : Queued m t ⊎ Comes r t → In t (waitingTickets m ++ map givenTicket (r .came))
+        go (inl q) =
+            let j = elem-job t (keep jobs.isWaiting (m .jobs)) q in
+            subst (λ (x : ℕ). In x (waitingTickets m ++ map givenTicket (r .came))) (j .2) (in-left (map givenTicket (r .came)) (in-map ticketOf (j .1)))
+        go (inr o) = subst (λ (x : ℕ). In x (waitingTickets m ++ map givenTicket (r .came))) (o .2) (in-right (waitingTickets m) (in-map givenTicket (o .1)))
+
+    -- only jobs that wait start or are withdrawn
+    strays-after : b′ .strays ≡ []
+    unfolding enter
+    strays-after =
+        rw (
+          a .none-stray,
+          keep-none (λ (t : ℕ). not (elem t (queued xs))) (r .withdrew) (λ t i.
+              ap not (in-queue t (inl (L .withdraws m c t v (in-elem (r .withdrew) i))))),
+        )
+        (keep-none (λ (t : ℕ). elem t (r .withdrew) || not (elem t (queued xs))) (r .started) (λ t i.
+        let s = L .starts m c t v (in-elem (r .started) i) in
+        ap (λ (x : Bool). x || not (elem t (queued xs))) (s .0) ∙ ap not (in-queue t (s .1))))
+
     -- every call keeps book and model in agreement
     agrees-call : Agrees k OnCourse m′ b′
     unfolding enter
@@ -240,6 +288,7 @@ module _ {k : Kind} {R : Rules} {Valid : Model → Type 0} {OnCourse : Model →
       forecasts = λ z f i. forecast-after z i f;
       heard-one = heard-after;
       heads = heads-after;
+      none-stray = strays-after;
     }
 
   -- ## Every list of calls
@@ -262,20 +311,32 @@ module _ {k : Kind} {R : Rules} {Valid : Model → Type 0} {OnCourse : Model →
   -- ## What agreement guarantees
 
   module _ (m : Model) (b : Book) (v : Valid m) (a : Agrees k OnCourse m b) where
-    started-by : (x : Entry) (d : ℕ) → OnTime OnCourse m (x .ticket) (x .fate) d → d ≤ b .clock → StartedBy x d
-    started-by x d o l = go (x .fate) refl o
+    keeps-to : (x : Entry) (d : ℕ) → OnTime OnCourse m (x .ticket) (x .fate) d → guarantee.Kept (b .clock) x d
+    keeps-to x d o = go (x .fate) refl o
       where
-        go : (f : Fate) → x .fate ≡ f → OnTime OnCourse m (x .ticket) f d → StartedBy x d
-        go waiting e o = absurd (omega (arith, L .keeps d .rest m (x .ticket) v o, a .clock-is))
-        go (running s) e o = record { minute = s; started = ap start e; by = o }
-        go (ended s) e o = record { minute = s; started = ap start e; by = o }
+        -- it was not withdrawn
+        unless : (f : Fate) → x .fate ≡ f → withdrawal f ≡ none → (d ≤ b .clock → StartedBy x d) → guarantee.Kept (b .clock) x d
+        unless f e n s = record {
+          starts = λ p l. s l;
+          before = λ w q. absurd (let p : none ≡ some w = sym (ap withdrawal e ∙ n) ∙ q in let z : _≡_ {A = ℕ} 0 1 = cc in omega arith);
+        }
+
+        go : (f : Fate) → x .fate ≡ f → OnTime OnCourse m (x .ticket) f d → guarantee.Kept (b .clock) x d
+        go waiting e o = unless waiting e refl (λ l. absurd (omega (arith, L .keeps d .rest m (x .ticket) v o, a .clock-is)))
+        go (running s) e o = unless (running s) e refl (λ l. record { minute = s; started = ap start e; by = o })
+        go (ended s) e o = unless (ended s) e refl (λ l. record { minute = s; started = ap start e; by = o })
+        go (withdrawn y) e o = record {
+          starts = λ n l. absurd (let p : some y ≡ none = sym (ap withdrawal e) ∙ n in let z : _≡_ {A = ℕ} 0 1 = cc in omega arith);
+          before = λ w q. let p : some y ≡ some w = sym (ap withdrawal e) ∙ q in let z : y ≡ w = cc in omega (arith, o);
+        }
 
     pub agrees-guarantee : Guarantee k (m .settings .nodes) b
     agrees-guarantee = record {
-      promises = λ q x i l. started-by x (x .promise) (by-kind Conservative q x (a .deadlines x i)) l;
-      bounds = λ q x i l. started-by x (x .bound) (by-kind Easy q x (a .deadlines x i)) l;
-      forecasts = λ q x f i e l. started-by x f (a .forecasts x f i e) l;
+      promises = λ q x i. keeps-to x (x .promise) (by-kind Conservative q x (a .deadlines x i));
+      bounds = λ q x i. keeps-to x (x .bound) (by-kind Easy q x (a .deadlines x i));
+      forecasts = λ q x f i e. keeps-to x f (a .forecasts x f i e);
       heads = λ q x i w h. a .heard-one q x i (a .heads x i w h);
+      starts = a .none-stray;
       within = omega (arith, same-nodes (m .jobs) (b .entries) (a .jobs-are), L .capacity m v);
     }
       where

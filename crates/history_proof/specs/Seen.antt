@@ -2,12 +2,15 @@
 -- Assumes nothing.
 use mathlib.Core.Path.{_≡_, refl, sym, ap, _∙_}
 use mathlib.Core.Bool.{Bool, true, false, not, _&&_}
-use mathlib.Core.List.{List, _++_, map, map-map, map-append}
+use mathlib.Core.List.{List, [], _∷_, _++_, map, map-map, map-append}
+use mathlib.Core.Logic.{_⊎_, inl, inr}
 use mathlib.Core.Option.{Option}
 use Prim.Native.Nat.{ℕ}
-use borrow.Author.Tests.{not-true}
+use lib.Dec.{eqb}
+use borrow.Author.Tests.{eq-eqb, not-true}
 use Rattle.lists.specs.Tests.{case, true-false, both, on}
-use Rattle.lists.specs.Lists.{keep, keep-append, keep-all, sum, sum-kept, sum-map, sum-cong, All, all-in, keep-keep, keep-cong, keep-map, map-cong}
+use Rattle.lists.specs.Lists.{keep, elem, In, in-nil, in-cons, keep-append, keep-all, sum, sum-kept, sum-map, sum-cong, All, all-in, keep-keep, keep-cong}
+use Rattle.lists.specs.Lists.{keep-map, map-cong}
 use Rattle.scheduler.specs.declared.State.{State}
 use Rattle.scheduler.specs.declared.State.the-variants.{Unused, Waiting, Running}
 use Rattle.scheduler.specs.declared.Job.{Job}
@@ -17,7 +20,7 @@ use Rattle.scheduler.specs.Table.{nodesHeld, ticketsOf}
 use Rattle.scheduler.specs.Model.{Live}
 use Rattle.scheduler.specs.Answers.{Forecast}
 use Rattle.history.specs.News.{Newcomer, News}
-use Rattle.history.specs.Book.{Fate, waiting, running, ended, Entry, Book, entry, waits, holds, isWaiting, fateAfter, marked, entryTicket, is, hearing, heard}
+use Rattle.history.specs.Book.{Fate, waiting, running, ended, withdrawn, Entry, Book, entry, waits, holds, isWaiting, fateAfter, marked, entryTicket, is, hearing, heard}
 use Rattle.history.specs.Guarantee.{held-nodes}
 use Rattle.history_proof.specs.Obligations.{JobShown, fateBy, shown, live, isLive, remark, newly}
 
@@ -55,11 +58,12 @@ heard-seen h f ys = map-map seen (heard h f) ys ∙ map-cong (λ (y : Entry). se
     one y (same e t) = ap seen e
     one y (first-time e w i n) = ap seen e
 
--- who has ended stays so
+-- who has ended or was withdrawn stays so
 ended-stays : (c : ℕ) (e : News) (t : ℕ) (f : Fate) → (live f && live (fateAfter c e t f)) ≡ live (fateAfter c e t f)
 ended-stays c e t waiting = refl
 ended-stays c e t (running s) = refl
 ended-stays c e t (ended s) = refl
+ended-stays c e t (withdrawn w) = refl
 
 pub drop-ended : (c : ℕ) (e : News) (xs : List JobShown) → keep isLive (map (remark c e) xs) ≡ keep isLive (map (remark c e) (keep isLive xs))
 drop-ended c e xs =
@@ -81,6 +85,15 @@ came-seen u b xs os =
 
 -- ## Who waits
 
+-- a ticket in a list is found there
+pub in-elem : {t : ℕ} (ts : List ℕ) → In t ts → elem t ts ≡ true
+in-elem [] i = in-nil i
+in-elem {t} (x ∷ ts) i = case (eqb t x) (λ q. rw q) (λ q. rw q (go q (in-cons i) (λ k. in-elem ts k)))
+  where
+    go : eqb t x ≡ false → (t ≡ x) ⊎ In t ts → (In t ts → elem t ts ≡ true) → elem t ts ≡ true
+    go q (inl z) f = true-false (eqb t x) (eq-eqb t x z) q
+    go q (inr k) f = f k
+
 abbrev waits-shown : JobShown → Bool
 waits-shown x = waits (x .fate)
 
@@ -94,6 +107,7 @@ waits-live : (f : Fate) → (live f && waits f) ≡ waits f
 waits-live waiting = refl
 waits-live (running s) = refl
 waits-live (ended s) = refl
+waits-live (withdrawn w) = refl
 
 queue-live : (xs : List JobShown) → queue (keep isLive xs) ≡ queue xs
 queue-live xs =
@@ -128,6 +142,7 @@ holds-live : (f : Fate) → live f ≡ false → holds f ≡ false
 holds-live waiting e = refl
 holds-live (running s) e = e
 holds-live (ended s) e = refl
+holds-live (withdrawn w) e = refl
 
 holds-job : (s : State) (t : ℕ) → holds (fateBy s t) ≡ holding? s
 holds-job Unused t = refl

@@ -1,4 +1,4 @@
--- Jobs leave: one by its slot, at an early completion, which picks no other since tickets ascend; or those that end, at a tick.
+-- Jobs leave: one by its slot, at an early completion or a withdrawal, which picks no other since tickets ascend; or those that end, at a tick.
 -- Assumes nothing.
 use Prim.Native.Nat.{ℕ, zero, suc, _+_, _-_, _≤_, _<_}
 use native.Mathlib.Omega.{arith}
@@ -18,21 +18,25 @@ use Rattle.lists.specs.Loops.{positionFrom, position, position-says, position-p
 use Rattle.lists.specs.Pads.{pad}
 use Rattle.scheduler.specs.declared.Job.{Job}
 use Rattle.scheduler.specs.declared.Scheduler.{Scheduler}
+use Rattle.scheduler.specs.declared.Departure.{Departure}
+use Rattle.scheduler.specs.declared.Departure.the-variants.{Complete, Cancel}
 use Rattle.scheduler.specs.declared.Select.{Select}
 use Rattle.scheduler.specs.declared.Select.the-variants as select
 use Rattle.scheduler.specs.Limits.{slots, horizon}
 use Rattle.scheduler.specs.Settings.{until}
-use Rattle.scheduler.specs.Jobs.{unused, isRunning, runsAs, picks}
-use Rattle.scheduler.specs.Table.{withJobs, ticketsOf, tickets, oneIf, staying}
+use Rattle.scheduler.specs.Jobs.{unused, isRunning, departs?, departsAs, picks}
+use Rattle.scheduler.specs.Table.{withJobs, ticketsOf, tickets, oneIf, endedOf, staying}
+use Rattle.scheduler.specs.TableLaws.{picks-unused}
 use Rattle.scheduler.specs.Model.{view, store, without, withModelJobs}
 use Rattle.scheduler.specs.Answers.{verdict}
-use Rattle.scheduler.specs.Refusals.{completeRefusal, tickRefusal}
-use Rattle.jobs.specs.Order.{Asc, asc-in}
+use Rattle.scheduler.specs.Refusals.{departRefusal, tickRefusal}
+use Rattle.jobs.specs.Order.{Asc}
+use Rattle.jobs.specs.Departing.{not-there, none-departs}
 use Rattle.jobs.specs.Soundness.{Sound}
 use Rattle.jobs.specs.Premise.{Holds}
 use Rattle.jobs.specs.Slots.{slots-are}
 use Rattle.job_table.specs.declared.Part.{Part}
-use Rattle.job_table.specs.Parts.{notRunning, pastHorizon, cappedClock, completing, ticking, part}
+use Rattle.job_table.specs.Parts.{refusedUnless, endsIf, withdrawnIf, pastHorizon, cappedClock, departing, ticking, part}
 use Rattle.job_table.specs.Compacting.{Removed, removed, removed-stored, overwrite, Compacts, compacted, Clears}
 
 abbrev pub withClock : Scheduler → ℕ → Scheduler
@@ -73,30 +77,27 @@ cut-step n i xs l h =
     ap (cut n) (ap (λ (k : ℕ). take k xs) (add-one (i + 1)) ∙ take-suc xs (i + 1) unused h)
     ∙ cut-append n (take (i + 1) xs) (getD xs (i + 1) unused ∷ []) (omega arith)
 
--- no job after one of this ticket has it
-module _ (t : ℕ) where
-  others : (lo : ℕ) (js : List Job) → t < lo → Asc lo js → (j : Job) → In j js → runsAs t j ≡ false
-  others lo js l a j i = and-right-false (isRunning j) (ne-eqb (j .ticket) t (λ e. omega (arith, asc-in lo js a i)))
-
+-- the one that leaves is the only one of its ticket
+module _ (h : Departure) (t : ℕ) where
   record Alone (n : ℕ) (js : List Job) : Type 0 where
-    stays : staying (select.RunningTicket t) js ≡ cut n js
-    leaves : ticketsOf (keep (runsAs t) js) ≡ t ∷ []
+    stays : staying (select.Departing h t) js ≡ cut n js
+    leaves : ticketsOf (keep (departsAs h t) js) ≡ t ∷ []
 
-  alone : (lo k n : ℕ) (js : List Job) → Asc lo js → positionFrom (runsAs t) k js ≡ some (k + n) → Alone n js
+  alone : (lo k n : ℕ) (js : List Job) → Asc lo js → positionFrom (departsAs h t) k js ≡ some (k + n) → Alone n js
   alone lo k n [] a e = absurd (let z : _≡_ {A = ℕ} 0 1 = cc in omega arith)
-  alone lo k zero (j ∷ js) a e = case (runsAs t j) (λ y. found y)
-      (λ y. absurd (let s = position-says unused (runsAs t) js (k + 1) (k + 0) (rw y at e) in omega (arith, s .at-is)))
+  alone lo k zero (j ∷ js) a e = case (departsAs h t j) (λ y. found y)
+      (λ y. absurd (let s = position-says unused (departsAs h t) js (k + 1) (k + 0) (rw y at e) in omega (arith, s .at-is)))
     where
-      found : runsAs t j ≡ true → Alone zero (j ∷ js)
+      found : departsAs h t j ≡ true → Alone zero (j ∷ js)
       found y =
-          let is : j .ticket ≡ t = eqb-true (j .ticket) t (both (isRunning j) (eqb (j .ticket) t) y .1) in
-          let no = others (suc (j .ticket)) js (omega arith) (a .1) in
+          let is : j .ticket ≡ t = eqb-true (j .ticket) t (both (departs? h (j .state)) (eqb (j .ticket) t) y .1) in
+          let no = none-departs h t (suc (j .ticket)) js (omega arith) (a .1) in
           record {
-            stays = rw y (keep-all (λ (x : Job). not (runsAs t x)) js (λ x i. ap not (no x i)));
-            leaves = rw (y, keep-none (runsAs t) js no, is);
+            stays = rw y (keep-all (λ (x : Job). not (departsAs h t x)) js (λ x i. ap not (no x i)));
+            leaves = rw (y, keep-none (departsAs h t) js no, is);
           }
   alone lo k (suc n) (j ∷ js) a e =
-      case (runsAs t j)
+      case (departsAs h t j)
       (λ y. absurd (let w : some k ≡ some (k + suc n) = rw y at e in let z : k ≡ k + suc n = cc in omega arith))
       (λ y. let z : k + suc n ≡ k + 1 + n = omega arith in
       let r = alone (suc (j .ticket)) (k + 1) n js (a .1) ((rw y at e) ∙ ap some z) in
@@ -197,7 +198,7 @@ module _ {at : ℕ} {d e : Scheduler} {i : ℕ} (v : Shifts at d e i) (len : len
       v .scheduler-is
       ∙ ap (withJobs d) (rw (take-all (i + 1) xs more, cut-past at xs (omega arith), drop-of-length-le xs past) (append-nil xs))
 
--- ## An early completion
+-- ## An early completion or a withdrawal
 
 any-none : (p : Job → Bool) (k : ℕ) (js : List Job) → positionFrom p k js ≡ none → any p js ≡ false
 any-none p k [] e = refl
@@ -208,40 +209,52 @@ any-some : (p : Job → Bool) (k i : ℕ) (js : List Job) → positionFrom p k j
 any-some p k i [] e = absurd (let z : _≡_ {A = ℕ} 0 1 = cc in omega arith)
 any-some p k i (j ∷ js) e = case (p j) (λ q. rw q) (λ q. rw q (any-some p (k + 1) i js (rw q at e)))
 
-module _ (d : Scheduler) (t : ℕ) (h : Holds Sound d) where
+-- the ticket of the one that leaves is among the ended if it ran
+ended-one : (h : Departure) (t : ℕ) (js : List Job) → ticketsOf (keep (departsAs h t) js) ≡ t ∷ []
+    → endedOf (select.Departing h t) js ≡ oneIf (endsIf h true) t
+ended-one Complete t js e = e
+ended-one Cancel t js e = refl
+
+module _ (d : Scheduler) (h : Departure) (t : ℕ) (v : Holds Sound d) where
   abbrev left : Bool → Scheduler → Part
-  left found e = record { refusal = notRunning found; ticket = 0; ended = tickets (oneIf found t); scheduler = e }
+  left found e = record {
+    refusal = refusedUnless h found;
+    ticket = 0;
+    ended = tickets (oneIf (endsIf h found) t);
+    withdrawn = withdrawnIf h found t;
+    scheduler = e;
+  }
 
-  place : position (runsAs t) (d .jobs) ≡ position (runsAs t) (view d .jobs)
+  place : position (departsAs h t) (d .jobs) ≡ position (departsAs h t) (view d .jobs)
   unfolding store
-  place = ap (position (runsAs t)) (slots-are d h) ∙ position-pad slots unused (runsAs t) refl (view d .jobs)
+  place = ap (position (departsAs h t)) (slots-are d v) ∙ position-pad slots unused (departsAs h t) (picks-unused (select.Departing h t)) (view d .jobs)
 
-  pub leaves-none : position (runsAs t) (d .jobs) ≡ none → left false d ≡ part (completing (view d) t)
-  unfolding completeRefusal verdict
-  leaves-none e = rw (any-none (runsAs t) 0 (view d .jobs) (sym place ∙ e)) (ap (left false) (h .stored))
+  pub leaves-none : position (departsAs h t) (d .jobs) ≡ none → left false d ≡ part (departing (view d) h t)
+  unfolding departRefusal verdict
+  leaves-none e = rw (any-none (departsAs h t) 0 (view d .jobs) (sym place ∙ e), not-there h) (ap (left false) (v .stored))
 
-  module _ (i : ℕ) (e : position (runsAs t) (d .jobs) ≡ some i) where
-    alone-here : Alone t i (view d .jobs)
-    alone-here = let z : i ≡ 0 + i = omega arith in alone t 1 0 i (view d .jobs) (h .holds .asc) (sym place ∙ e ∙ ap some z)
+  module _ (i : ℕ) (e : position (departsAs h t) (d .jobs) ≡ some i) where
+    alone-here : Alone h t i (view d .jobs)
+    alone-here = let z : i ≡ 0 + i = omega arith in alone h t 1 0 i (view d .jobs) (v .holds .asc) (sym place ∙ e ∙ ap some z)
 
     inside : i < length (view d .jobs)
-    inside = let s = position-says unused (runsAs t) (view d .jobs) 0 i (sym place ∙ e) in omega (arith, s .at-is, s .inside)
+    inside = let s = position-says unused (departsAs h t) (view d .jobs) 0 i (sym place ∙ e) in omega (arith, s .at-is, s .inside)
 
-    stored : withoutSlot d i ≡ store (without (view d) (d .clock) (select.RunningTicket t))
+    stored : withoutSlot d i ≡ store (without (view d) (d .clock) (select.Departing h t))
     unfolding store view
     stored =
-        ap (λ (x : Scheduler). withJobs x (cut i (x .jobs) ++ (unused ∷ []))) (h .stored)
-        ∙ ap (withJobs (store (view d))) (cut-pad i (view d .jobs) inside (h .holds .few) ∙ ap (pad slots unused) (sym (alone-here .stays)))
+        ap (λ (x : Scheduler). withJobs x (cut i (x .jobs) ++ (unused ∷ []))) (v .stored)
+        ∙ ap (withJobs (store (view d))) (cut-pad i (view d .jobs) inside (v .holds .few) ∙ ap (pad slots unused) (sym (alone-here .stays)))
 
     clock-of : d .clock ≡ view d .clock
     unfolding view
     clock-of = refl
 
-    pub leaves-one : left true (withoutSlot d i) ≡ part (completing (view d) t)
-    unfolding completeRefusal verdict
+    pub leaves-one : left true (withoutSlot d i) ≡ part (departing (view d) h t)
+    unfolding departRefusal verdict
     leaves-one =
-        rw (any-some (runsAs t) 0 i (view d .jobs) (sym place ∙ e), alone-here .leaves)
-        (ap (left true) (stored ∙ ap (λ (c : ℕ). store (without (view d) c (select.RunningTicket t))) clock-of))
+        rw (any-some (departsAs h t) 0 i (view d .jobs) (sym place ∙ e), ended-one h t (view d .jobs) (alone-here .leaves))
+        (ap (left true) (stored ∙ ap (λ (c : ℕ). store (without (view d) c (select.Departing h t))) clock-of))
 
 -- ## A tick
 
@@ -257,6 +270,7 @@ module _ (d : Scheduler) (h : Holds Sound d) where
     refusal = pastHorizon minute;
     ticket = 0;
     ended = removed d which .tickets;
+    withdrawn = 0;
     scheduler =
         withClock (removed d which .scheduler) (cappedClock minute);
   }
@@ -269,13 +283,14 @@ module _ (d : Scheduler) (h : Holds Sound d) where
   removed-is = ap (λ (x : Scheduler). removed x which) (h .stored) ∙ removed-stored (view d) which (h .holds .few)
 
   abbrev of : Removed → Part
-  of r = record { refusal = pastHorizon minute; ticket = 0; ended = r .tickets; scheduler = withClock (r .scheduler) (cappedClock minute) }
+  of r = record { refusal = pastHorizon minute; ticket = 0; ended = r .tickets; withdrawn = 0; scheduler = withClock (r .scheduler) (cappedClock minute) }
 
   abbrev ends : List ℕ → List Job → ℕ → Part
   ends ts js c = record {
     refusal = pastHorizon minute;
     ticket = 0;
     ended = tickets ts;
+    withdrawn = 0;
     scheduler =
         store (record { settings = view d .settings; clock = c; next = view d .next; jobs = js });
   }
@@ -307,7 +322,7 @@ module _ (d : Scheduler) (h : Holds Sound d) where
 pub expires : (d : Scheduler) → Holds Sound d → {e f : Scheduler} {list : List ℕ} {kept gone i k c : ℕ}
     → Compacts (select.EndingAt (d .settings) (d .clock + 1)) (withClock d c) e list kept gone i → length (d .jobs) ≡ 64 → Clears kept e f k → 64 ≤ i → 64 ≤ k
     → c ≡ cappedClock (d .clock + 1)
-    → record { refusal = pastHorizon (d .clock + 1); ticket = 0; ended = record { count = gone; list = list }; scheduler = f } ≡ part (ticking (view d))
+    → record { refusal = pastHorizon (d .clock + 1); ticket = 0; ended = record { count = gone; list = list }; withdrawn = 0; scheduler = f } ≡ part (ticking (view d))
 unfolding removed
 expires d h v len u a b z =
     ap given (compacted v len u a b)
@@ -315,9 +330,10 @@ expires d h v len u a b z =
       refusal = pastHorizon (d .clock + 1);
       ticket = 0;
       ended = removed d (select.EndingAt (d .settings) (d .clock + 1)) .tickets;
+      withdrawn = 0;
       scheduler = withClock (removed d (select.EndingAt (d .settings) (d .clock + 1)) .scheduler) n;
     }) z
     ∙ expired-is d h
   where
     given : Removed → Part
-    given r = record { refusal = pastHorizon (d .clock + 1); ticket = 0; ended = r .tickets; scheduler = r .scheduler }
+    given r = record { refusal = pastHorizon (d .clock + 1); ticket = 0; ended = r .tickets; withdrawn = 0; scheduler = r .scheduler }

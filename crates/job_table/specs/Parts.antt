@@ -7,44 +7,55 @@ use mathlib.Core.List.{List, []}
 use lib.Dec.{ltb}
 use lib.ListN.{length}
 use Rattle.lists.specs.Tests.{case, true-false}
-use Rattle.lists.specs.Lists.{keep}
 use Rattle.scheduler.specs.declared.Settings.{Settings}
 use Rattle.scheduler.specs.declared.Submission.{Submission}
+use Rattle.scheduler.specs.declared.Departure.{Departure}
+use Rattle.scheduler.specs.declared.Departure.the-variants.{Complete, Cancel}
 use Rattle.scheduler.specs.declared.Refusal.{Refusal}
 use Rattle.scheduler.specs.declared.Refusal.the-variants as refusal
 use Rattle.scheduler.specs.declared.Select.{Select}
 use Rattle.scheduler.specs.declared.Select.the-variants as select
 use Rattle.scheduler.specs.Limits.{horizon}
-use Rattle.scheduler.specs.Jobs.{picks}
-use Rattle.scheduler.specs.Table.{ticketsOf, tickets}
+use Rattle.scheduler.specs.Table.{tickets, endedOf}
 use Rattle.scheduler.specs.Model.{Model, ending, store, view, without}
 use Rattle.scheduler.specs.Answers.{verdict, accepts}
-use Rattle.scheduler.specs.Refusals.{testsBy, completeRefusal, tickRefusal}
+use Rattle.scheduler.specs.Refusals.{testsBy, notThere, departRefusal, tickRefusal}
 use Rattle.job_table.specs.declared.Part.{Part}
 
 pub record Own : Type 0 where
   pub refusal : Refusal
   pub ticket : ℕ
   pub ended : List ℕ
+  -- who was withdrawn, 0 if nobody was
+  pub withdrawn : ℕ
   pub model : Model
 
-abbrev pub taken : ℕ → List ℕ → Model → Own
-taken t ts m = record { refusal = refusal.None; ticket = t; ended = ts; model = m }
+-- a job comes
+abbrev pub coming : ℕ → Model → Own
+coming t m = record { refusal = refusal.None; ticket = t; ended = []; withdrawn = 0; model = m }
+
+abbrev pub refusedOwn : Model → Refusal → Own
+refusedOwn m r = record { refusal = r; ticket = 0; ended = []; withdrawn = 0; model = m }
 
 -- a refused call changes nothing
 abbrev pub judgedOwn : Model → Refusal → Own → Own
-judgedOwn m r o = cond (accepts r) o (record { refusal = r; ticket = 0; ended = []; model = m })
+judgedOwn m r o = cond (accepts r) o (refusedOwn m r)
 
-abbrev pub leaving : Model → ℕ → Select → Own
-leaving m clock s = taken 0 (ticketsOf (keep (picks s) (m .jobs))) (without m clock s)
+-- jobs leave
+abbrev pub leaving : Model → ℕ → Select → ℕ → Own
+leaving m clock s w = record { refusal = refusal.None; ticket = 0; ended = endedOf s (m .jobs); withdrawn = w; model = without m clock s }
 
--- an early completion
-abbrev pub completing : Model → ℕ → Own
-completing m t = judgedOwn m (completeRefusal m t) (leaving m (m .clock) (select.RunningTicket t))
+abbrev pub withdrawnBy : Departure → ℕ → ℕ
+withdrawnBy Complete t = 0
+withdrawnBy Cancel t = t
+
+-- an early completion or a withdrawal
+abbrev pub departing : Model → Departure → ℕ → Own
+departing m h t = judgedOwn m (departRefusal m h t) (leaving m (m .clock) (select.Departing h t) (withdrawnBy h t))
 
 -- a tick
 abbrev pub ticking : Model → Own
-ticking m = judgedOwn m (tickRefusal m) (leaving m (suc (m .clock)) (ending m))
+ticking m = judgedOwn m (tickRefusal m) (leaving m (suc (m .clock)) (ending m) 0)
 
 -- a part that is not refused is what it does, and a refused one leaves the model
 module _ (m : Model) (r : Refusal) (o : Own) where
@@ -52,15 +63,15 @@ module _ (m : Model) (r : Refusal) (o : Own) where
   own-taken e = case (accepts r) (λ a. (a, rw a)) (λ a. true-false (accepts r) (rw a at e) a)
 
   pub own-refused : o .refusal ≡ refusal.None → accepts (judgedOwn m r o .refusal) ≡ false
-      → (accepts r ≡ false) × (judgedOwn m r o ≡ record { refusal = r; ticket = 0; ended = []; model = m })
+      → (accepts r ≡ false) × (judgedOwn m r o ≡ refusedOwn m r)
   own-refused n e = case (accepts r) (λ a. true-false true refl (rw (a, n) at e)) (λ a. (a, rw a))
 
 -- as the code has it
 abbrev pub part : Own → Part
-part o = record { refusal = o .refusal; ticket = o .ticket; ended = tickets (o .ended); scheduler = store (o .model) }
+part o = record { refusal = o .refusal; ticket = o .ticket; ended = tickets (o .ended); withdrawn = o .withdrawn; scheduler = store (o .model) }
 
 abbrev pub handed : Part → List ℕ → Own
-handed p ts = record { refusal = p .refusal; ticket = p .ticket; ended = ts; model = view (p .scheduler) }
+handed p ts = record { refusal = p .refusal; ticket = p .ticket; ended = ts; withdrawn = p .withdrawn; model = view (p .scheduler) }
 
 -- ## Refusals by numbers
 
@@ -71,8 +82,20 @@ refusalBy S live next o = verdict (testsBy S live next o [])
 abbrev pub sharedRefusal : Model → Submission → Refusal
 sharedRefusal m o = refusalBy (m .settings) (length (m .jobs)) (m .next) o
 
-abbrev pub notRunning : Bool → Refusal
-notRunning found = cond found refusal.None refusal.NotRunning
+-- of an early completion or a withdrawal, by whether the job was found
+abbrev pub refusedUnless : Departure → Bool → Refusal
+refusedUnless h found = cond found refusal.None (notThere h)
+
+-- whether its run ends, and its ticket if it is withdrawn
+abbrev pub ends? : Departure → Bool
+ends? Complete = true
+ends? Cancel = false
+
+abbrev pub endsIf : Departure → Bool → Bool
+endsIf h found = cond found (ends? h) false
+
+abbrev pub withdrawnIf : Departure → Bool → ℕ → ℕ
+withdrawnIf h found t = cond found (withdrawnBy h t) 0
 
 abbrev pub pastHorizon : ℕ → Refusal
 pastHorizon clock = cond (ltb horizon clock) refusal.PastHorizon refusal.None

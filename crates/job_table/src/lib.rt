@@ -1,5 +1,6 @@
-// The job table: the parts of calls that both kinds share, each done in place. A job leaves early, those that end leave, the first unused
+// The job table: the parts of calls that both kinds share, each done in place. A job leaves on request, those that end leave, the first unused
 // slot is found for a job that comes in, those that wait are counted; and what these calls are refused for, by numbers.
+use scheduler::Departure;
 use scheduler::Job;
 use scheduler::Refusal;
 use scheduler::Scheduler;
@@ -13,16 +14,18 @@ ghost use Rattle.scheduler.specs.Jobs.{isWaiting};
 ghost use Rattle.scheduler.specs.Model.{view};
 ghost use Rattle.jobs.specs.Soundness.{Sound};
 ghost use Rattle.jobs.specs.Premise.{Holds};
-ghost use Rattle.job_table.specs.Parts.{refusalBy, notRunning, pastHorizon, cappedClock, part, completing, ticking};
+ghost use Rattle.job_table.specs.Parts.{refusalBy, refusedUnless, endsIf, withdrawnIf, pastHorizon, cappedClock, part, departing, ticking};
 
 // The last slot.
 const LAST: usize = Scheduler::LIVE - 1;
 
-// What a call has done on the table: why it is refused, the ticket that it gives, those that it ends, and the scheduler.
+// What a call has done on the table: why it is refused, the ticket that it gives, those that it ends, the one that it withdraws (0 if none),
+// and the scheduler.
 pub struct Part {
     pub refusal: Refusal,
     pub ticket: u32,
     pub ended: Tickets,
+    pub withdrawn: u32,
     pub scheduler: Scheduler,
 }
 
@@ -91,26 +94,55 @@ pub fn past_horizon(minute: u32) -> Refusal
     Refusal::None
 }
 
-fn not_running(found: bool) -> Refusal
-    ensures { λ r. ⌜ r ≡ notRunning found ⌝ }
+fn refused_unless(how: Departure, found: bool) -> Refusal
+    ensures { λ r. ⌜ r ≡ refusedUnless how found ⌝ }
 {
     if found {
         return Refusal::None;
     }
-    Refusal::NotRunning
+    match how {
+        Departure::Complete => Refusal::NotRunning,
+        Departure::Cancel => Refusal::NotWaiting,
+    }
 }
 
-// An early completion: the job leaves its slot, and those after it move up.
-pub fn leave(d: Scheduler, ticket: u32) -> Part
+// Whether the run of the job found ends.
+fn ends_if(how: Departure, found: bool) -> bool
+    ensures { λ r. ⌜ r ≡ endsIf how found ⌝ }
+{
+    if found {
+        return match how {
+            Departure::Complete => true,
+            Departure::Cancel => false,
+        };
+    }
+    false
+}
+
+// The ticket of the job found if it is withdrawn, or 0.
+fn withdrawn_if(how: Departure, found: bool, ticket: u32) -> u32
+    ensures { λ r. ⌜ r ≡ withdrawnIf how found ticket ⌝ }
+{
+    if found {
+        return match how {
+            Departure::Complete => 0,
+            Departure::Cancel => ticket,
+        };
+    }
+    0
+}
+
+// An early completion or a withdrawal: the job leaves its slot, and those after it move up.
+pub fn leave(d: Scheduler, how: Departure, ticket: u32) -> Part
     requires { ⌜ Holds Sound d ⌝ }
-    ensures { λ r. ⌜ r ≡ part (completing (view d) ticket) ⌝ }
+    ensures { λ r. ⌜ r ≡ part (departing (view d) how ticket) ⌝ }
 {
     let none = Job::unused();
     let mut e = d;
     let mut i: usize = 0;
     while i < Scheduler::LIVE {
         let j = e.jobs[i];
-        if j.runs_as(ticket) {
+        if j.departs(how, ticket) {
             break;
         }
         i += 1;
@@ -125,11 +157,12 @@ pub fn leave(d: Scheduler, ticket: u32) -> Part
     if found {
         e.jobs[LAST] = none;
     }
-    let ended = Tickets::one_if(found, ticket);
+    let ended = Tickets::one_if(ends_if(how, found), ticket);
     Part {
-        refusal: not_running(found),
+        refusal: refused_unless(how, found),
         ticket: 0,
         ended: ended,
+        withdrawn: withdrawn_if(how, found, ticket),
         scheduler: e,
     }
 }
@@ -183,6 +216,7 @@ pub fn expire(d: Scheduler) -> Part
         refusal: past_horizon(clock),
         ticket: 0,
         ended: ended,
+        withdrawn: 0,
         scheduler: e,
     }
 }

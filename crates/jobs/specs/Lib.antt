@@ -3,3 +3,4 @@ pub mod Soundness
 pub mod Premise
 pub mod Judgement
 pub mod Slots
+pub mod Departing

@@ -18,11 +18,13 @@ use Rattle.scheduler.specs.declared.Submission.{Submission}
 use Rattle.scheduler.specs.declared.Refusal.{Refusal}
 use Rattle.scheduler.specs.declared.Refusal.the-variants as refusal
 use Rattle.scheduler.specs.declared.Opening.{Opening}
+use Rattle.scheduler.specs.declared.Departure.{Departure}
+use Rattle.scheduler.specs.declared.Departure.the-variants.{Complete, Cancel}
 use Rattle.scheduler.specs.declared.Select.{Select}
 use Rattle.scheduler.specs.declared.Select.the-variants as select
 use Rattle.scheduler.specs.Limits as limit
 use Rattle.scheduler.specs.Limits.{maxNodes, lastTicket, outside}
-use Rattle.scheduler.specs.Jobs.{isLive, isRunning, isHolding, running?, holding?, held, picks}
+use Rattle.scheduler.specs.Jobs.{isLive, isRunning, isWaiting, isHolding, running?, holding?, held, picks}
 use Rattle.scheduler.specs.declared.Settings.{Settings}
 use Rattle.scheduler.specs.Settings.{refusedSettings, horizon, slots, longest, unit, until}
 use Rattle.scheduler.specs.Times.{until-is, hold-unit}
@@ -167,22 +169,32 @@ sound-join m o j s f sj t c = record {
 
 -- ## Jobs leave
 
--- the clock that an early end leaves, and that of a tick; and which jobs they pick
+-- the clock that an early end or a withdrawal leaves, and that of a tick; and which jobs they pick
 pub data Leaving (m : Model) : ℕ → Select → Type 0 where
-  early : (t : ℕ) → Leaving m (m .clock) (select.RunningTicket t)
+  early : (h : Departure) (t : ℕ) → Leaving m (m .clock) (select.Departing h t)
   in-time : suc (m .clock) ≤ horizon (m .settings) → Leaving m (suc (m .clock)) (ending m)
 
--- only running jobs leave
-pub leaving-runs : (m : Model) (c : ℕ) (s : Select) → Leaving m c s → (j : Job) → picks s j ≡ true → isRunning j ≡ true
-leaving-runs m c s l j e = go l e
-  where
-    go : {c : ℕ} {s : Select} → Leaving m c s → picks s j ≡ true → isRunning j ≡ true
-    go (early t) e = case (isRunning j) (λ r. r) (λ r. true-false false (rw r at e) refl)
-    go (in-time h) e = case (isRunning j) (λ r. r) (λ r. true-false false (rw r at e) refl)
+-- only jobs that wait are withdrawn, and otherwise only running ones leave
+pub withdrawn-waits : (t : ℕ) (j : Job) → picks (select.Departing Cancel t) j ≡ true → isWaiting j ≡ true
+withdrawn-waits t j e = case (isWaiting j) (λ r. r) (λ r. true-false false (rw r at e) refl)
+
+abbrev pub endsRuns : Select → Bool
+endsRuns select.Live = false
+endsRuns select.Waiting = false
+endsRuns (select.Departing Complete t) = true
+endsRuns (select.Departing Cancel t) = false
+endsRuns (select.EndingAt S t) = true
+
+pub leaving-runs : (s : Select) → endsRuns s ≡ true → (j : Job) → picks s j ≡ true → isRunning j ≡ true
+leaving-runs select.Live n j e = true-false false n refl
+leaving-runs select.Waiting n j e = true-false false n refl
+leaving-runs (select.Departing Complete t) n j e = case (isRunning j) (λ r. r) (λ r. true-false false (rw r at e) refl)
+leaving-runs (select.Departing Cancel t) n j e = true-false false n refl
+leaving-runs (select.EndingAt S t) n j e = case (isRunning j) (λ r. r) (λ r. true-false false (rw r at e) refl)
 
 -- the clock is now or a minute later
 pub leaving-clock : (m : Model) (c : ℕ) (s : Select) → Leaving m c s → (m .clock ≤ c) × (c ≤ suc (m .clock))
-leaving-clock m c s (early t) = omega arith
+leaving-clock m c s (early h t) = omega arith
 leaving-clock m c s (in-time h) = omega arith
 
 holding-runs : (s : State) → holding? s ≡ true → running? s ≡ true
@@ -196,7 +208,7 @@ pub leaving-time : (m : Model) (c : ℕ) (s : Select) → Leaving m c s → (j :
 leaving-time m c s l j r u e = go l e
   where
     go : {c : ℕ} {s : Select} → Leaving m c s → picks s j ≡ false → c < until (m .settings) j
-    go (early t) e = u
+    go (early h t) e = u
     go (in-time h) e = omega (arith, eqb-false (until (m .settings) j) (suc (m .clock)) (rw (holding-runs (j .state) r) at e))
 
 pub sound-leave : (m : Model) (c : ℕ) (s : Select) → Sound m → Leaving m c s → Sound (without m c s)
@@ -214,7 +226,7 @@ sound-leave m c s v l = record {
 }
   where
     clock-low : {c : ℕ} {s : Select} → Leaving m c s → c ≤ horizon (m .settings)
-    clock-low (early t) = v .clock-to
+    clock-low (early h t) = v .clock-to
     clock-low (in-time h) = h
 
     one : (j : Job) → In j (m .jobs) × (not (picks s j) ≡ true) → SoundJob (m .settings) c j

@@ -28,6 +28,15 @@ pub fn complete(d: &mut Scheduler, ticket: u32) -> Answer
     o.answer
 }
 
+pub fn cancel(d: &mut Scheduler, ticket: u32) -> Answer
+    requires { ⌜ Premise (now d) ⌝ }
+    ensures { λ r. ⌜ Leaves (now (d .entry)) (calls.cancel ticket) r (now (d .exit)) ⌝ }
+{
+    let o = calls::cancel(*d, ticket);
+    *d = o.scheduler;
+    o.answer
+}
+
 pub fn tick(d: &mut Scheduler) -> Answer
     requires { ⌜ Premise (now d) ⌝ }
     ensures { λ r. ⌜ Leaves (now (d .entry)) calls.tick r (now (d .exit)) ⌝ }

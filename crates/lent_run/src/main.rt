@@ -43,6 +43,18 @@ fn lent_complete(d: Scheduler, ticket: u32) -> Outcome
     }
 }
 
+fn lent_cancel(d: Scheduler, ticket: u32) -> Outcome
+    requires { ⌜ Premise d ⌝ }
+    ensures { λ r. ⌜ Leaves d (calls.cancel ticket) (r .answer) (r .scheduler) ⌝ }
+{
+    let mut e = d;
+    let a = lent_calls::cancel(&mut e, ticket);
+    Outcome {
+        answer: a,
+        scheduler: e,
+    }
+}
+
 fn lent_tick(d: Scheduler) -> Outcome
     requires { ⌜ Premise d ⌝ }
     ensures { λ r. ⌜ Leaves d calls.tick (r .answer) (r .scheduler) ⌝ }
@@ -147,6 +159,16 @@ fn complete(d: Scheduler, ticket: u32) -> Scheduler
     e
 }
 
+fn cancel(d: Scheduler, ticket: u32) -> Scheduler
+    requires { ⌜ Premise d ⌝ }
+    ensures { λ r. ⌜ Premise r ⌝ }
+{
+    let o = lent_cancel(d, ticket);
+    let e = o.scheduler;
+    print_answer(e.clock, o.answer);
+    e
+}
+
 fn tick(d: Scheduler) -> Scheduler
     requires { ⌜ Premise d ⌝ }
     ensures { λ r. ⌜ Premise r ⌝ }
@@ -240,6 +262,10 @@ fn main() {
     let d7 = complete(d6, 1);
     let d8 = tick(d7);
     show(d8);
+    // one that runs cannot be withdrawn, one that waits can
+    let d9 = cancel(d8, 2);
+    let d10 = cancel(d9, 3);
+    show(d10);
     // EASY: no profile
     let e = open(Kind::Easy, 10, 0);
     let e1 = submit(e, 6, 20);
@@ -251,6 +277,10 @@ fn main() {
     let e6 = complete(e5, 1);
     let e7 = complete(e6, 1);
     let e8 = tick(e7);
+    // the head is withdrawn, and the next hears its forecast
+    let e9 = submit(e8, 5, 10);
+    let e10 = cancel(e9, 4);
+    let e11 = cancel(e10, 3);
     // at the last minute no clock moves
     let f = open(Kind::Conservative, 10, 1000000);
     let f1 = tick(f);

@@ -9,6 +9,8 @@ use Rattle.scheduler.specs.declared.State.{State}
 use Rattle.scheduler.specs.declared.State.the-variants.{Unused, Waiting, Running}
 use Rattle.scheduler.specs.declared.Job.{Job}
 use Rattle.scheduler.specs.declared.Submission.{Submission}
+use Rattle.scheduler.specs.declared.Departure.{Departure}
+use Rattle.scheduler.specs.declared.Departure.the-variants.{Complete, Cancel}
 use Rattle.scheduler.specs.declared.Select.{Select}
 use Rattle.scheduler.specs.declared.Select.the-variants as select
 use Rattle.scheduler.specs.Settings.{until}
@@ -54,8 +56,13 @@ isHolding j = holding? (j .state)
 abbrev pub held : Job → ℕ
 held j = on (isHolding j) (j .nodes)
 
-abbrev pub runsAs : ℕ → Job → Bool
-runsAs t j = isRunning j && eqb (j .ticket) t
+-- who can leave so: one that runs is over early; document 02, No. 1: "A waiting stack can be withdrawn."
+abbrev pub departs? : Departure → State → Bool
+departs? Complete s = running? s
+departs? Cancel s = waiting? s
+
+abbrev pub departsAs : Departure → ℕ → Job → Bool
+departsAs h t j = departs? h (j .state) && eqb (j .ticket) t
 
 -- "A stack that starts at minute s ends at s + held unless ended before. The desk ends it there, and its nodes are free in that
 -- same minute."
@@ -74,5 +81,5 @@ jobAt s start j = record { ticket = j .ticket; nodes = j .nodes; estimate = j .e
 abbrev pub picks : Select → Job → Bool
 picks select.Live j = isLive j
 picks select.Waiting j = isWaiting j
-picks (select.RunningTicket t) j = runsAs t j
+picks (select.Departing h t) j = departsAs h t j
 picks (select.EndingAt S t) j = endsAt S t j

@@ -9,6 +9,8 @@ use Rattle.lists.specs.Lists.{any}
 use Rattle.scheduler.specs.declared.Refusal.{Refusal}
 use Rattle.scheduler.specs.declared.Refusal.the-variants as refusal
 use Rattle.scheduler.specs.declared.Settings.{Settings}
+use Rattle.scheduler.specs.declared.Departure.{Departure}
+use Rattle.scheduler.specs.declared.Departure.the-variants.{Complete, Cancel}
 use Rattle.scheduler.specs.declared.Submission.{Submission}
 use Rattle.scheduler.specs.declared.Select.the-variants as select
 use Rattle.scheduler.specs.Limits.{longestWait, lastTicket, outside}
@@ -34,9 +36,13 @@ testsBy S live next o more =
 abbrev pub submitTests : Model → Submission → List (Bool × Refusal) → List (Bool × Refusal)
 submitTests m o more = testsBy (m .settings) (length (m .jobs)) (m .next) o more
 
--- 7: "the ended ticket is not running: waiting, over or never given"
-unfoldable pub completeRefusal : Model → ℕ → Refusal
-completeRefusal m t = verdict ((not (any (picks (select.RunningTicket t)) (m .jobs)), refusal.NotRunning) ∷ [])
+-- 7: "the ended ticket is not running: waiting, over or never given"; 11: "the withdrawn ticket is not waiting"
+abbrev pub notThere : Departure → Refusal
+notThere Complete = refusal.NotRunning
+notThere Cancel = refusal.NotWaiting
+
+unfoldable pub departRefusal : Model → Departure → ℕ → Refusal
+departRefusal m h t = verdict ((not (any (picks (select.Departing h t)) (m .jobs)), notThere h) ∷ [])
 
 -- 6: "Step or `wait`: the clock would pass it"
 unfoldable pub tickRefusal : Model → Refusal

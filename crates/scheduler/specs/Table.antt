@@ -8,7 +8,9 @@ use Rattle.lists.specs.Lists.{keep, sum}
 use Rattle.lists.specs.Pads.{pad}
 use Rattle.scheduler.specs.declared.Job.{Job}
 use Rattle.scheduler.specs.declared.Scheduler.{Scheduler}
+use Rattle.scheduler.specs.declared.Departure.the-variants.{Complete, Cancel}
 use Rattle.scheduler.specs.declared.Select.{Select}
+use Rattle.scheduler.specs.declared.Select.the-variants as select
 use Rattle.scheduler.specs.declared.Tickets.{Tickets}
 use Rattle.scheduler.specs.Limits.{slots}
 use Rattle.scheduler.specs.Jobs.{held, picks}
@@ -34,6 +36,14 @@ tickets ts = record { count = length ts; list = pad slots 0 ts }
 -- the one ticket, or none
 abbrev pub oneIf : Bool → ℕ → List ℕ
 oneIf given t = cond given (t ∷ []) []
+
+-- the tickets ended, where those that a test picks leave: a job that is withdrawn has not run
+abbrev pub endedOf : Select → List Job → List ℕ
+endedOf select.Live js = ticketsOf (keep (picks select.Live) js)
+endedOf select.Waiting js = ticketsOf (keep (picks select.Waiting) js)
+endedOf (select.Departing Complete t) js = ticketsOf (keep (picks (select.Departing Complete t)) js)
+endedOf (select.Departing Cancel t) js = []
+endedOf (select.EndingAt S t) js = ticketsOf (keep (picks (select.EndingAt S t)) js)
 
 -- those that a test does not pick
 abbrev pub staying : Select → List Job → List Job

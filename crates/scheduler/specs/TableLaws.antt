@@ -6,6 +6,7 @@ use Prim.Native.Nat.{ℕ, _<_}
 use lib.ListN.{length, set}
 use Rattle.lists.specs.Pads.{sum-pad, pad-set}
 use Rattle.scheduler.specs.declared.Job.{Job}
+use Rattle.scheduler.specs.declared.Departure.the-variants.{Complete, Cancel}
 use Rattle.scheduler.specs.declared.Select.{Select}
 use Rattle.scheduler.specs.declared.Select.the-variants as select
 use Rattle.scheduler.specs.Limits.{slots}
@@ -17,7 +18,8 @@ use Rattle.scheduler.specs.Model.{Model, store, withModelJobs}
 pub picks-unused : (s : Select) → picks s unused ≡ false
 picks-unused select.Live = refl
 picks-unused select.Waiting = refl
-picks-unused (select.RunningTicket t) = refl
+picks-unused (select.Departing Complete t) = refl
+picks-unused (select.Departing Cancel t) = refl
 picks-unused (select.EndingAt S t) = refl
 
 module _ (m : Model) where

@@ -2,7 +2,7 @@
 ghost use mathlib.Core.Path.{_≡_};
 ghost use Prim.Native.Nat.{_≤_};
 ghost use Rattle.scheduler.specs.Limits.{maxNodes, longestEstimate, limits, outside};
-ghost use Rattle.scheduler.specs.Jobs.{unused, fresh, jobAt, picks};
+ghost use Rattle.scheduler.specs.Jobs.{unused, fresh, jobAt, isRunning, picks};
 ghost use Rattle.scheduler.specs.Settings.{refusedSettings, holdTime, unit};
 ghost use Rattle.scheduler.specs.Table.{tickets, oneIf};
 ghost use Rattle.scheduler.specs.Model.{store, empty};
@@ -69,6 +69,7 @@ pub enum Refusal {
     ProfileTooLong,
     Malformed,
     TooShort,
+    NotWaiting,
 }
 
 // Tickets in order; the places past the count are 0.
@@ -110,10 +111,16 @@ pub struct Submission {
     pub estimate: u32,
 }
 
+// How a job leaves on request: one that runs is over early, one that waits is withdrawn.
+pub enum Departure {
+    Complete,
+    Cancel,
+}
+
 // What a call asks of a scheduler.
 pub enum Request {
     Submit(Submission),
-    Complete(u32),
+    Depart(Departure, u32),
     Tick,
 }
 
@@ -121,7 +128,7 @@ pub enum Request {
 pub enum Select {
     Live,
     Waiting,
-    RunningTicket(u32),
+    Departing(Departure, u32),
     EndingAt(Settings, u32),
 }
 
@@ -150,6 +157,7 @@ impl Refusal {
             Refusal::ProfileTooLong => 8,
             Refusal::Malformed => 9,
             Refusal::TooShort => 10,
+            Refusal::NotWaiting => 11,
         }
     }
 
@@ -272,16 +280,28 @@ impl Job {
         }
     }
 
-    // Whether it runs and has this ticket.
-    pub fn runs_as(self, ticket: u32) -> bool
-        ensures { λ r. ⌜ r ≡ picks (Select.RunningTicket ticket) self ⌝ }
+    pub fn is_running(self) -> bool
+        ensures { λ r. ⌜ r ≡ isRunning self ⌝ }
     {
         let s = self.state;
         match s {
             State::Unused => false,
             State::Waiting => false,
-            State::Running => self.ticket == ticket,
+            State::Running => true,
         }
+    }
+
+    // Whether it can leave so and has this ticket.
+    pub fn departs(self, how: Departure, ticket: u32) -> bool
+        ensures { λ r. ⌜ r ≡ picks (Select.Departing how ticket) self ⌝ }
+    {
+        if self.ticket == ticket {
+            return match how {
+                Departure::Complete => self.is_running(),
+                Departure::Cancel => self.is_waiting(),
+            };
+        }
+        false
     }
 
     // Whether it runs and its nodes are free again from this minute on. (A difference, so that no sum can leave its range.)

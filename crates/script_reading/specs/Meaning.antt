@@ -22,7 +22,8 @@ use Rattle.text.specs.FieldLaws.{from-first}
 use Rattle.text.specs.Words.{isWord}
 use Rattle.scheduler.specs.declared.Kind.{Kind}
 use Rattle.scheduler.specs.declared.Opening.{Opening}
-use Rattle.history.specs.Calls.{Command, ask, wait, submit, order, complete, asked}
+use Rattle.scheduler.specs.declared.Departure.{Departure}
+use Rattle.history.specs.Calls.{Command, ask, wait, submit, depart, order, asked}
 use Rattle.script_rules.specs.Reading.{hasForm, numberAt, withNumber, withKind}
 use Rattle.script_reading.specs.declared.FirstLine.{FirstLine}
 use Rattle.script_reading.specs.declared.FirstLine.the-variants as first
@@ -133,8 +134,8 @@ openingOf k vs = some (record { settings = record { kind = k; nodes = getD vs 0 
 abbrev pub submissionOf : List ℕ → Option Command
 submissionOf vs = some (ask (submit (order (getD vs 0 0) (getD vs 1 0))))
 
-abbrev pub completionOf : List ℕ → Option Command
-completionOf vs = some (ask (complete (getD vs 0 0)))
+abbrev pub departureOf : Departure → List ℕ → Option Command
+departureOf h vs = some (ask (depart h (getD vs 0 0)))
 
 abbrev pub waitOf : List ℕ → Option Command
 waitOf vs = some (wait (getD vs 0 0))

@@ -1,5 +1,5 @@
 -- Every number that a line says is at most 9999999: document 01, "Numbers have 1 to 7 digits". And a line asks for no other call than
--- a submission and a completion.
+-- a submission, a completion and a withdrawal.
 -- Assumes nothing.
 use mathlib.Core.Path.{_≡_, refl, subst}
 use mathlib.Core.Bool.{Bool, true, false, cond}
@@ -13,8 +13,9 @@ use Rattle.text.specs.NumberLaws.{number-most}
 use Rattle.text.specs.Fields.{fieldOf}
 use Rattle.scheduler.specs.declared.Kind.{Kind}
 use Rattle.scheduler.specs.declared.Opening.{Opening}
-use Rattle.history.specs.Calls.{Command, ask, wait, submit, order, complete, tick, unchanged}
-use Rattle.script_rules.specs.Reading.{numberAt, withNumber, withKind, kindOf, hasForm, inWord, endWord, waitWord, deskWord, openingIn, commandIn}
+use Rattle.history.specs.Calls.{Command, ask, wait, submit, depart, order, complete, cancel, tick, unchanged}
+use Rattle.script_rules.specs.Reading.{numberAt, withNumber, withKind, kindOf, hasForm, inWord, endWord, waitWord, dropWord, deskWord, openingIn}
+use Rattle.script_rules.specs.Reading.{commandIn}
 
 abbrev pub Small : ℕ → Type 0
 Small n = n ≤ 9999999
@@ -24,7 +25,7 @@ SmallOpening o = Small (o .settings .nodes) × Small (o .minute) × Small (o .ti
 
 abbrev pub SmallCommand : Command → Type 0
 SmallCommand (ask (submit o)) = Small (o .nodes) × Small (o .estimate)
-SmallCommand (ask (complete t)) = Small t
+SmallCommand (ask (depart h t)) = Small t
 SmallCommand (ask tick) = ⊥
 SmallCommand (ask (unchanged why)) = ⊥
 SmallCommand (wait n) = Small n
@@ -71,8 +72,9 @@ command-small s =
     (any-field SmallCommand s 1 _ (λ n small-n. any-field SmallCommand s 2 _ (λ e small-e. any-some SmallCommand (ask (submit (order n e))) (small-n, small-e))))
     (any-cond SmallCommand (hasForm s 2 endWord) _ _
     (any-field SmallCommand s 1 _ (λ t small-t. any-some SmallCommand (ask (complete t)) small-t))
-    (any-cond SmallCommand (hasForm s 2 waitWord) _ none (any-field SmallCommand s 1 _ (λ n small-n. any-some SmallCommand (wait n) small-n))
-    (any-none SmallCommand)))
+    (any-cond SmallCommand (hasForm s 2 waitWord) _ _ (any-field SmallCommand s 1 _ (λ n small-n. any-some SmallCommand (wait n) small-n))
+    (any-cond SmallCommand (hasForm s 2 dropWord) _ none (any-field SmallCommand s 1 _ (λ t small-t. any-some SmallCommand (ask (cancel t)) small-t))
+    (any-none SmallCommand))))
 
 -- of a wait
 pub wait-small : (s : List ℕ) (n : ℕ) → commandIn s ≡ some (wait n) → n ≤ 9999999

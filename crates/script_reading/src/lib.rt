@@ -1,7 +1,8 @@
 // A line of a script, read into what it asks. Each field goes through the field reader to the number reader: there is no second parser.
 ghost use mathlib.Core.Path.{_≡_};
 ghost use Rattle.script_rules.specs.Reading.{withKind, kindOf, openingIn, commandIn};
-ghost use Rattle.script_reading.specs.Meaning.{opens, asks, follows, formFrom, whenRead, openingOf, submissionOf, completionOf, waitOf};
+ghost use Rattle.script_reading.specs.Meaning.{opens, asks, follows, formFrom, whenRead, openingOf, submissionOf, departureOf, waitOf};
+use scheduler::Departure;
 use scheduler::Kind;
 use scheduler::Opening;
 use scheduler::Request;
@@ -83,14 +84,14 @@ fn submission(given: Numbers) -> Asked
     }))
 }
 
-fn completion(given: Numbers) -> Asked
-    ensures { λ r. ⌜ asks r ≡ whenRead 1 given completionOf ⌝ }
+fn departure(how: Departure, given: Numbers) -> Asked
+    ensures { λ r. ⌜ asks r ≡ whenRead 1 given (departureOf how) ⌝ }
 {
     if given.count < 1 {
         return Asked::Malformed;
     }
     let v = given.values;
-    Asked::Call(Request::Complete(v[0]))
+    Asked::Call(Request::Depart(how, v[0]))
 }
 
 fn waiting(given: Numbers) -> Asked
@@ -118,7 +119,7 @@ pub fn read_first(line: &[u8]) -> FirstLine
     FirstLine::Malformed
 }
 
-// A later line submits a job, completes one, or waits.
+// A later line submits a job, completes or withdraws one, or waits.
 pub fn read_later(line: &[u8]) -> Asked
     ensures { λ r. ⌜ asks r ≡ commandIn (now (line .entry)) ⌝ }
 {
@@ -129,10 +130,13 @@ pub fn read_later(line: &[u8]) -> Asked
         return submission(given);
     }
     if has_form(count, first, 2, b"end") {
-        return completion(given);
+        return departure(Departure::Complete, given);
     }
     if has_form(count, first, 2, b"wait") {
         return waiting(given);
+    }
+    if has_form(count, first, 2, b"drop") {
+        return departure(Departure::Cancel, given);
     }
     Asked::Malformed
 }

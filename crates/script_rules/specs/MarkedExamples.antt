@@ -174,7 +174,7 @@ unfolding
     times.holdTime
     times.unit
     times.until
-    refusals.completeRefusal
+    refusals.departRefusal
     refusals.tickRefusal
     refusals.waitRefusal
     spans.takes
@@ -189,7 +189,7 @@ unfolding
     conservative.submitted
     conservative.advanced
     conservative.pass
-    conservative.completed
+    conservative.departed
     conservative.ticked
     conservative.call
     easy.shadow

@@ -1,5 +1,5 @@
 -- What a line says. Document 01: "First line: `desk`, `promise` or `loose`, nodes, minute, ticket. Later: `in` nodes estimate; `end`
--- ticket; `wait` minutes"; "fields parted by one tab". Every other line "lacks the form".
+-- ticket; `wait` minutes"; "fields parted by one tab"; document 02, No. 1: `drop` ticket. Every other line "lacks the form".
 -- Assumes nothing.
 use mathlib.Core.Bool.{Bool, true, false, cond, _&&_}
 use mathlib.Core.List.{List, [], _∷_}
@@ -15,7 +15,7 @@ use Rattle.text.specs.Words.{isWord}
 use Rattle.scheduler.specs.declared.Kind.{Kind}
 use Rattle.scheduler.specs.declared.Kind.the-variants.{Conservative, Easy}
 use Rattle.scheduler.specs.declared.Opening.{Opening}
-use Rattle.history.specs.Calls.{Command, ask, wait, submit, order, complete}
+use Rattle.history.specs.Calls.{Command, ask, wait, submit, order, complete, cancel}
 use Rattle.script_rules.specs.Lines.{Line}
 
 abbrev pub deskWord : List ℕ
@@ -35,6 +35,9 @@ endWord = 101 ∷ 110 ∷ 100 ∷ []
 
 abbrev pub waitWord : List ℕ
 waitWord = 119 ∷ 97 ∷ 105 ∷ 116 ∷ []
+
+abbrev pub dropWord : List ℕ
+dropWord = 100 ∷ 114 ∷ 111 ∷ 112 ∷ []
 
 -- the field k as a number
 abbrev pub numberAt : List ℕ → ℕ → Parsed
@@ -72,7 +75,10 @@ commandIn s =
     (cond
     (hasForm s 2 endWord)
     (withNumber (numberAt s 1) (λ t. some (ask (complete t))))
-    (cond (hasForm s 2 waitWord) (withNumber (numberAt s 1) (λ n. some (wait n))) none))
+    (cond
+    (hasForm s 2 waitWord)
+    (withNumber (numberAt s 1) (λ n. some (wait n)))
+    (cond (hasForm s 2 dropWord) (withNumber (numberAt s 1) (λ t. some (ask (cancel t)))) none)))
 
 -- "An unclosed last line is refused by 9."
 abbrev pub closedOnly : {A : Type 0} → Bool → Option A → Option A

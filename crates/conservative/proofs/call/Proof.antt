@@ -18,7 +18,7 @@ returns c =
 returns-2 : tie.Need-returns-2
 returns-2 c =
     let m = view (c .before .before .before .before .args .d) in
-    c .complete .ensures ∙ ap (λ (q : Request). outcome (call m (asked q))) (sym (c .before .before .request2 .given .1))
+    c .depart .ensures ∙ ap (λ (q : Request). outcome (call m (asked q))) (sym (c .before .before .request2 .given .1))
 
 returns-3 : tie.Need-returns-3
 returns-3 c =

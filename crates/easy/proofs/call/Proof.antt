@@ -5,7 +5,7 @@ use borrow.Author.Needs.{needs}
 use Rattle.scheduler.specs.Model.{Model, view}
 use Rattle.scheduler.specs.Answers.{outcome}
 use Rattle.easy_rules.specs.Easy.{head}
-use Rattle.easy_engine.specs.Survey.{headBefore}
+use Rattle.easy_engine.specs.Survey.{ticketIn, headBefore}
 use Rattle.job_table.specs.declared.Part.{Part}
 use Rattle.job_table.specs.Parts.{Own, part, handed}
 use Rattle.easy.specs.Parts.{own, answering}
@@ -30,8 +30,8 @@ returns c =
     let o = own m q in
     let k : c .before .own-part .result ≡ part o = c .before .own-part .ensures in
     c .finish .ensures m (o .ended) (ap (λ (p : Part). p .ended) k)
-    (ap (λ (p : Part). headBefore (p .ticket) (head (view (p .scheduler)))) k
-    ∙ ap (λ (n : Model). headBefore (o .ticket) (head n)) (stored-view (o .model) (own-ready m v q))
+    (ap (λ (p : Part). headBefore (p .ticket) (p .withdrawn) (ticketIn (head (view (p .scheduler))))) k
+    ∙ ap (λ (n : Model). headBefore (o .ticket) (o .withdrawn) (ticketIn (head n))) (stored-view (o .model) (own-ready m v q))
     ∙ own-before m v q)
     ∙ ap (λ (p : Part). outcome (answering m (handed p (o .ended)))) k
     ∙ ap (λ (x : Own). outcome (answering m x)) (handed-part o (own-ready m v q))

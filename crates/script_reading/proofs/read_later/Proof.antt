@@ -6,9 +6,10 @@ use mathlib.Core.List.{List}
 use mathlib.Core.Option.{Option}
 use Prim.Native.Nat.{ℕ, _≤_}
 use native.Mathlib.Omega.{arith}
+use Rattle.scheduler.specs.declared.Departure.the-variants.{Complete, Cancel}
 use Rattle.history.specs.Calls.{Command}
-use Rattle.script_rules.specs.Reading.{hasForm, inWord, endWord, waitWord, commandIn}
-use Rattle.script_reading.specs.Meaning.{formFrom, form-said, whenRead, withNumbers, with-read, submissionOf, completionOf, waitOf}
+use Rattle.script_rules.specs.Reading.{hasForm, inWord, endWord, waitWord, dropWord, commandIn}
+use Rattle.script_reading.specs.Meaning.{formFrom, form-said, whenRead, withNumbers, with-read, submissionOf, departureOf, waitOf}
 use borrow.Author.Needs.{needs}
 use Rattle.script_reading.proofs.read_later.Statement.{statement}
 use Rattle.script_reading.proofs.read_later.Tie as tie
@@ -31,6 +32,10 @@ not-in c = form (c .before .before .before) 3 inWord (c .before .has-form .ensur
 not-end : (c : tie.Else2) → hasForm (line (c .before .before .before .before .before .before)) 2 endWord ≡ false
 not-end c = form (c .before .before .before .before .before .before) 2 endWord (c .before .has-form2 .ensures) (c .if2 .left)
 
+not-wait : (c : tie.Else3) → hasForm (line (c .before .before .before .before .before .before .before .before .before)) 2 waitWord ≡ false
+not-wait c =
+    form (c .before .before .before .before .before .before .before .before .before) 2 waitWord (c .before .has-form3 .ensures) (c .if3 .left)
+
 returns : tie.Need-returns
 unfolding commandIn
 returns c =
@@ -44,7 +49,7 @@ returns-2 c =
     let p = c .before in
     let q = p .before .before .before in
     let n = q .before .before .before in
-    rw (not-in q, form n 2 endWord (p .before .has-form2 .ensures) (p .if2 .taken)) (c .completion .ensures ∙ says n 1 completionOf (omega arith))
+    rw (not-in q, form n 2 endWord (p .before .has-form2 .ensures) (p .if2 .taken)) (c .departure .ensures ∙ says n 1 (departureOf Complete) (omega arith))
 
 returns-3 : tie.Need-returns-3
 unfolding commandIn
@@ -58,12 +63,24 @@ returns-3 c =
 returns-4 : tie.Need-returns-4
 unfolding commandIn
 returns-4 c =
-    let q = c .before .before .before in
+    let p = c .before in
+    let o = p .before .before .before in
+    let q = o .before .before .before in
     let r = q .before .before .before in
-    rw (not-in r, not-end q, form (r .before .before .before) 2 waitWord (c .before .has-form3 .ensures) (c .if3 .left))
+    let n = r .before .before .before in
+    rw (not-in r, not-end q, not-wait o, form n 2 dropWord (p .before .has-form4 .ensures) (p .if4 .taken))
+    (c .departure2 .ensures ∙ says n 1 (departureOf Cancel) (omega arith))
+
+returns-5 : tie.Need-returns-5
+unfolding commandIn
+returns-5 c =
+    let o = c .before .before .before in
+    let q = o .before .before .before in
+    let r = q .before .before .before in
+    rw (not-in r, not-end q, not-wait o, form (r .before .before .before) 2 dropWord (c .before .has-form4 .ensures) (c .if4 .left))
 
 pub read-later-spec : {M : Type 1} → statement M
 read-later-spec =
     tie.close (tie.spec (λ c κs. search needs) (λ c κs. search needs) (λ c κs. search needs) (λ c. search needs) (λ c κs. search needs)
     (λ c κs. search needs) returns (λ c. search needs) (λ c κs. search needs) (λ c κs. search needs) returns-2 (λ c. search needs)
-    (λ c κs. search needs) (λ c κs. search needs) returns-3 returns-4)
+    (λ c κs. search needs) (λ c κs. search needs) returns-3 (λ c. search needs) (λ c κs. search needs) (λ c κs. search needs) returns-4 returns-5)

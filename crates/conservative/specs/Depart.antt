@@ -1,0 +1,78 @@
+-- What the code of an early completion or a withdrawal computes on a stored model is the definition's.
+-- Assumes nothing.
+use mathlib.Core.Path.{_≡_, refl, sym, ap, _∙_}
+use mathlib.Core.Bool.{true, false, not}
+use mathlib.Core.List.{[]}
+use Prim.Native.Nat.{ℕ}
+use native.Mathlib.Omega.{arith}
+use Rattle.lists.specs.Lists.{keep-in}
+use Rattle.scheduler.specs.declared.Job.{Job}
+use Rattle.scheduler.specs.declared.Outcome.{Outcome}
+use Rattle.scheduler.specs.declared.Departure.{Departure}
+use Rattle.scheduler.specs.declared.Select.the-variants as select
+use Rattle.scheduler.specs.Jobs.{picks}
+use Rattle.scheduler.specs.Table.{withJobs}
+use Rattle.scheduler.specs.Model.{Model, store, view, without, withModelJobs}
+use Rattle.scheduler.specs.Answers.{outcome, accepts}
+use Rattle.scheduler.specs.Refusals.{departRefusal}
+use Rattle.jobs.specs.Soundness.{Sound, sound-leave, early, all-live}
+use Rattle.jobs.specs.Premise.{Holds, store-holds}
+use Rattle.job_table.specs.declared.Part.{Part}
+use Rattle.job_table.specs.Parts.{Own, departing, withdrawnBy, leaving, part, own-taken, own-refused}
+use Rattle.history.specs.Calls.{depart}
+use Rattle.conservative_rules.specs.Conservative.{pass, call, departed}
+use Rattle.conservative_laws.specs.Validity.{Valid, used-staying}
+use Rattle.conservative.specs.Advance.{advancedBy, refused-stored, advanced-stored}
+use Rattle.conservative_plan.specs.Pass.{Replannable, pass-stored, pass-length}
+
+-- what the code computes of the table after its part: the jobs that stay have their turns
+abbrev pub departsBy : Part → Outcome
+departsBy p = advancedBy p (withJobs (p .scheduler) (pass (view (p .scheduler) .settings) (p .scheduler .clock) [] (p .scheduler .jobs)))
+
+module _ (m : Model) (h : Departure) (t : ℕ) (v : Valid m) where
+  abbrev rest : Model
+  rest = without m (m .clock) (select.Departing h t)
+
+  sound-rest : Sound rest
+  sound-rest = sound-leave m (m .clock) (select.Departing h t) (v .sound) (early h t)
+
+  replannable : Replannable rest
+  replannable = record {
+    planned = record { sound = sound-rest; room = λ r l. omega (arith, used-staying (m .settings) r (select.Departing h t) (m .jobs), v .room r l) };
+    ahead = λ j i w. v .ahead j (keep-in (λ (k : Job). not (picks (select.Departing h t) k)) (m .jobs) i .0) w;
+  }
+
+  rest-held : Holds Replannable (store rest)
+  rest-held = store-holds Replannable rest (all-live rest sound-rest) replannable
+
+  abbrev after-pass : Model
+  after-pass = withModelJobs rest (pass (rest .settings) (rest .clock) [] (rest .jobs))
+
+  pass-is : withJobs (store rest) (pass (view (store rest) .settings) (store rest .clock) [] (store rest .jobs)) ≡ store after-pass
+  unfolding view store
+  pass-is = pass-stored rest replannable
+
+  taken-is : departsBy (part (leaving m (m .clock) (select.Departing h t) (withdrawnBy h t))) ≡ outcome (departed m h t)
+  unfolding departed
+  taken-is =
+      ap (advancedBy (part (leaving m (m .clock) (select.Departing h t) (withdrawnBy h t)))) pass-is
+      ∙ advanced-stored m (m .clock) (select.Departing h t) (withdrawnBy h t) (after-pass .jobs) (sym (pass-length (rest .settings) (rest .clock) [] (rest .jobs)))
+
+  abbrev own : Own
+  own = departing m h t
+
+  module _ (a : accepts (own .refusal) ≡ true) where
+    pub replannable-held : Holds Replannable (store (own .model))
+    replannable-held = rw (own-taken m (departRefusal m h t) (leaving m (m .clock) (select.Departing h t) (withdrawnBy h t)) a .1) rest-held
+
+    pub taken-held : departsBy (part own) ≡ outcome (call m (depart h t))
+    unfolding call
+    taken-held =
+        let o = own-taken m (departRefusal m h t) (leaving m (m .clock) (select.Departing h t) (withdrawnBy h t)) a in
+        ap (λ (x : Own). departsBy (part x)) (o .1) ∙ taken-is ∙ rw (o .0)
+
+  pub refused-held : accepts (own .refusal) ≡ false → advancedBy (part own) (store (own .model)) ≡ outcome (call m (depart h t))
+  unfolding call
+  refused-held a =
+      let o = own-refused m (departRefusal m h t) (leaving m (m .clock) (select.Departing h t) (withdrawnBy h t)) refl a in
+      ap (λ (x : Own). advancedBy (part x) (store (x .model))) (o .1) ∙ refused-stored m (departRefusal m h t) ∙ rw (o .0)

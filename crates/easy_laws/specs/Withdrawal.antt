@@ -1,0 +1,115 @@
+-- For the reader: a job behind the head is withdrawn, and nothing else changes: nobody starts, the head hears nothing new, and its shadow
+-- stays. And what this kind owes of tickets, from which it follows that one withdrawn is in no later answer.
+-- Assumes nothing.
+use Prim.Native.Nat.{ℕ, _+_, _-_}
+use native.Mathlib.Omega.{arith}
+use mathlib.Core.Path.{_≡_, refl, sym, ap, _∙_}
+use mathlib.Core.Bool.{Bool, true, false, not, _&&_, _||_}
+use mathlib.Core.Option.{none}
+use mathlib.Core.List.{List, [], _∷_, head?}
+use mathlib.Core.Logic.{⊎-elim}
+use lib.Dec.{leb, eqb}
+use borrow.Author.Tests.{lt-leb, ne-eqb}
+use Rattle.lists.specs.Tests.{true-false}
+use Rattle.lists.specs.Lists.{keep, first, elem, In, here, there, keep-in}
+use Rattle.scheduler.specs.declared.Departure.the-variants.{Cancel}
+use Rattle.scheduler.specs.declared.Job.{Job}
+use Rattle.scheduler.specs.declared.Select.the-variants as select
+use Rattle.scheduler.specs.Jobs.{isRunning}
+use Rattle.scheduler.specs.Settings.{holdTime}
+use Rattle.scheduler.specs.Table.{ticketsOf}
+use Rattle.scheduler.specs.Model.{Model}
+use Rattle.scheduler.specs.Answers.{Result, accepts}
+use Rattle.scheduler.specs.Refusals.{departRefusal}
+use Rattle.jobs.specs.Judgement.{judged-accepted}
+use Rattle.jobs.specs.Departing.{ended-ran}
+use Rattle.jobs.specs.Soundness.{early, in-time}
+use Rattle.history.specs.Calls.{Call, cancel}
+use Rattle.history_proof.specs.Obligations.{Ticketed}
+use Rattle.easy_rules.specs.Easy.{queue, head, free, avail, shadow, extra, qualifies, pick, choice, Settling, finished, advanced, call}
+use Rattle.easy_laws.specs.Settling.{none-starts}
+use Rattle.easy_laws.specs.Course.{OnCourse, left, queue-left, free-left, avail-left, shadow-left}
+use Rattle.easy_laws.specs.EngineLaws.{settle-rests}
+use Rattle.easy_laws.specs.Validity.{Valid, OwnPart, submits, departs, ticks, CallAccepted, Unchanged, called}
+use Rattle.easy_laws.specs.Obligations.{waits-queued, taken-joins, quiet-comes}
+use Rattle.easy_laws.specs.Sentences.{call-next}
+
+-- none found where no element passes
+first-of-none : (p : Job → Bool) (js : List Job) → ((j : Job) → In j js → p j ≡ false) → first p js ≡ none
+first-of-none p [] f = refl
+first-of-none p (j ∷ js) f = rw (f j (here refl)) (first-of-none p js (λ k i. f k (there i)))
+
+module _ (m : Model) (t : ℕ) (v : Valid m) (h : Job) (later : List Job) (e : queue (m .jobs) ≡ h ∷ later) (n : h .ticket ≡ t → ⊥) where
+  abbrev others : List Job
+  others = keep (λ (j : Job). not (eqb (j .ticket) t)) later
+
+  queue-others : queue (left m t (v .ready .sound) .jobs) ≡ h ∷ others
+  queue-others = rw (e, ne-eqb (h .ticket) t n) at (queue-left m t (v .ready .sound))
+
+  -- nobody qualifies who did not
+  qualifies-left : (j : Job) → qualifies (left m t (v .ready .sound)) h j ≡ qualifies m h j
+  unfolding qualifies extra
+  qualifies-left j =
+      ap (λ (f : ℕ). by f (shadow l (h .nodes)) (avail l (shadow l (h .nodes)))) (free-left m t (v .ready .sound))
+      ∙ ap (λ (s : ℕ). by (free m) s (avail l s)) (shadow-left m t (v .ready .sound) (h .nodes))
+      ∙ ap (by (free m) (shadow m (h .nodes))) (avail-left m t (v .ready .sound) (shadow m (h .nodes)))
+    where
+      l : Model
+      l = left m t (v .ready .sound)
+
+      by : (now shadow then : ℕ) → Bool
+      by now shadow then =
+          leb (j .nodes) now && (leb (m .clock + holdTime (m .settings) (j .estimate)) shadow || leb (j .nodes) (then - h .nodes))
+
+  withdrawn-rests : choice (left m t (v .ready .sound)) ≡ none
+  unfolding pick
+  withdrawn-rests =
+      let x = none-starts m h later (ap (pick m) (sym e) ∙ v .rests) in
+      let l : leb (h .nodes) (free (left m t (v .ready .sound))) ≡ false = lt-leb (h .nodes) (free (left m t (v .ready .sound))) (omega (arith, x .0, free-left m t (v .ready .sound))) in
+      ap (pick (left m t (v .ready .sound))) queue-others
+      ∙ rw l (first-of-none (qualifies (left m t (v .ready .sound)) h) others
+      (λ j i. qualifies-left j ∙ x .1 j (keep-in (λ (j : Job). not (eqb (j .ticket) t)) later i .0)))
+
+  pub record Undisturbed : Type 0 where
+    pub none-starts : call m (cancel t) .reply .started ≡ []
+    pub head-stays : head (call m (cancel t) .model) ≡ head m
+    pub shadow-stays : (k : ℕ) → shadow (call m (cancel t) .model) k ≡ shadow m k
+
+  -- Document 02, No. 1, of the withdrawal of a later job.
+  pub later-withdrawn : accepts (call m (cancel t) .reply .refusal) ≡ true → Undisturbed
+  unfolding call advanced finished
+  later-withdrawn a =
+      let l = left m t (v .ready .sound) in
+      let j = judged-accepted m (departRefusal m Cancel t) (advanced m (m .clock) (select.Departing Cancel t)) a .1 in
+      let s = settle-rests l withdrawn-rests in
+      let q : call m (cancel t) .model ≡ l = ap (λ (o : Result). o .model) j ∙ ap (λ (x : Settling). x .model) s in
+      record {
+        none-starts = ap (λ (o : Result). o .reply .started) j ∙ ap (λ (x : Settling). x .started) s;
+        head-stays = ap head q ∙ ap head? queue-others ∙ sym (ap head? e);
+        shadow-stays = λ k. ap (λ (x : Model). shadow x k) q ∙ shadow-left m t (v .ready .sound) k;
+      }
+
+-- ## Tickets
+
+moved-ran : {m : Model} {c : Call} {mid : Model} {t : ℕ} {ts : List ℕ} → OwnPart m c mid t ts → (u : ℕ) → elem u ts ≡ true
+    → elem u (ticketsOf (keep isRunning (m .jobs))) ≡ true
+moved-ran (submits o f room) u e = true-false false e refl
+moved-ran {m} (departs h t a) u e = ended-ran m _ _ (early h t) u e
+moved-ran {m} (ticks l) u e = ended-ran m _ _ (in-time l) u e
+
+pub easy-ticketed : Ticketed call Valid OnCourse
+easy-ticketed = record {
+  sound = λ m v. v .ready .sound;
+  next = call-next;
+  gives = λ m c o v i.
+      ⊎-elim
+      (λ (t : CallAccepted m c (call m c)). taken-joins m c (call m c) v t o i .0)
+      (λ (q : Unchanged m c (call m c)). quiet-comes m c (call m c) v q o i)
+      (called m c v);
+  ends = λ m c t v e.
+      ⊎-elim
+      (λ (x : CallAccepted m c (call m c)). moved-ran (x .moved) t e)
+      (λ (q : Unchanged m c (call m c)). true-false false (ap (λ (o : Result). elem t (o .reply .ended)) (sym (q .same)) ∙ e) refl)
+      (called m c v);
+  waits = λ m t b o. waits-queued m t (o .waits);
+}

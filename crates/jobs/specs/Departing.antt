@@ -1,0 +1,56 @@
+-- A job leaves on request, early or withdrawn: it is the only one of its ticket. Whose run ends ran.
+-- Assumes nothing.
+use mathlib.Core.Path.{_≡_, refl, subst}
+use mathlib.Core.Bool.{true, false}
+use mathlib.Core.List.{List, [], _∷_}
+use Prim.Native.Nat.{ℕ, suc, _<_}
+use native.Mathlib.Omega.{arith}
+use lib.Dec.{eqb}
+use borrow.Author.Tests.{eqb-true, ne-eqb}
+use Rattle.lists.specs.Tests.{case, true-false, both, and-right-false}
+use Rattle.lists.specs.Lists.{keep, any, elem, In, keep-in, in-keep, keep-none}
+use Rattle.scheduler.specs.declared.Departure.{Departure}
+use Rattle.scheduler.specs.declared.Departure.the-variants.{Complete, Cancel}
+use Rattle.scheduler.specs.declared.Job.{Job}
+use Rattle.scheduler.specs.declared.Select.{Select}
+use Rattle.scheduler.specs.declared.Select.the-variants as select
+use Rattle.scheduler.specs.Jobs.{isRunning, departs?, departsAs, picks}
+use Rattle.scheduler.specs.Table.{ticketsOf, endedOf}
+use Rattle.scheduler.specs.Model.{Model, ending}
+use Rattle.scheduler.specs.Answers.{accepts}
+use Rattle.scheduler.specs.Refusals.{notThere}
+use Rattle.jobs.specs.Order.{Asc, asc-in, elem-job, job-elem}
+use Rattle.jobs.specs.Soundness.{Leaving, early, in-time, endsRuns, leaving-runs}
+
+pub not-there : (h : Departure) → accepts (notThere h) ≡ false
+not-there Complete = refl
+not-there Cancel = refl
+
+module _ (h : Departure) (t : ℕ) where
+  -- no job after one of this ticket has it
+  pub none-departs : (lo : ℕ) (js : List Job) → t < lo → Asc lo js → (j : Job) → In j js → departsAs h t j ≡ false
+  none-departs lo js l a j i = and-right-false (departs? h (j .state)) (ne-eqb (j .ticket) t (λ e. omega (arith, asc-in lo js a i)))
+
+  pub departs-alone : (lo : ℕ) (js : List Job) → Asc lo js → any (departsAs h t) js ≡ true → ticketsOf (keep (departsAs h t) js) ≡ t ∷ []
+  departs-alone lo [] a e = true-false false e refl
+  departs-alone lo (j ∷ js) a e = case (departsAs h t j) (λ y. found y) (λ y. rw y (departs-alone (suc (j .ticket)) js (a .1) (rw y at e)))
+    where
+      found : departsAs h t j ≡ true → ticketsOf (keep (departsAs h t) (j ∷ js)) ≡ t ∷ []
+      found y =
+          let is : j .ticket ≡ t = eqb-true (j .ticket) t (both (departs? h (j .state)) (eqb (j .ticket) t) y .1) in
+          rw (y, keep-none (departsAs h t) js (none-departs (suc (j .ticket)) js (omega arith) (a .1)), is)
+
+picked-ran : (s : Select) → endsRuns s ≡ true → (js : List Job) (u : ℕ) → elem u (ticketsOf (keep (picks s) js)) ≡ true
+    → elem u (ticketsOf (keep isRunning js)) ≡ true
+picked-ran s n js u e =
+    let j = elem-job u (keep (picks s) js) e in
+    let k = keep-in (picks s) js (j .1) in
+    subst (λ (t : ℕ). elem t (ticketsOf (keep isRunning js)) ≡ true) (j .2)
+    (job-elem (keep isRunning js) (in-keep isRunning (k .0) (leaving-runs s n (j .0) (k .1))))
+
+-- whose run ends ran
+pub ended-ran : (m : Model) (c : ℕ) (s : Select) → Leaving m c s → (u : ℕ) → elem u (endedOf s (m .jobs)) ≡ true
+    → elem u (ticketsOf (keep isRunning (m .jobs))) ≡ true
+ended-ran m c s (early Complete t) u e = picked-ran (select.Departing Complete t) refl (m .jobs) u e
+ended-ran m c s (early Cancel t) u e = true-false false e refl
+ended-ran m c s (in-time l) u e = picked-ran (ending m) refl (m .jobs) u e
