@@ -16,7 +16,8 @@
  * What is proved. Each call gives exactly what its definition says (docs/ARCHITECTURE.md): answer, desk and points. Over every list of
  * calls on a desk: a job of a Promise Desk starts no later than its promise; a job of a Loose Desk starts no later than its bound, the
  * minute of its submission + 10,080 for each job that waited then and for itself; every head of a Loose Desk hears a forecast and starts
- * no later; and the jobs that run never hold more nodes than the machine has.
+ * no later; and the jobs that run never hold more nodes than the machine has. A promise, a bound and a forecast bind until the job is
+ * withdrawn: that was before any of these minutes. A job that is withdrawn never starts.
  */
 #ifndef HINGEROTA_H
 #define HINGEROTA_H
@@ -48,7 +49,8 @@ enum {
     HINGEROTA_PAST_LAST_MINUTE = 6,     /* a job that could end after minute 1,000,000; a tick or a wait past it */
     HINGEROTA_NOT_RUNNING = 7,          /* the ticket is of no running job */
     HINGEROTA_PROFILE_TOO_LONG = 8,     /* more than 129 points; proved never to occur */
-    HINGEROTA_TOO_SHORT = 10            /* the points do not fit into the list lent */
+    HINGEROTA_TOO_SHORT = 10,           /* the points do not fit into the list lent */
+    HINGEROTA_NOT_WAITING = 11          /* the ticket is of no waiting job */
 };
 
 enum { HINGEROTA_PROMISE = 0, HINGEROTA_LOOSE = 1 };                       /* of a desk */
@@ -131,6 +133,10 @@ hingerota_answer hingerota_submit(hingerota_desk *d, hingerota_order order);
 
 /* A running job is over before its time: it stands in `ended`, and those that start now in `started`. Refused by 7. */
 hingerota_answer hingerota_complete(hingerota_desk *d, uint32_t ticket);
+
+/* A waiting job is withdrawn: it leaves without having started, and stands in neither list. For the others it is as if a job were over
+ * before its time: those that start now stand in `started`. Refused by 11. */
+hingerota_answer hingerota_cancel(hingerota_desk *d, uint32_t ticket);
 
 /* One minute passes: those whose time is over end, and those whose turn has come start. Refused by 6, at minute 1,000,000. */
 hingerota_answer hingerota_tick(hingerota_desk *d);

@@ -62,6 +62,11 @@ impl Desk {
         unsafe { raw::hingerota_complete(&mut self.raw, ticket) }
     }
 
+    /// A waiting job is withdrawn; refused by 11.
+    pub fn cancel(&mut self, ticket: u32) -> Answer {
+        unsafe { raw::hingerota_cancel(&mut self.raw, ticket) }
+    }
+
     /// One minute passes; refused by 6.
     pub fn tick(&mut self) -> Answer {
         unsafe { raw::hingerota_tick(&mut self.raw) }
@@ -136,6 +141,7 @@ pub fn reason(refusal: u32) -> &'static str {
         7 => "the ticket is not running",
         8 => "the profile would have more than 129 points",
         10 => "the list is too short",
+        11 => "the ticket is not waiting",
         _ => "no such refusal",
     }
 }

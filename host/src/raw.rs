@@ -88,6 +88,7 @@ extern "C" {
     pub fn hingerota_open_loose(opening: Opening) -> Opened;
     pub fn hingerota_submit(d: *mut Desk, order: Order) -> Answer;
     pub fn hingerota_complete(d: *mut Desk, ticket: u32) -> Answer;
+    pub fn hingerota_cancel(d: *mut Desk, ticket: u32) -> Answer;
     pub fn hingerota_tick(d: *mut Desk) -> Answer;
     pub fn hingerota_profile(d: *const Desk, points: *mut Point, room: usize) -> Shown;
     pub fn hingerota_wait_refusal(d: *const Desk, minutes: u32) -> u32;

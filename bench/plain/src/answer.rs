@@ -10,6 +10,7 @@ pub enum Refusal {
     Horizon = 6,
     NotRunning = 7,
     Form = 9,
+    NotWaiting = 11,
 }
 
 /// The printout.

@@ -153,7 +153,23 @@ impl Conservative {
         let ended = self.jobs.remove(at);
         self.profile.release(self.now, ended.until, ended.nodes);
         out.over(ticket, self.now);
-        // Each waiting job once, in ticket order, the others staying where they are: it moves forward or stays.
+        self.replan(out);
+        Ok(())
+    }
+
+    pub fn cancel(&mut self, ticket: u32, out: &mut Printout) -> Result<(), Refusal> {
+        let at = self.jobs.binary_search_by_key(&ticket, |j| j.ticket).map_err(|_| Refusal::NotWaiting)?;
+        if self.jobs[at].running {
+            return Err(Refusal::NotWaiting);
+        }
+        let withdrawn = self.jobs.remove(at);
+        self.profile.release(withdrawn.start, withdrawn.until, withdrawn.nodes);
+        self.replan(out);
+        Ok(())
+    }
+
+    /// Each waiting job once, in ticket order, the others staying where they are: it moves forward or stays.
+    fn replan(&mut self, out: &mut Printout) {
         for job in self.jobs.iter_mut().filter(|j| !j.running) {
             let wall = job.until - job.start;
             self.profile.release(job.start, job.until, job.nodes);
@@ -165,7 +181,6 @@ impl Conservative {
                 out.start(job.ticket, self.now);
             }
         }
-        Ok(())
     }
 
     /// As many ticks. Minutes in which nothing ends or starts are passed over.

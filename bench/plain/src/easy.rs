@@ -81,6 +81,13 @@ impl Easy {
         Ok(())
     }
 
+    pub fn cancel(&mut self, ticket: u32, out: &mut Printout) -> Result<(), Refusal> {
+        let at = self.queue.binary_search_by_key(&ticket, |j| j.ticket).map_err(|_| Refusal::NotWaiting)?;
+        self.queue.remove(at);
+        self.settle(out);
+        Ok(())
+    }
+
     /// As many ticks. A tick in which nothing ends starts nothing: free nodes and the shadow are as before, and there is less room
     /// before the shadow. Such ticks are passed over.
     pub fn advance(&mut self, minutes: u32, out: &mut Printout) {

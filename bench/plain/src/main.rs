@@ -34,6 +34,13 @@ impl Scheduler {
         }
     }
 
+    fn cancel(&mut self, ticket: u32, out: &mut Printout) -> Result<(), Refusal> {
+        match self {
+            Scheduler::Conservative(s) => s.cancel(ticket, out),
+            Scheduler::Easy(s) => s.cancel(ticket, out),
+        }
+    }
+
     fn wait(&mut self, minutes: u32, out: &mut Printout) -> Result<(), Refusal> {
         let now = match self {
             Scheduler::Conservative(s) => s.now(),
@@ -102,6 +109,8 @@ fn call(line: &[u8], scheduler: &mut Scheduler, out: &mut Printout) -> Result<()
         scheduler.submit(number(nodes)?, number(estimate)?, out)
     } else if let Some(rest) = line.strip_prefix(b"end\t") {
         scheduler.complete(number(rest)?, out)
+    } else if let Some(rest) = line.strip_prefix(b"drop\t") {
+        scheduler.cancel(number(rest)?, out)
     } else if let Some(rest) = line.strip_prefix(b"wait\t") {
         scheduler.wait(number(rest)?, out)
     } else {

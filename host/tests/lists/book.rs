@@ -4,14 +4,35 @@ use crate::model::{held, LONGEST_ESTIMATE};
 use hingerota_host::{Answer, Kind, Tickets};
 use std::collections::BTreeMap;
 
+/// What has become of a job taken in.
+#[derive(Clone, Copy, PartialEq, Eq, Debug)]
+enum Fate {
+    Waiting,
+    /// Since that minute.
+    Running(u32),
+    Ended,
+    /// In that minute.
+    Withdrawn(u32),
+}
+
 struct Entry {
     nodes: u32,
     promise: u32,
     bound: u32,
     forecast: Option<u32>,
-    start: Option<u32>,
-    ended: bool,
+    fate: Fate,
     hold: u32,
+}
+
+impl Entry {
+    /// What was told of its start, by name: on a Promise Desk its promise, on a Loose Desk its bound, and a forecast if it has heard one.
+    fn deadlines(&self, kind: Kind) -> impl Iterator<Item = (&'static str, u32)> {
+        let own = match kind {
+            Kind::Promise => ("promise", self.promise),
+            Kind::Loose => ("bound", self.bound),
+        };
+        std::iter::once(own).chain(self.forecast.map(|minute| ("forecast", minute)))
+    }
 }
 
 pub struct Book {
@@ -23,12 +44,13 @@ pub struct Book {
     pub tried: Tried,
 }
 
-/// How often each claim was tried: of jobs that started, of heads and of sums of nodes after a call.
+/// How often each claim was tried: of jobs that started, of those withdrawn, of heads and of sums of nodes after a call.
 #[derive(Default, Clone, Copy)]
 pub struct Tried {
     pub promises: u64,
     pub bounds: u64,
     pub forecasts: u64,
+    pub withdrawn: u64,
     pub heads: u64,
     pub sums: u64,
 }
@@ -38,6 +60,7 @@ impl Tried {
         self.promises += other.promises;
         self.bounds += other.bounds;
         self.forecasts += other.forecasts;
+        self.withdrawn += other.withdrawn;
         self.heads += other.heads;
         self.sums += other.sums;
     }
@@ -45,7 +68,8 @@ impl Tried {
 
 pub enum Call {
     Submit { nodes: u32, estimate: u32 },
-    Complete,
+    Complete { ticket: u32 },
+    Cancel { ticket: u32 },
     Tick,
 }
 
@@ -64,7 +88,7 @@ impl Book {
     }
 
     fn waiting(&self) -> impl Iterator<Item = (&u32, &Entry)> {
-        self.entries.iter().filter(|(_, e)| e.start.is_none())
+        self.entries.iter().filter(|(_, e)| e.fate == Fate::Waiting)
     }
 
     pub fn enter(&mut self, call: &Call, answer: &Answer) -> Result<(), String> {
@@ -80,50 +104,60 @@ impl Book {
             Call::Submit { nodes, estimate } => {
                 let rank = self.waiting().count() as u32 + 1;
                 let bound = self.clock + rank * LONGEST_ESTIMATE;
-                let entry =
-                    Entry { nodes, promise: answer.promise, bound, forecast: None, start: None, ended: false, hold: held(estimate) };
+                let entry = Entry { nodes, promise: answer.promise, bound, forecast: None, fate: Fate::Waiting, hold: held(estimate) };
                 claim!(self.entries.insert(answer.ticket, entry).is_none(), "ticket {} is given twice", answer.ticket);
             }
             Call::Tick => self.clock += 1,
-            Call::Complete => {}
+            Call::Complete { ticket } => claim!(*ended == [ticket], "an early end of {ticket} ends {ended:?}"),
+            Call::Cancel { ticket } => {
+                claim!(ended.is_empty(), "a withdrawal ends {ended:?}");
+                self.withdraw(ticket)?;
+            }
         }
         claim!(ended.windows(2).all(|w| w[0] < w[1]), "tickets ended do not ascend");
         for ticket in ended {
-            let entry = self.entries.get_mut(ticket).ok_or("a ticket that was never given ends")?;
-            claim!(entry.start.is_some() && !entry.ended, "{ticket} ends and does not run");
+            let entry = self.entries.get_mut(ticket).ok_or("a ticket ends that was never given, or is over")?;
+            let Fate::Running(start) = entry.fate else {
+                return Err(format!("{ticket} ends and does not run"));
+            };
             if let Call::Tick = call {
-                claim!(entry.start == Some(self.clock - entry.hold), "{ticket} ends at another minute than its start + wall time");
+                claim!(start + entry.hold == self.clock, "{ticket} ends at another minute than its start + wall time");
             }
-            entry.ended = true;
+            entry.fate = Fate::Ended;
         }
         claim!(self.kind == Kind::Loose || started.windows(2).all(|w| w[0] < w[1]), "tickets started do not ascend");
         for ticket in started {
-            let entry = self.entries.get_mut(ticket).ok_or("a ticket that was never given starts")?;
-            claim!(entry.start.is_none(), "{ticket} starts twice");
-            entry.start = Some(self.clock);
-            let by = |minute: u32| self.clock <= minute;
+            let entry = self.entries.get_mut(ticket).ok_or("a ticket starts that was never given, or is over")?;
+            claim!(entry.fate == Fate::Waiting, "{ticket} starts and does not wait: {:?}", entry.fate);
+            entry.fate = Fate::Running(self.clock);
+            for (what, minute) in entry.deadlines(self.kind) {
+                claim!(self.clock <= minute, "{ticket} starts after its {what} {minute}");
+            }
             match self.kind {
-                Kind::Promise => {
-                    claim!(by(entry.promise), "{ticket} starts after its promise {}", entry.promise);
-                    self.tried.promises += 1;
-                }
-                Kind::Loose => {
-                    claim!(by(entry.bound), "{ticket} starts after its bound {}", entry.bound);
-                    self.tried.bounds += 1;
-                }
+                Kind::Promise => self.tried.promises += 1,
+                Kind::Loose => self.tried.bounds += 1,
             }
-            if let Some(minute) = entry.forecast {
-                claim!(by(minute), "{ticket} starts after its forecast {minute}");
-                self.tried.forecasts += 1;
-            }
+            self.tried.forecasts += u64::from(entry.forecast.is_some());
         }
         self.forecast(answer)?;
         self.overdue()?;
-        let held: u32 = self.entries.values().filter(|e| e.start.is_some() && !e.ended).map(|e| e.nodes).sum();
+        let held: u32 = self.entries.values().filter(|e| matches!(e.fate, Fate::Running(_))).map(|e| e.nodes).sum();
         claim!(held <= self.nodes, "running jobs hold {held} nodes of {}", self.nodes);
         self.tried.sums += 1;
-        // What has ended is settled.
-        self.entries.retain(|_, e| !e.ended);
+        // What has ended is settled. Who was withdrawn is kept: such a job never starts.
+        self.entries.retain(|_, e| e.fate != Fate::Ended);
+        Ok(())
+    }
+
+    /// Only a job that waits is withdrawn, and before the minutes that it was told: these were not yet due.
+    fn withdraw(&mut self, ticket: u32) -> Result<(), String> {
+        let entry = self.entries.get_mut(&ticket).ok_or("a ticket is withdrawn that was never given, or is over")?;
+        claim!(entry.fate == Fate::Waiting, "{ticket} is withdrawn and does not wait: {:?}", entry.fate);
+        for (what, minute) in entry.deadlines(self.kind) {
+            claim!(self.clock < minute, "{ticket} is withdrawn at its {what} {minute}");
+        }
+        entry.fate = Fate::Withdrawn(self.clock);
+        self.tried.withdrawn += 1;
         Ok(())
     }
 
@@ -146,12 +180,8 @@ impl Book {
     /// Nobody waits whose promise, bound or forecast the clock has reached.
     fn overdue(&self) -> Result<(), String> {
         for (ticket, entry) in self.waiting() {
-            match self.kind {
-                Kind::Promise => claim!(self.clock < entry.promise, "{ticket} waits at its promise {}", entry.promise),
-                Kind::Loose => claim!(self.clock < entry.bound, "{ticket} waits at its bound {}", entry.bound),
-            }
-            if let Some(minute) = entry.forecast {
-                claim!(self.clock < minute, "{ticket} waits at its forecast {minute}");
+            for (what, minute) in entry.deadlines(self.kind) {
+                claim!(self.clock < minute, "{ticket} waits at its {what} {minute}");
             }
         }
         Ok(())
@@ -175,6 +205,7 @@ pub fn finds_broken_claims() {
         started: tickets(started),
     };
     let submit = || Call::Submit { nodes: 6, estimate: 20 };
+    let cancel = || Call::Cancel { ticket: 1 };
     let nothing = || (Call::Tick, answer(0, 0, &[], (0, 0)));
     let broken = |kind, calls: Vec<(Call, Answer)>, claim: &str| {
         let mut book = Book::new(kind, 10, 0);
@@ -194,4 +225,27 @@ pub fn finds_broken_claims() {
     broken(Kind::Loose, years.collect(), "waits at its bound");
     broken(Kind::Loose, vec![(submit(), answer(1, 0, &[1], (0, 0))), (submit(), answer(2, 0, &[2], (0, 0)))], "hold 12 nodes of 10");
     broken(Kind::Promise, vec![(submit(), answer(1, 0, &[1], (0, 0))), (submit(), answer(1, 9, &[], (0, 0)))], "given twice");
+
+    let promised = |minute| (submit(), answer(1, minute, &[], (0, 0)));
+    let withdrawn = || (cancel(), answer(0, 0, &[], (0, 0)));
+    let starts = || (Call::Tick, answer(0, 0, &[1], (0, 0)));
+    broken(Kind::Promise, vec![promised(9), withdrawn(), starts()], "1 starts and does not wait: Withdrawn(0)");
+    broken(Kind::Promise, vec![promised(9), (cancel(), answer(0, 0, &[1], (0, 0)))], "1 starts and does not wait: Withdrawn(0)");
+    broken(Kind::Promise, vec![promised(9), starts(), withdrawn()], "1 is withdrawn and does not wait: Running(1)");
+    broken(Kind::Promise, vec![promised(9), withdrawn(), withdrawn()], "1 is withdrawn and does not wait: Withdrawn(0)");
+    broken(Kind::Promise, vec![withdrawn()], "withdrawn that was never given");
+    let ends = Answer { ended: tickets(&[1]), ..answer(0, 0, &[], (0, 0)) };
+    broken(Kind::Promise, vec![promised(9), (cancel(), ends)], "a withdrawal ends [1]");
+    // A job that waits in the minute it was told is found out there and then; so that its withdrawal is what is wrong, the clock is put there.
+    let withdrawn_at = |kind, taken: (Call, Answer), minute, claim: &str| {
+        let mut book = Book::new(kind, 10, 0);
+        book.enter(&taken.0, &taken.1).unwrap();
+        let (call, answer) = withdrawn();
+        book.clock = minute;
+        let found = book.enter(&call, &answer).expect_err(claim);
+        assert!(found.contains(claim), "{claim}: {found}");
+    };
+    withdrawn_at(Kind::Promise, promised(9), 9, "withdrawn at its promise 9");
+    withdrawn_at(Kind::Loose, waits(9), 9, "withdrawn at its forecast 9");
+    withdrawn_at(Kind::Loose, waits(20_000), LONGEST_ESTIMATE, "withdrawn at its bound 10080");
 }

@@ -34,9 +34,10 @@ struct Plan {
     ticket: u32,
     calls: u32,
     estimates: Estimates,
-    /// Of a hundred calls, so many are submissions, completions, profiles and waits that are only judged; the others are ticks.
+    /// Of a hundred calls, so many are submissions, completions, withdrawals, profiles and waits that are only judged; the others are ticks.
     submissions: u32,
     completions: u32,
+    withdrawals: u32,
     profiles: u32,
     waits: u32,
 }
@@ -68,11 +69,17 @@ fn plan(random: &mut Random) -> Plan {
         180..=197 => random.between(81, 400),
         _ => random.between(1_000, 2_500),
     };
-    let (submissions, completions, profiles, waits) =
-        random.one_of(&[(40, 20, 10, 5), (60, 10, 5, 3), (25, 25, 25, 10), (80, 5, 5, 2), (35, 35, 5, 5)]);
+    let (submissions, completions, withdrawals, profiles, waits) = random.one_of(&[
+        (40, 15, 10, 10, 5),
+        (60, 8, 5, 5, 3),
+        (25, 20, 15, 20, 8),
+        (80, 4, 3, 4, 2),
+        (35, 30, 10, 5, 5),
+        (45, 5, 30, 5, 3),
+    ]);
     let kind = random.one_of(&[Kind::Promise, Kind::Loose]);
     let estimates = random.one_of(&[Estimates::Tiny, Estimates::Short, Estimates::Edges, Estimates::Any]);
-    let mut plan = Plan { kind, nodes, minute, ticket, calls, estimates, submissions, completions, profiles, waits };
+    let mut plan = Plan { kind, nodes, minute, ticket, calls, estimates, submissions, completions, withdrawals, profiles, waits };
     // One opening of twelve is refused, for one reason or for several.
     if random.percent(8) {
         match random.below(4) {
@@ -109,6 +116,7 @@ struct Count {
     calls: u64,
     submissions: u64,
     completions: u64,
+    withdrawals: u64,
     ticks: u64,
     profiles: u64,
     points: u64,
@@ -116,7 +124,7 @@ struct Count {
     most_live: usize,
     most_points: usize,
     /// By number, of openings and of calls.
-    refusals: [u64; 11],
+    refusals: [u64; 12],
     tried: Tried,
 }
 
@@ -126,6 +134,7 @@ impl Count {
         self.calls += other.calls;
         self.submissions += other.submissions;
         self.completions += other.completions;
+        self.withdrawals += other.withdrawals;
         self.ticks += other.ticks;
         self.profiles += other.profiles;
         self.points += other.points;
@@ -144,6 +153,8 @@ struct Played {
     desk: Desk,
     model: Model,
     book: Book,
+    /// The tickets withdrawn.
+    withdrawn: Vec<u32>,
     count: Count,
     done: Vec<String>,
 }
@@ -168,7 +179,7 @@ impl Played {
         let mut count = Count { lists: 1, ..Count::default() };
         count.refusals[refusal as usize] += 1;
         let done = vec![format!("open {:?} {} {} {}", plan.kind, plan.nodes, plan.minute, plan.ticket)];
-        let played = Played { desk, model, book, count, done };
+        let played = Played { desk, model, book, withdrawn: Vec::new(), count, done };
         played.same_desk()?;
         Ok(played)
     }
@@ -234,7 +245,26 @@ impl Played {
         self.done.push(format!("complete {ticket}"));
         self.count.completions += 1;
         let (library, model) = (self.desk.complete(ticket), self.model.complete(ticket));
-        self.same_answer(Call::Complete, library, model)
+        self.same_answer(Call::Complete { ticket }, library, model)
+    }
+
+    fn cancel(&mut self, ticket: u32) -> Result<(), String> {
+        self.done.push(format!("cancel {ticket}"));
+        self.count.withdrawals += 1;
+        let before = *self.desk.records();
+        let (library, model) = (self.desk.cancel(ticket), self.model.cancel(ticket));
+        if library.is_taken() {
+            self.withdrawn.push(ticket);
+        }
+        // "no other planned start gets later through it"
+        for record in self.desk.records().iter().filter(|r| r.state == 1) {
+            let planned =
+                before.iter().find(|r| r.ticket == record.ticket).ok_or("a job that waits after a withdrawal and was not there")?;
+            if record.start > planned.start {
+                return Err(format!("{} is planned for {}, and was for {}", record.ticket, record.start, planned.start));
+            }
+        }
+        self.same_answer(Call::Cancel { ticket }, library, model)
     }
 
     fn tick(&mut self) -> Result<(), String> {
@@ -288,6 +318,22 @@ impl Played {
     }
 }
 
+/// The ticket of a job that is to leave: mostly of one in this state; else of one in another, one that is over or withdrawn, or one never given.
+fn leaver(played: &Played, state: State, random: &mut Random) -> u32 {
+    let live: Vec<(u32, State)> = played.model.jobs.iter().map(|j| (j.ticket, j.state)).collect();
+    let wanted: Vec<u32> = live.iter().filter(|j| j.1 == state).map(|j| j.0).collect();
+    let next = played.model.next;
+    match random.below(10) {
+        0 => random.one_of(&[0, next, next.saturating_sub(1), u32::MAX]),
+        1 if !live.is_empty() => random.one_of(&live).0,
+        2 if !played.withdrawn.is_empty() => random.one_of(&played.withdrawn),
+        3 => random.between(next.saturating_sub(70), next),
+        4 if !wanted.is_empty() => wanted[0],
+        _ if !wanted.is_empty() => random.one_of(&wanted),
+        _ => random.below(next + 1),
+    }
+}
+
 /// The next call of a list.
 fn step(plan: &Plan, played: &mut Played, random: &mut Random) -> Result<(), String> {
     let roll = random.below(100);
@@ -305,17 +351,12 @@ fn step(plan: &Plan, played: &mut Played, random: &mut Random) -> Result<(), Str
         };
         played.submit(nodes, estimate)
     } else if roll < plan.submissions + plan.completions {
-        // Mostly one that runs; else one that waits, is over, or was never given.
-        let live: Vec<(u32, State)> = played.model.jobs.iter().map(|j| (j.ticket, j.state)).collect();
-        let running: Vec<u32> = live.iter().filter(|j| j.1 == State::Running).map(|j| j.0).collect();
-        let ticket = match random.below(8) {
-            0 => random.one_of(&[0, played.model.next, played.model.next.saturating_sub(1), u32::MAX]),
-            1 if !live.is_empty() => random.one_of(&live).0,
-            _ if !running.is_empty() => random.one_of(&running),
-            _ => random.below(played.model.next + 1),
-        };
+        let ticket = leaver(played, State::Running, random);
         played.complete(ticket)
-    } else if roll < plan.submissions + plan.completions + plan.profiles {
+    } else if roll < plan.submissions + plan.completions + plan.withdrawals {
+        let ticket = leaver(played, State::Waiting, random);
+        played.cancel(ticket)
+    } else if roll < plan.submissions + plan.completions + plan.withdrawals + plan.profiles {
         let points = played.model.profile(usize::MAX).unwrap().len();
         let room = match random.below(6) {
             0 => 0,
@@ -326,7 +367,7 @@ fn step(plan: &Plan, played: &mut Played, random: &mut Random) -> Result<(), Str
             _ => random.between(0, 200) as usize,
         };
         played.profile(room)
-    } else if roll < plan.submissions + plan.completions + plan.profiles + plan.waits {
+    } else if roll < plan.submissions + plan.completions + plan.withdrawals + plan.profiles + plan.waits {
         let left = model::LAST_MINUTE - played.model.clock;
         let minutes = match random.below(4) {
             0 => random.one_of(&[0, 1, 10_080, 10_081, 1_000_000, u32::MAX]),
@@ -407,12 +448,15 @@ fn main() {
         eprintln!();
     }
     let all = all.into_inner().unwrap();
-    let Tried { promises, bounds, forecasts, heads, sums } = all.tried;
+    let Tried { promises, bounds, forecasts, withdrawn, heads, sums } = all.tried;
     println!(
-        "{} lists, {} calls: {} submissions, {} completions, {} ticks, {} profiles with {} points, {} waits judged",
-        all.lists, all.calls, all.submissions, all.completions, all.ticks, all.profiles, all.points, all.waits
+        "{} lists, {} calls: {} submissions, {} completions, {} withdrawals, {} ticks, {} profiles with {} points, {} waits judged",
+        all.lists, all.calls, all.submissions, all.completions, all.withdrawals, all.ticks, all.profiles, all.points, all.waits
     );
     println!("at most {} live jobs and {} points; refusals by number, from 0: {:?}", all.most_live, all.most_points, all.refusals);
-    println!("guarantees: {promises} promises, {bounds} bounds and {forecasts} forecasts kept, {heads} heads with a forecast, {sums} sums of nodes");
+    println!(
+        "guarantees: {promises} promises, {bounds} bounds and {forecasts} forecasts kept, {withdrawn} jobs withdrawn before these minutes"
+    );
+    println!("{heads} heads with a forecast, {sums} sums of nodes");
     println!("library and model agree ({:.1} s)", began.elapsed().as_secs_f64());
 }

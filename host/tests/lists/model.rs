@@ -1,5 +1,5 @@
-//! Document 01's two desks, written from its words and as plainly as they allow, to be compared with: a list of live jobs, everything
-//! worked out anew in each call. Its words are quoted where they are followed.
+//! Document 01's two desks, with what document 02 adds, written from their words and as plainly as they allow, to be compared with: a list
+//! of live jobs, everything worked out anew in each call. Their words are quoted where they are followed.
 
 use hingerota_host::Kind;
 
@@ -124,9 +124,21 @@ impl Model {
         let Some(place) = self.jobs.iter().position(|j| j.runs() && j.ticket == ticket) else {
             return refused(7);
         };
+        self.leaves(place, Answer { ended: vec![ticket], ..Answer::default() })
+    }
+
+    /// Document 02, No. 1: "A waiting stack can be withdrawn." 11: "the withdrawn ticket is not waiting".
+    pub fn cancel(&mut self, ticket: u32) -> Answer {
+        let Some(place) = self.jobs.iter().position(|j| j.waits() && j.ticket == ticket) else {
+            return refused(11);
+        };
+        self.leaves(place, Answer::default())
+    }
+
+    /// "The stack leaves." After a withdrawal, too: "The Promise Desk then moves the others as after an early end; the Loose Desk settles."
+    fn leaves(&mut self, place: usize, mut answer: Answer) -> Answer {
         let head = self.head();
         self.jobs.remove(place);
-        let mut answer = Answer { ended: vec![ticket], ..Answer::default() };
         match self.kind {
             Kind::Promise => answer.started = self.put_in_again(),
             Kind::Loose => self.settle(head, &mut answer),

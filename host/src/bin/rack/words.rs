@@ -33,6 +33,15 @@ const WORDS: &[Word] = &[
         },
     },
     Word {
+        form: "drop TICKET",
+        does: "a waiting job is withdrawn",
+        play: |rack, fields, page| {
+            let [ticket] = numbers(fields)?;
+            let answer = rack.desk.cancel(ticket);
+            page.answer(&rack.desk, &answer)
+        },
+    },
+    Word {
         form: "wait MINUTES",
         does: "MINUTES pass",
         play: |rack, fields, page| {
