@@ -307,10 +307,19 @@ submit-accepts m o f l =
       le-ltb (horizon (m .settings)) (latestEnd m (o .estimate)) l,
     )
 
--- 7 if it does not run, 11 if it does not wait
-pub depart-because : (m : Model) (h : Departure) (t : ℕ) → departRefusal m h t ≡ cond (any (departsAs h t) (m .jobs)) refusal.None (notThere h)
+depart-because : (m : Model) (h : Departure) (t : ℕ) → departRefusal m h t ≡ cond (any (departsAs h t) (m .jobs)) refusal.None (notThere h)
 unfolding departRefusal verdict
 depart-because m h t = case (any (departsAs h t) (m .jobs)) (λ e. rw e) (λ e. rw e)
+
+-- 7: "the ended ticket is not running: waiting, over or never given"
+pub complete-because : (m : Model) (t : ℕ)
+    → departRefusal m Complete t ≡ cond (any (λ (j : Job). isRunning j && eqb (j .ticket) t) (m .jobs)) refusal.None refusal.NotRunning
+complete-because m t = depart-because m Complete t
+
+-- 11, document 02, No. 1: "the withdrawn ticket is not waiting"
+pub cancel-because : (m : Model) (t : ℕ)
+    → departRefusal m Cancel t ≡ cond (any (λ (j : Job). isWaiting j && eqb (j .ticket) t) (m .jobs)) refusal.None refusal.NotWaiting
+cancel-because m t = depart-because m Cancel t
 
 pub tick-because : (m : Model) → tickRefusal m ≡ cond (leb (suc (m .clock)) (horizon (m .settings))) refusal.None refusal.PastHorizon
 unfolding tickRefusal verdict
