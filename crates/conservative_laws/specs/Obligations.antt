@@ -18,6 +18,7 @@ use Rattle.scheduler.specs.declared.State.the-variants.{Unused, Waiting, Runnin
 use Rattle.scheduler.specs.declared.Job.{Job}
 use Rattle.scheduler.specs.declared.Select.{Select}
 use Rattle.scheduler.specs.Jobs.{isWaiting, isRunning, waiting?, running?, picks}
+use Rattle.scheduler.specs.Settings.{cleanup}
 use Rattle.scheduler.specs.Table.{ticketsOf, staying}
 use Rattle.scheduler.specs.Model.{Model}
 use Rattle.scheduler.specs.Answers.{Result, refusing}
@@ -87,7 +88,7 @@ begun-waited t (j ∷ js) (k ∷ ks) e =
 module _ (c : ℕ) (e : News) where
   -- a job that waits and starts, or goes on waiting
   fate-placed : (t : ℕ) (s : State) (b d : ℕ) → waiting? s ≡ true → elem t (e .started) ≡ running? (stateAt c d)
-      → live (fateAfter c e t (fateBy s b)) ≡ true → fateBy (stateAt c d) d ≡ fateAfter c e t (fateBy s b)
+      → live (fateAfter 0 c e t (fateBy s b)) ≡ true → fateBy (stateAt c d) d ≡ fateAfter 0 c e t (fateBy s b)
   fate-placed t Unused b d w p l = true-false false w refl
   fate-placed t Waiting b d w p l =
       case (elem t (e .withdrew))
@@ -96,12 +97,12 @@ module _ (c : ℕ) (e : News) where
   fate-placed t Running b d w p l = true-false false w refl
 
   remark-follows : (j k : Job) → Follows c j k → elem (j .ticket) (e .started) ≡ (isWaiting j && isRunning k) → lives c e j ≡ true
-      → shown k ≡ remark c e (shown j)
+      → shown k ≡ remark 0 c e (shown j)
   remark-follows j k (stays w) p q = sym (remark-same c e j (rw w at p) q)
-  remark-follows j k (moves s w a b) p q = shown-with (remark c e (shown j)) _ (fate-placed (j .ticket) (j .state) (j .start) s w (rw w at p) q)
+  remark-follows j k (moves s w a b) p q = shown-with (remark 0 c e (shown j)) _ (fate-placed (j .ticket) (j .state) (j .start) s w (rw w at p) q)
 
   remark-all : (js ks : List Job) → Zip (Told (Follows c) (e .started)) js ks → ((j : Job) → In j js → lives c e j ≡ true)
-      → map shown ks ≡ map (remark c e) (map shown js)
+      → map shown ks ≡ map (remark 0 c e) (map shown js)
   remark-all [] [] z f = refl
   remark-all [] (k ∷ ks) z f = absurd z
   remark-all (j ∷ js) [] z f = absurd z
@@ -125,7 +126,7 @@ module _ (m : Model) (c : ℕ) (s : Select) (ks : List Job) (v : Valid m) (g : M
   leaves-told = begun-tells (Follows c) 1 (staying s (m .jobs)) ks (asc-keep (λ (j : Job). not (picks s j)) 1 (m .jobs) (v .sound .asc)) (g .follow)
 
 outcome-tells : (m : Model) {c : Call} {r : Result} → Valid m → CameOut m c r → Tells m (newsOf c (r .reply)) (r .model)
-unfolding submitted advanced
+unfolding cleanup submitted advanced
 outcome-tells m v (idle c r n) = tells-nothing m (newsOf c (refusing r)) n
 outcome-tells m v (joins o f l) =
     let s = planned m o in

@@ -21,6 +21,7 @@ use Rattle.scheduler.specs.declared.Departure.{Departure}
 use Rattle.scheduler.specs.declared.Departure.the-variants.{Complete, Cancel}
 use Rattle.scheduler.specs.declared.Select.the-variants as select
 use Rattle.scheduler.specs.Jobs.{waiting?, isWaiting, picks}
+use Rattle.scheduler.specs.Settings.{cleanup}
 use Rattle.scheduler.specs.Table.{ticketsOf, endedOf}
 use Rattle.scheduler.specs.Model.{Model, ending, joined}
 use Rattle.scheduler.specs.Answers.{Reply, Result, Forecast, refusing}
@@ -59,7 +60,7 @@ fate-waits Running b e = true-false false e refl
 module _ (now : ℕ) (e : News) where
   -- a job that the settling left or started is as the answer says
   shown-marks : (j : Job) → (elem (j .ticket) (e .started) ≡ true → isWaiting j ≡ true) → lives now e j ≡ true
-      → shown (marks now (e .started) j) ≡ remark now e (shown j)
+      → shown (marks now (e .started) j) ≡ remark 0 now e (shown j)
   shown-marks j w n =
       case (elem (j .ticket) (e .started))
       (λ q. let f = fate-waits (j .state) (j .start) (w q) in
@@ -68,11 +69,11 @@ module _ (now : ℕ) (e : News) where
 
   shown-after : (js : List Job) → ((j : Job) → In j js → elem (j .ticket) (e .started) ≡ true → isWaiting j ≡ true)
       → ((j : Job) → In j js → lives now e j ≡ true)
-      → map shown (map (marks now (e .started)) js) ≡ map (remark now e) (map shown js)
+      → map shown (map (marks now (e .started)) js) ≡ map (remark 0 now e) (map shown js)
   shown-after js w n =
       map-map shown (marks now (e .started)) js
-      ∙ map-cong (λ (j : Job). shown (marks now (e .started) j)) (λ (j : Job). remark now e (shown j)) js (λ j i. shown-marks j (w j i) (n j i))
-      ∙ sym (map-map (remark now e) shown js)
+      ∙ map-cong (λ (j : Job). shown (marks now (e .started) j)) (λ (j : Job). remark 0 now e (shown j)) js (λ j i. shown-marks j (w j i) (n j i))
+      ∙ sym (map-map (remark 0 now e) shown js)
 
   module _ (m : Model) (s : Sound m) where
     -- who leaves is whom the call picks
@@ -96,28 +97,29 @@ module _ (now : ℕ) (e : News) where
 
     -- who comes is live
     shown-new : (y : Submission) → e .withdrew ≡ []
-        → map (remark now e) (shown (newJob (m .next) y) ∷ []) ≡ keep isLive (map (remark now e) (shown (newJob (m .next) y) ∷ []))
+        → map (remark 0 now e) (shown (newJob (m .next) y) ∷ []) ≡ keep isLive (map (remark 0 now e) (shown (newJob (m .next) y) ∷ []))
     shown-new y w = case (elem (m .next) (e .withdrew)) (λ z. true-false false (ap (elem (m .next)) (sym w) ∙ z) refl)
         (λ z. case (elem (m .next) (e .started)) (λ k. rw (z, k)) (λ k. rw (z, k)))
 
     -- what the call did before it settled
     moved-tells : {c : Call} {mid : Model} {t : ℕ} {ts : List ℕ} (x : OwnPart m c mid t ts) → e .ended ≡ ts → e .withdrew ≡ leaver x → e .came ≡ joiner x
-        → (after : List Job) → map shown after ≡ map (remark now e) (map shown (mid .jobs))
-        → map shown after ≡ shownAfter now e (map shown (m .jobs) ++ comers e)
+        → (after : List Job) → map shown after ≡ map (remark 0 now e) (map shown (mid .jobs))
+        → map shown after ≡ shownAfter 0 now e (map shown (m .jobs) ++ comers e)
     moved-tells (submits y f room) d w q after h =
         let js = m .jobs in
         let new : Job = newJob (m .next) y in
-        let one : map (remark now e) (shown new ∷ []) ≡ keep isLive (map (remark now e) (shown new ∷ [])) =
+        let one : map (remark 0 now e) (shown new ∷ []) ≡ keep isLive (map (remark 0 now e) (shown new ∷ [])) =
         shown-new y w in
         tells-by now e (λ (j : Job). false) js after (λ j i. none-leaves now e d w j)
-        (h ∙ rw (keep-all (λ (j : Job). true) js (λ j i. refl), map-append shown js (new ∷ []), map-append (remark now e) (map shown js) (shown new ∷ []))
-        (ap (λ (l : List JobShown). map (remark now e) (map shown js) ++ l)
-        (one ∙ ap (λ (os : List Newcomer). keep isLive (map (remark now e) (map newly os))) (sym q))))
+        (h ∙ rw (keep-all (λ (j : Job). true) js (λ j i. refl), map-append shown js (new ∷ []), map-append (remark 0 now e) (map shown js) (shown new ∷ []))
+        (ap (λ (l : List JobShown). map (remark 0 now e) (map shown js) ++ l)
+        (one ∙ ap (λ (os : List Newcomer). keep isLive (map (remark 0 now e) (map newly os))) (sym q))))
     moved-tells (departs h t x) d w q after r = tells-leave now e (picks (select.Departing h t)) (m .jobs) after (departing-lives h t x d w) q r
     moved-tells (ticks l) d w q after h = tells-leave now e (picks (ending m)) (m .jobs) after (ending-lives d w) q h
 
 module _ (m : Model) (c : Call) (o : Result) (v : Valid m) where
   taken-tells : CallAccepted m c o → Tells m (newsOf c (o .reply)) (o .model)
+  unfolding cleanup
   taken-tells t =
       let now = o .model .clock in
       let e = newsOf c (o .reply) in

@@ -9,7 +9,7 @@ use Rattle.lists.specs.Lists.{in-nil}
 use Rattle.scheduler.specs.declared.Kind.{Kind}
 use Rattle.scheduler.specs.declared.Opening.{Opening}
 use Rattle.scheduler.specs.declared.Settings.{Settings}
-use Rattle.scheduler.specs.Settings.{holdTime, unit}
+use Rattle.scheduler.specs.Settings.{holdTime, cleanup, unit}
 use Rattle.scheduler.specs.Model.{Model}
 use Rattle.scheduler.specs.Opening.{opening}
 use Rattle.history.specs.Calls.{Call, Command, Event, events, allCalls}
@@ -25,7 +25,7 @@ blank m = record { clock = m .clock; entries = []; strays = [] }
 
 -- what calls and their answers say: from a model and a book on, and from an opening on
 abbrev pub bookFrom : Model → Book → List Event → Book
-bookFrom m b es = enterAll (unit (m .settings)) b es
+bookFrom m b es = enterAll (unit (m .settings)) (cleanup (m .settings)) b es
 
 abbrev pub bookOf : Model → List Event → Book
 bookOf m es = bookFrom m (blank m) es
@@ -60,7 +60,7 @@ module _ {k : Kind} {Valid : Model → Type 0} {OnCourse : Model → ℕ → ℕ
   -- from any book that agrees with a valid model
   pub from-seed : (m : Model) (b : Book) (cs : List Call) → Valid m → Agrees k OnCourse m b → Guarantee k (m .settings .nodes) (bookFrom m b (events call m cs))
   from-seed m b cs v a =
-      let g = guaranteed L (unit (m .settings)) m b cs (record { valid = v; agrees = a; unit-is = refl }) in
+      let g = guaranteed L (unit (m .settings)) (cleanup (m .settings)) m b cs (record { valid = v; agrees = a; unit-is = refl; cleanup-is = refl }) in
       rw (same-events m cs v) (subst (λ (S : Settings). Guarantee k (S .nodes) (bookFrom m b (events (rulesOf k) m cs))) (settings-after L m cs v) g)
 
   -- a model with no job agrees with the blank book

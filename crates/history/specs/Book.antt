@@ -4,7 +4,7 @@ use mathlib.Core.Bool.{Bool, true, false, not, _&&_, _||_, cond}
 use mathlib.Core.List.{List, [], _∷_, _++_, map, foldr}
 use mathlib.Core.Option.{Option, none, some}
 use Prim.Native.Nat.{ℕ, suc, _+_, _*_, min}
-use lib.Dec.{eqb}
+use lib.Dec.{eqb, ltb}
 use lib.ListN.{length}
 use Rattle.lists.specs.Lists.{keep, elem}
 use Rattle.scheduler.specs.Answers.{Forecast}
@@ -16,6 +16,8 @@ use Rattle.history.specs.News.{Newcomer, News, news, clockAfter}
 pub data Fate : Type 0 where
   waiting : Fate
   running : (start : ℕ) → Fate
+  -- its run has ended in that minute, and its nodes are not free yet (document 02, No. 3)
+  cleaning : (start end : ℕ) → Fate
   ended : (start : ℕ) → Fate
   -- document 02, No. 1: it was withdrawn in this minute
   withdrawn : (minute : ℕ) → Fate
@@ -43,25 +45,29 @@ pub record Book : Type 0 where
 abbrev pub waits : Fate → Bool
 waits waiting = true
 waits (running s) = false
+waits (cleaning s e) = false
 waits (ended s) = false
 waits (withdrawn w) = false
 
--- its nodes are taken: it runs
+-- its nodes are taken: it runs, or they are not free yet
 abbrev pub holds : Fate → Bool
 holds waiting = false
 holds (running s) = true
+holds (cleaning s e) = true
 holds (ended s) = false
 holds (withdrawn w) = false
 
 abbrev pub start : Fate → Option ℕ
 start waiting = none
 start (running s) = some s
+start (cleaning s e) = some s
 start (ended s) = some s
 start (withdrawn w) = none
 
 abbrev pub withdrawal : Fate → Option ℕ
 withdrawal waiting = none
 withdrawal (running s) = none
+withdrawal (cleaning s e) = none
 withdrawal (ended s) = none
 withdrawal (withdrawn w) = some w
 
@@ -84,12 +90,17 @@ entry u b o = record {
   forecast = none;
 }
 
+-- "From now on nodes stay taken for clearing minutes": k of them, from the minute of the end on, at a clock of c
+abbrev pub over : (k c start end : ℕ) → Fate
+over k c s e = cond (ltb c (e + k)) (cleaning s e) (ended s)
+
 -- the fate of the job with ticket t, after an event that left the clock at c
-abbrev pub fateAfter : ℕ → News → ℕ → Fate → Fate
-fateAfter c e t waiting = cond (elem t (e .withdrew)) (withdrawn c) (cond (elem t (e .started)) (running c) waiting)
-fateAfter c e t (running s) = cond (elem t (e .ended)) (ended s) (running s)
-fateAfter c e t (ended s) = ended s
-fateAfter c e t (withdrawn w) = withdrawn w
+abbrev pub fateAfter : (k c : ℕ) → News → ℕ → Fate → Fate
+fateAfter k c e t waiting = cond (elem t (e .withdrew)) (withdrawn c) (cond (elem t (e .started)) (running c) waiting)
+fateAfter k c e t (running s) = cond (elem t (e .ended)) (over k c s c) (running s)
+fateAfter k c e t (cleaning s m) = over k c s m
+fateAfter k c e t (ended s) = ended s
+fateAfter k c e t (withdrawn w) = withdrawn w
 
 abbrev pub withFate : Entry → Fate → Entry
 withFate x f = record {
@@ -102,8 +113,8 @@ withFate x f = record {
   forecast = x .forecast;
 }
 
-abbrev pub marked : ℕ → News → Entry → Entry
-marked c e x = withFate x (fateAfter c e (x .ticket) (x .fate))
+abbrev pub marked : (k c : ℕ) → News → Entry → Entry
+marked k c e x = withFate x (fateAfter k c e (x .ticket) (x .fate))
 
 -- "The head is the waiting stack with the lowest ticket."
 abbrev pub lowest : List ℕ → Option ℕ
@@ -149,15 +160,16 @@ hearing f x = record {
 abbrev pub heard : Option ℕ → Option Forecast → Entry → Entry
 heard h f x = cond (isWaiting x && is h (x .ticket) && not (x .headed)) (hearing f x) x
 
-abbrev pub told : ℕ → News → List Entry → List Entry
-told c e xs = map (heard (headOf (map (marked c e) xs)) (e .head)) (map (marked c e) xs)
+abbrev pub told : (k c : ℕ) → News → List Entry → List Entry
+told k c e xs = map (heard (headOf (map (marked k c e) xs)) (e .head)) (map (marked k c e) xs)
 
-unfoldable pub enter : ℕ → Book → News → Book
-enter u b e =
+-- u is the unit of the bound, and k the minutes for which nodes stay taken after the end
+unfoldable pub enter : (u k : ℕ) → Book → News → Book
+enter u k b e =
     let c = clockAfter e (b .clock) in
     let xs = b .entries ++ map (entry u b) (e .came) in
-    record { clock = c; entries = told c e xs; strays = b .strays ++ stray xs e }
+    record { clock = c; entries = told k c e xs; strays = b .strays ++ stray xs e }
 
-abbrev pub enterAll : ℕ → Book → List Event → Book
-enterAll u b [] = b
-enterAll u b (e ∷ es) = enterAll u (enter u b (news e)) es
+abbrev pub enterAll : (u k : ℕ) → Book → List Event → Book
+enterAll u k b [] = b
+enterAll u k b (e ∷ es) = enterAll u k (enter u k b (news e)) es

@@ -8,14 +8,14 @@ use mathlib.Core.Option.{Option, none, some}
 use Prim.Native.Nat.{ℕ, zero, suc, _+_, _<_}
 use native.Mathlib.Omega.{arith}
 use lib.ListN.{replicate}
-use Rattle.lists.specs.Lists.{In, here, there, in-nil}
+use Rattle.lists.specs.Lists.{sum, In, here, there, in-nil}
 use Rattle.scheduler.specs.declared.Kind.the-variants.{Conservative, Easy}
 use Rattle.scheduler.specs.declared.Refusal.the-variants as refusal
 use Rattle.scheduler.specs.Answers.{Forecast}
 use Rattle.history.specs.Calls.{submit, order, cancel, tick, Event}
 use Rattle.history.specs.News.{news}
 use Rattle.history.specs.Book.{Book, Entry, waiting, start, enter, enterAll}
-use Rattle.history.specs.Guarantee.{StartedBy, Kept, Guarantee}
+use Rattle.history.specs.Guarantee.{StartedBy, Kept, held-nodes, Guarantee}
 
 -- a submission accepted under a ticket, with a promise, the tickets that start and a forecast
 abbrev taken : ℕ → ℕ → ℕ → List ℕ → Option Forecast → Event
@@ -40,7 +40,7 @@ idle = ticked []
 
 -- a book from minute 0, with the bound's unit
 abbrev book : List Event → Book
-book es = enterAll 10080 (record { clock = 0; entries = []; strays = [] }) es
+book es = enterAll 10080 0 (record { clock = 0; entries = []; strays = [] }) es
 
 never : (x : Entry) (b : ℕ) → x .fate ≡ waiting → StartedBy x b → ⊥
 never x b e s = let q = s .started in absurd (let z : _≡_ {A = ℕ} 0 1 = cc in omega arith)
@@ -68,7 +68,7 @@ late = record { ticket = 1; nodes = 4; promise = 0; bound = 10080; fate = waitin
 abbrev waiting-at : ℕ → Book
 waiting-at c = record { clock = c; entries = late ∷ []; strays = [] }
 
-waits-on : (k c : ℕ) → enterAll 10080 (waiting-at c) (replicate k idle) ≡ waiting-at (c + k)
+waits-on : (k c : ℕ) → enterAll 10080 0 (waiting-at c) (replicate k idle) ≡ waiting-at (c + k)
 unfolding enter late
 waits-on zero c = ap waiting-at (omega arith)
 waits-on (suc k) c = waits-on k (suc c) ∙ ap waiting-at (omega arith)
@@ -87,11 +87,11 @@ bound-broken g =
     let h : Guarantee Easy 10 (waiting-at 10080) = subst (Guarantee Easy 10) at-bound-is g in
     never late 10080 refl (h .bounds refl late (here refl) .starts refl (omega arith))
 
-pub bound-late : Guarantee Easy 10 (enter 10080 at-bound (news (ticked (1 ∷ [])))) → ⊥
+pub bound-late : Guarantee Easy 10 (enter 10080 0 at-bound (news (ticked (1 ∷ [])))) → ⊥
 unfolding enter late
 bound-late g =
-    let h : Guarantee Easy 10 (enter 10080 (waiting-at 10080) (news (ticked (1 ∷ [])))) =
-    subst (λ (b : Book). Guarantee Easy 10 (enter 10080 b (news (ticked (1 ∷ []))))) at-bound-is g in
+    let h : Guarantee Easy 10 (enter 10080 0 (waiting-at 10080) (news (ticked (1 ∷ [])))) =
+    subst (λ (b : Book). Guarantee Easy 10 (enter 10080 0 b (news (ticked (1 ∷ []))))) at-bound-is g in
     too-late _ 10080 refl (h .bounds refl _ (here refl) .starts refl (omega arith))
 
 abbrev soon : Option Forecast
@@ -120,11 +120,11 @@ pub promise-withdrawn : Guarantee Conservative 10 (book (taken 1 4 2 [] none ∷
 unfolding enter
 promise-withdrawn g = let l : 2 < 2 = g .promises refl _ (here refl) .before 2 refl in omega arith
 
-pub bound-withdrawn : Guarantee Easy 10 (enter 10080 at-bound (news (dropped 1 []))) → ⊥
+pub bound-withdrawn : Guarantee Easy 10 (enter 10080 0 at-bound (news (dropped 1 []))) → ⊥
 unfolding enter late
 bound-withdrawn g =
-    let h : Guarantee Easy 10 (enter 10080 (waiting-at 10080) (news (dropped 1 []))) =
-    subst (λ (b : Book). Guarantee Easy 10 (enter 10080 b (news (dropped 1 [])))) at-bound-is g in
+    let h : Guarantee Easy 10 (enter 10080 0 (waiting-at 10080) (news (dropped 1 []))) =
+    subst (λ (b : Book). Guarantee Easy 10 (enter 10080 0 b (news (dropped 1 [])))) at-bound-is g in
     let l : 10080 < 10080 = h .bounds refl _ (here refl) .before 10080 refl in
     omega arith
 
@@ -158,3 +158,18 @@ started-withdrawn g = strayed [] 1 (g .starts)
 pub withdrawn-and-started : Guarantee Easy 10 (book (taken 1 4 0 [] none ∷ dropped 1 (1 ∷ []) ∷ [])) → ⊥
 unfolding enter
 withdrawn-and-started g = strayed [] 1 (g .starts)
+
+-- ## Nodes that are not free yet
+
+-- a book by which nodes stay taken for five minutes after the end; a job of 6 nodes has ended in minute 1, and in minute 5 one of 5 starts
+abbrev cleared : List Event → Book
+cleared es = enterAll 10080 5 (record { clock = 0; entries = []; strays = [] }) (taken 1 6 0 (1 ∷ []) none ∷ turned (1 ∷ []) [] ∷ idle ∷ idle ∷ idle ∷ es)
+
+pub nodes-still-taken : Guarantee Easy 10 (cleared (idle ∷ taken 2 5 0 (2 ∷ []) none ∷ [])) → ⊥
+unfolding enter
+nodes-still-taken g = let w = g .within in absurd (omega arith)
+
+-- a minute later they are free
+pub nodes-free-again : sum held-nodes (cleared (idle ∷ idle ∷ taken 2 5 0 (2 ∷ []) none ∷ []) .entries) ≡ 5
+unfolding enter
+nodes-free-again = refl

@@ -1,22 +1,25 @@
 -- How a kind shows that its answer tells what has changed: the jobs after an event are those that stay, each as the event says, and who
--- comes; and how it shows what is kept of a start.
+-- comes; and how it shows what is kept of a start. So far nodes are free in the minute of the end.
 -- Assumes nothing.
 use mathlib.Core.Path.{_≡_, refl, sym, ap, subst, _∙_}
 use mathlib.Core.Bool.{Bool, true, false, not}
 use mathlib.Core.List.{List, [], _++_, map, map-append, map-map, append-nil}
 use mathlib.Core.Logic.{_⊎_, inl, inr}
-use Prim.Native.Nat.{ℕ}
+use Prim.Native.Nat.{ℕ, _+_}
+use native.Mathlib.Omega.{arith}
+use borrow.Author.Tests.{le-ltb}
 use Rattle.lists.specs.Tests.{case, true-false}
 use Rattle.lists.specs.Lists.{keep, elem, In, in-keep, keep-append, keep-all, keep-cong, keep-map, map-cong}
 use Rattle.scheduler.specs.declared.State.{State}
 use Rattle.scheduler.specs.declared.State.the-variants.{Unused, Waiting, Running}
 use Rattle.scheduler.specs.declared.Job.{Job}
 use Rattle.scheduler.specs.Jobs.{isWaiting, isRunning, waiting?, running?}
+use Rattle.scheduler.specs.Settings.{cleanup}
 use Rattle.scheduler.specs.Table.{ticketsOf}
 use Rattle.scheduler.specs.Model.{Model}
 use Rattle.jobs.specs.Order.{Asc, job-elem, elem-picked}
 use Rattle.history.specs.News.{Newcomer, News, nothing}
-use Rattle.history.specs.Book.{Fate, waiting, fateAfter}
+use Rattle.history.specs.Book.{Fate, waiting, ended, over, fateAfter}
 use Rattle.history_proof.specs.Obligations.{JobShown, shown, fateBy, live, isLive, remark, shownAfter, newly, comers, Tells, Aim, Kept}
 use Rattle.history_proof.specs.Obligations.{Queued}
 
@@ -34,10 +37,13 @@ waits-runs Running w = true-false false w refl
 pub queued-by : (m : Model) (t : ℕ) (j : Job) → In j (m .jobs) → isWaiting j ≡ true → j .ticket ≡ t → Queued m t
 queued-by m t j i w e = subst (Queued m) e (job-elem (keep isWaiting (m .jobs)) (in-keep isWaiting i w))
 
+over-now : (c s : ℕ) → over 0 c s c ≡ ended s
+over-now c s = rw (le-ltb c (c + 0) (omega arith))
+
 module _ (c : ℕ) (e : News) where
   -- it is live after the event
   abbrev pub lives : Job → Bool
-  lives j = isLive (remark c e (shown j))
+  lives j = isLive (remark 0 c e (shown j))
 
   -- the tickets of those that leave: of those that run, whose runs end; of those that wait, who is withdrawn
   abbrev pub leavers : (runs : Bool) → List ℕ
@@ -47,13 +53,13 @@ module _ (c : ℕ) (e : News) where
   pub lives-by : (j : Job) → lives j ≡ not (elem (j .ticket) (leavers (isRunning j)))
   lives-by j = go (j .ticket) (j .state) (j .start)
     where
-      wait : (t : ℕ) → live (fateAfter c e t waiting) ≡ not (elem t (e .withdrew))
+      wait : (t : ℕ) → live (fateAfter 0 c e t waiting) ≡ not (elem t (e .withdrew))
       wait t = case (elem t (e .withdrew)) (λ x. rw x) (λ x. rw x (case (elem t (e .started)) (λ y. rw y) (λ y. rw y)))
 
-      go : (t : ℕ) (s : State) (b : ℕ) → live (fateAfter c e t (fateBy s b)) ≡ not (elem t (leavers (running? s)))
+      go : (t : ℕ) (s : State) (b : ℕ) → live (fateAfter 0 c e t (fateBy s b)) ≡ not (elem t (leavers (running? s)))
       go t Unused b = wait t
       go t Waiting b = wait t
-      go t Running b = case (elem t (e .ended)) (λ x. rw x) (λ x. rw x)
+      go t Running b = case (elem t (e .ended)) (λ x. rw x (ap live (over-now c b))) (λ x. rw x)
 
   -- Those that leave are those that a test picks: all run, or all wait, and nobody leaves in the other way.
   picked-lives : (runs : Bool) (p : Job → Bool) (js : List Job) → Asc 1 js → leavers runs ≡ ticketsOf (keep p js) → leavers (not runs) ≡ []
@@ -92,46 +98,46 @@ module _ (c : ℕ) (e : News) where
 
   -- the jobs after the event are those that a test did not pick, each as the event says, and who comes
   pub tells-by : (p : Job → Bool) (js after : List Job) → ((j : Job) → In j js → lives j ≡ not (p j))
-      → map shown after ≡ map (remark c e) (map shown (keep (λ (j : Job). not (p j)) js)) ++ keep isLive (map (remark c e) (comers e))
-      → map shown after ≡ shownAfter c e (map shown js ++ comers e)
+      → map shown after ≡ map (remark 0 c e) (map shown (keep (λ (j : Job). not (p j)) js)) ++ keep isLive (map (remark 0 c e) (comers e))
+      → map shown after ≡ shownAfter 0 c e (map shown js ++ comers e)
   tells-by p js after f h =
       h
-      ∙ ap (λ (l : List JobShown). l ++ keep isLive (map (remark c e) (comers e))) (sym leaves)
-      ∙ sym (keep-append isLive (map (remark c e) (map shown js)) (map (remark c e) (comers e)))
-      ∙ sym (ap (keep isLive) (map-append (remark c e) (map shown js) (comers e)))
+      ∙ ap (λ (l : List JobShown). l ++ keep isLive (map (remark 0 c e) (comers e))) (sym leaves)
+      ∙ sym (keep-append isLive (map (remark 0 c e) (map shown js)) (map (remark 0 c e) (comers e)))
+      ∙ sym (ap (keep isLive) (map-append (remark 0 c e) (map shown js) (comers e)))
     where
-      leaves : keep isLive (map (remark c e) (map shown js)) ≡ map (remark c e) (map shown (keep (λ (j : Job). not (p j)) js))
+      leaves : keep isLive (map (remark 0 c e) (map shown js)) ≡ map (remark 0 c e) (map shown (keep (λ (j : Job). not (p j)) js))
       leaves =
-          keep-map isLive (remark c e) (map shown js)
-          ∙ ap (map (remark c e)) (keep-map (λ (x : JobShown). isLive (remark c e x)) shown js ∙ ap (map shown) (keep-cong lives (λ (j : Job). not (p j)) js f))
+          keep-map isLive (remark 0 c e) (map shown js)
+          ∙ ap (map (remark 0 c e)) (keep-map (λ (x : JobShown). isLive (remark 0 c e x)) shown js ∙ ap (map shown) (keep-cong lives (λ (j : Job). not (p j)) js f))
 
   -- where nobody comes
   pub tells-leave : (p : Job → Bool) (js after : List Job) → ((j : Job) → In j js → lives j ≡ not (p j)) → e .came ≡ []
-      → map shown after ≡ map (remark c e) (map shown (keep (λ (j : Job). not (p j)) js)) → map shown after ≡ shownAfter c e (map shown js ++ comers e)
+      → map shown after ≡ map (remark 0 c e) (map shown (keep (λ (j : Job). not (p j)) js)) → map shown after ≡ shownAfter 0 c e (map shown js ++ comers e)
   tells-leave p js after f n h =
       tells-by p js after f
-      (h ∙ sym (append-nil stay) ∙ ap (λ (os : List Newcomer). stay ++ keep isLive (map (remark c e) (map newly os))) (sym n))
+      (h ∙ sym (append-nil stay) ∙ ap (λ (os : List Newcomer). stay ++ keep isLive (map (remark 0 c e) (map newly os))) (sym n))
     where
       stay : List JobShown
-      stay = map (remark c e) (map shown (keep (λ (j : Job). not (p j)) js))
+      stay = map (remark 0 c e) (map shown (keep (λ (j : Job). not (p j)) js))
 
   -- a job that stays and does not start is shown as it was
-  fate-same : (t : ℕ) (s : State) (b : ℕ) → elem t (e .started) ≡ false → live (fateAfter c e t (fateBy s b)) ≡ true → fateAfter c e t (fateBy s b) ≡ fateBy s b
+  fate-same : (t : ℕ) (s : State) (b : ℕ) → elem t (e .started) ≡ false → live (fateAfter 0 c e t (fateBy s b)) ≡ true → fateAfter 0 c e t (fateBy s b) ≡ fateBy s b
   fate-same t Unused b p q = case (elem t (e .withdrew)) (λ w. true-false false (rw w at q) refl) (λ w. rw (w, p))
   fate-same t Waiting b p q = case (elem t (e .withdrew)) (λ w. true-false false (rw w at q) refl) (λ w. rw (w, p))
-  fate-same t Running b p q = case (elem t (e .ended)) (λ w. true-false false (rw w at q) refl) (λ w. rw w)
+  fate-same t Running b p q = case (elem t (e .ended)) (λ w. true-false false (sym (ap live (over-now c b)) ∙ (rw w at q)) refl) (λ w. rw w)
 
-  pub remark-same : (j : Job) → elem (j .ticket) (e .started) ≡ false → lives j ≡ true → remark c e (shown j) ≡ shown j
+  pub remark-same : (j : Job) → elem (j .ticket) (e .started) ≡ false → lives j ≡ true → remark 0 c e (shown j) ≡ shown j
   remark-same j p q = shown-with (shown j) _ (fate-same (j .ticket) (j .state) (j .start) p q)
 
   -- where nobody leaves, and nobody starts but who comes
   pub tells-stay : (js more : List Job) → e .ended ≡ [] → e .withdrew ≡ [] → ((j : Job) → In j js → elem (j .ticket) (e .started) ≡ false)
-      → map shown more ≡ keep isLive (map (remark c e) (comers e)) → map shown (js ++ more) ≡ shownAfter c e (map shown js ++ comers e)
+      → map shown more ≡ keep isLive (map (remark 0 c e) (comers e)) → map shown (js ++ more) ≡ shownAfter 0 c e (map shown js ++ comers e)
   tells-stay js more d w f h =
       tells-by (λ (j : Job). false) js (js ++ more) (λ j i. none-leaves d w j)
       (map-append shown js more ∙ rw (keep-all (λ (j : Job). true) js (λ j i. refl), h)
-      (ap (λ (l : List JobShown). l ++ keep isLive (map (remark c e) (comers e)))
-      (sym (map-map (remark c e) shown js ∙ map-cong (λ (j : Job). remark c e (shown j)) shown js (λ j i. remark-same j (f j i) (none-leaves d w j))))))
+      (ap (λ (l : List JobShown). l ++ keep isLive (map (remark 0 c e) (comers e)))
+      (sym (map-map (remark 0 c e) shown js ∙ map-cong (λ (j : Job). remark 0 c e (shown j)) shown js (λ j i. remark-same j (f j i) (none-leaves d w j))))))
 
   -- what is kept of a start, where the job is not withdrawn: it has started so, or goes on waiting and is on course still
   pub kept-by : (a : Aim) (Course : Model → ℕ → Type 0) (m : Model) (t : ℕ) → elem t (e .withdrew) ≡ false
@@ -141,5 +147,6 @@ module _ (c : ℕ) (e : News) where
 
 -- where nothing is said, nothing has changed
 pub tells-nothing : (m : Model) (e : News) → e ≡ nothing → Tells m e m
+unfolding cleanup
 tells-nothing m e n =
     subst (λ (x : News). Tells m x m) (sym n) (rw (append-nil (m .jobs)) at (tells-stay (m .clock) nothing (m .jobs) [] refl refl (λ j i. refl) refl))

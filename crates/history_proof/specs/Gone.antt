@@ -13,6 +13,7 @@ use Rattle.lists.specs.Lists.{keep, elem, All, In, in-append, in-map, map-in, k
 use Rattle.scheduler.specs.declared.Kind.{Kind}
 use Rattle.scheduler.specs.declared.Job.{Job}
 use Rattle.scheduler.specs.Jobs.{isWaiting, isRunning}
+use Rattle.scheduler.specs.Settings.{cleanup}
 use Rattle.scheduler.specs.Table.{ticketsOf}
 use Rattle.scheduler.specs.Model.{Model}
 use Rattle.scheduler.specs.Answers.{Forecast}
@@ -63,19 +64,20 @@ module _ {k : Kind} {R : Rules} {Valid : Model → Type 0} {OnCourse : Model →
       now : j .ticket ≡ m .next → From j
 
     from : (j : Job) → In j (m′ .jobs) → From j
+    unfolding cleanup
     from j i =
         let xs = map shown (m .jobs) ++ comers r in
-        let k = keep-in isLive (map (remark (m′ .clock) r) xs) (subst (In (shown j)) (L .tells m c v) (in-map shown i)) in
-        let x = map-in (remark (m′ .clock) r) xs (k .0) in
+        let k = keep-in isLive (map (remark 0 (m′ .clock) r) xs) (subst (In (shown j)) (L .tells m c v) (in-map shown i)) in
+        let x = map-in (remark 0 (m′ .clock) r) xs (k .0) in
         go (x .0) (ap ticket (x .2)) (sym (ap isLive (x .2)) ∙ k .1) (in-append (map shown (m .jobs)) (x .1))
       where
         ticket : JobShown → ℕ
         ticket x = x .ticket
 
-        go : (x : JobShown) → j .ticket ≡ x .ticket → isLive (remark (m′ .clock) r x) ≡ true → In x (map shown (m .jobs)) ⊎ In x (comers r) → From j
+        go : (x : JobShown) → j .ticket ≡ x .ticket → isLive (remark 0 (m′ .clock) r x) ≡ true → In x (map shown (m .jobs)) ⊎ In x (comers r) → From j
         go x e l (inl k) =
             let y = map-in shown (m .jobs) k in
-            before (y .0) (y .1) (sym (e ∙ ap ticket (y .2))) (sym (ap (λ (z : JobShown). isLive (remark (m′ .clock) r z)) (y .2)) ∙ l)
+            before (y .0) (y .1) (sym (e ∙ ap ticket (y .2))) (sym (ap (λ (z : JobShown). isLive (remark 0 (m′ .clock) r z)) (y .2)) ∙ l)
         go x e l (inr k) = let y = map-in newly (r .came) k in now (e ∙ ap ticket (y .2) ∙ T .gives m c (y .0) v (y .1))
 
     -- who is gone after the call: a ticket given before it that no job has that lives on

@@ -15,7 +15,7 @@ use Rattle.scheduler.specs.declared.State.{State}
 use Rattle.scheduler.specs.declared.State.the-variants.{Unused, Waiting, Running}
 use Rattle.scheduler.specs.declared.Job.{Job}
 use Rattle.scheduler.specs.Jobs.{isWaiting, isRunning}
-use Rattle.scheduler.specs.Settings.{unit}
+use Rattle.scheduler.specs.Settings.{cleanup, unit}
 use Rattle.scheduler.specs.Table.{nodesHeld, ticketsOf}
 use Rattle.scheduler.specs.Model.{Model, Live}
 use Rattle.scheduler.specs.Answers.{Forecast}
@@ -23,7 +23,7 @@ use Rattle.jobs.specs.Soundness.{Sound}
 use Rattle.history.specs.Calls.{Call, Rules}
 use Rattle.history.specs.News.{Newcomer, News, newsOf, clockAfter}
 use Rattle.history.specs.Tickets.{nextAfter}
-use Rattle.history.specs.Book.{Fate, waiting, running, ended, withdrawn, fateAfter, lowest}
+use Rattle.history.specs.Book.{Fate, waiting, running, cleaning, ended, withdrawn, fateAfter, lowest}
 
 -- ## What calls and answers can show of a job
 
@@ -44,19 +44,20 @@ shown j = record { ticket = j .ticket; nodes = j .nodes; promise = j .promise; f
 abbrev pub live : Fate → Bool
 live waiting = true
 live (running s) = true
+live (cleaning s e) = true
 live (ended s) = false
 live (withdrawn w) = false
 
 abbrev pub isLive : JobShown → Bool
 isLive x = live (x .fate)
 
--- after an event that left the clock at c
-abbrev pub remark : ℕ → News → JobShown → JobShown
-remark c e x = record { ticket = x .ticket; nodes = x .nodes; promise = x .promise; fate = fateAfter c e (x .ticket) (x .fate) }
+-- after an event that left the clock at c, where nodes stay taken for k minutes
+abbrev pub remark : (k c : ℕ) → News → JobShown → JobShown
+remark k c e x = record { ticket = x .ticket; nodes = x .nodes; promise = x .promise; fate = fateAfter k c e (x .ticket) (x .fate) }
 
 -- the jobs that are live after it
-abbrev pub shownAfter : ℕ → News → List JobShown → List JobShown
-shownAfter c e xs = keep isLive (map (remark c e) xs)
+abbrev pub shownAfter : (k c : ℕ) → News → List JobShown → List JobShown
+shownAfter k c e xs = keep isLive (map (remark k c e) xs)
 
 -- the jobs that come
 abbrev pub newly : Newcomer → JobShown
@@ -67,7 +68,7 @@ comers e = map newly (e .came)
 
 -- it tells what has changed: the jobs after it are those before it and those that come, as it says
 abbrev pub Tells : Model → News → Model → Type 0
-Tells m e m′ = map shown (m′ .jobs) ≡ shownAfter (m′ .clock) e (map shown (m .jobs) ++ comers e)
+Tells m e m′ = map shown (m′ .jobs) ≡ shownAfter (cleanup (m′ .settings)) (m′ .clock) e (map shown (m .jobs) ++ comers e)
 
 -- what a call says, by its answer
 abbrev pub said : Rules → Model → Call → News
@@ -89,12 +90,13 @@ by d = record { mayStart = λ (s : ℕ). s ≤ d; mayWait = λ (w : ℕ). w < d 
 abbrev pub Meets : Aim → (Model → ℕ → Type 0) → Model → ℕ → Fate → Type 0
 Meets a Course m t waiting = Course m t
 Meets a Course m t (running s) = a .mayStart s
+Meets a Course m t (cleaning s e) = a .mayStart s
 Meets a Course m t (ended s) = a .mayStart s
 Meets a Course m t (withdrawn w) = a .mayWait w
 
 -- one that waited does so after the event
 abbrev pub Kept : Aim → (Model → ℕ → Type 0) → ℕ → News → Model → Type 0
-Kept a Course t e m = Meets a Course m t (fateAfter (m .clock) e t waiting)
+Kept a Course t e m = Meets a Course m t (fateAfter (cleanup (m .settings)) (m .clock) e t waiting)
 
 -- a job on course may still wait, and every call that does not withdraw it keeps it so or starts it so
 pub record Keeps (R : Rules) (Valid : Model → Type 0) (a : Aim) (Course : Model → ℕ → Type 0) : Type 0 where

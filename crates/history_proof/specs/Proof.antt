@@ -9,7 +9,7 @@ use mathlib.Core.Logic.{_⊎_, inl, inr}
 use mathlib.Core.Option.{Option, none, some}
 use Prim.Native.Nat.{ℕ, suc, _+_, _*_, _≤_}
 use native.Mathlib.Omega.{arith}
-use lib.Dec.{eqb}
+use lib.Dec.{eqb, ltb}
 use lib.ListN.{length, length-map}
 use borrow.Author.Tests.{eqb-true, eq-eqb, not-false}
 use Rattle.lists.specs.Tests.{case, true-false}
@@ -17,7 +17,7 @@ use Rattle.lists.specs.Lists.{keep, elem, In, in-left, in-right, in-append, in-
 use Rattle.scheduler.specs.declared.Kind.{Kind}
 use Rattle.scheduler.specs.declared.Kind.the-variants.{Conservative, Easy}
 use Rattle.scheduler.specs.Jobs as jobs
-use Rattle.scheduler.specs.Settings.{unit}
+use Rattle.scheduler.specs.Settings.{cleanup, unit}
 use Rattle.scheduler.specs.Table.{ticketOf}
 use Rattle.scheduler.specs.Model.{Model}
 use Rattle.scheduler.specs.Answers.{Forecast}
@@ -25,8 +25,8 @@ use Rattle.jobs.specs.Order.{elem-job}
 use Rattle.history.specs.Calls.{Call, Rules, after, events}
 use Rattle.history.specs.News.{Newcomer, News, clockAfter, withdraws-now}
 use Rattle.history.specs.Tickets.{givenTicket}
-use Rattle.history.specs.Book.{Fate, waiting, running, ended, withdrawn, Entry, Book, waits, start, withdrawal, isWaiting, rank, entry, fateAfter, marked, lowest}
-use Rattle.history.specs.Book.{entryTicket, queued, headOf, is, given, hearing, heard, enter, enterAll}
+use Rattle.history.specs.Book.{Fate, waiting, running, cleaning, ended, withdrawn, Entry, Book, waits, start, withdrawal, isWaiting, rank, entry, fateAfter, marked, lowest}
+use Rattle.history.specs.Book.{over, entryTicket, queued, headOf, is, given, hearing, heard, enter, enterAll}
 use Rattle.history.specs.Guarantee as guarantee
 use Rattle.history.specs.Guarantee.{StartedBy, Guarantee}
 use Rattle.history_proof.specs.Seen.{seen, isLiveEntry, keep-seen, marked-seen, Heard, same, first-time, heard-by, heard-seen}
@@ -64,15 +64,21 @@ some-is h t e = rw e (eq-eqb t t refl)
 waiting-is : (f : Fate) → waits f ≡ true → f ≡ waiting
 waiting-is waiting e = refl
 waiting-is (running s) e = true-false false e refl
+waiting-is (cleaning s m) e = true-false false e refl
 waiting-is (ended s) e = true-false false e refl
 waiting-is (withdrawn w) e = true-false false e refl
 
+-- whose run is over does not wait
+over-waits : (p c s m : ℕ) → waits (over p c s m) ≡ true → false ≡ true
+over-waits p c s m e = case (ltb c (m + p)) (λ q. rw q at e) (λ q. rw q at e)
+
 -- who waits after a call waited before it
-waited : (c : ℕ) (r : News) (t : ℕ) (f : Fate) → waits (fateAfter c r t f) ≡ true → waits f ≡ true
-waited c r t waiting e = refl
-waited c r t (running s) e = case (elem t (r .ended)) (λ q. rw q at e) (λ q. rw q at e)
-waited c r t (ended s) e = e
-waited c r t (withdrawn w) e = e
+waited : (p c : ℕ) (r : News) (t : ℕ) (f : Fate) → waits (fateAfter p c r t f) ≡ true → waits f ≡ true
+waited p c r t waiting e = refl
+waited p c r t (running s) e = case (elem t (r .ended)) (λ q. over-waits p c s c (rw q at e)) (λ q. rw q at e)
+waited p c r t (cleaning s m) e = over-waits p c s m e
+waited p c r t (ended s) e = e
+waited p c r t (withdrawn w) e = e
 
 -- a forecast given is the answer's
 given-is : (f : Option Forecast) (t d : ℕ) → given f t ≡ some d → (F : Forecast) × (f ≡ some F) × (F .ticket ≡ t) × (F .minute ≡ d)
@@ -93,18 +99,22 @@ given-told h F t e q = rw (e, eq-eqb (F .ticket) t q)
 -- withdrawn might still wait in the minute after it
 module _ (R : Rules) (Valid : Model → Type 0) (a : Aim) (Course : Model → ℕ → Type 0) (K : Keeps R Valid a Course)
     (C : (m : Model) (c : Call) → Valid m → R m c .model .clock ≡ clockAfter (said R m c) (m .clock)) (m : Model) (c : Call) (v : Valid m) where
-  pub kept-after : (t : ℕ) (f : Fate) → Meets a Course m t f → Meets a Course (R m c .model) t (fateAfter (R m c .model .clock) (said R m c) t f)
-  kept-after t waiting o =
+  over-kept : (p t now s n : ℕ) → a .mayStart s → Meets a Course (R m c .model) t (over p now s n)
+  over-kept p t now s n o = case (ltb now (n + p)) (λ q. rw q o) (λ q. rw q o)
+
+  pub kept-after : (p t : ℕ) (f : Fate) → Meets a Course m t f → Meets a Course (R m c .model) t (fateAfter p (R m c .model .clock) (said R m c) t f)
+  kept-after p t waiting o =
       case (elem t (said R m c .withdrew))
       (λ w. rw w (subst (a .mayWait) (sym (C m c v ∙ ap (λ (p : Bool). cond p (suc (m .clock)) (m .clock)) (withdraws-now c (R m c .reply) t w))) (K .rest m t v o)))
       (λ w. K .keeps m c t v o w)
-  kept-after t (running s) o = case (elem t (R m c .reply .ended)) (λ e. rw e o) (λ e. rw e o)
-  kept-after t (ended s) o = o
-  kept-after t (withdrawn w) o = o
+  kept-after p t (running s) o = case (elem t (R m c .reply .ended)) (λ e. rw e (over-kept p t (R m c .model .clock) s (R m c .model .clock) o)) (λ e. rw e o)
+  kept-after p t (cleaning s n) o = over-kept p t (R m c .model .clock) s n o
+  kept-after p t (ended s) o = o
+  kept-after p t (withdrawn w) o = o
 
 module _ {k : Kind} {R : Rules} {Valid : Model → Type 0} {OnCourse : Model → ℕ → ℕ → Type 0} (L : Lawful k R Valid OnCourse) where
   -- ### the book after the call
-  module _ (m : Model) (c : Call) (v : Valid m) (b : Book) (a : Agrees k OnCourse m b) (u : ℕ) (u-is : u ≡ unit (m .settings)) where
+  module _ (m : Model) (c : Call) (v : Valid m) (b : Book) (a : Agrees k OnCourse m b) (u p : ℕ) (u-is : u ≡ unit (m .settings)) (p-is : p ≡ cleanup (m .settings)) where
     abbrev r : News
     r = said R m c
 
@@ -118,24 +128,27 @@ module _ {k : Kind} {R : Rules} {Valid : Model → Type 0} {OnCourse : Model →
     xs = b .entries ++ map (entry u b) (r .came)
 
     abbrev ys : List Entry
-    ys = map (marked c′ r) xs
+    ys = map (marked p c′ r) xs
 
     abbrev b′ : Book
-    b′ = enter u b r
+    b′ = enter u p b r
 
     clock-after : m′ .clock ≡ c′
     clock-after = L .clock m c v ∙ ap (clockAfter r) (sym (a .clock-is))
+
+    cleanup-after : cleanup (m′ .settings) ≡ p
+    cleanup-after = ap cleanup (L .settings m c v) ∙ sym p-is
 
     -- what the entries show, up to those that have ended, is what the jobs show
     live-after : map seen (keep isLiveEntry (b′ .entries)) ≡ map shown (m′ .jobs)
     unfolding enter
     live-after =
         keep-seen (map (heard (headOf ys) (r .head)) ys)
-        ∙ ap (keep isLive) (heard-seen (headOf ys) (r .head) ys ∙ marked-seen c′ r xs)
-        ∙ drop-ended c′ r (map seen xs)
-        ∙ ap (λ (l : List JobShown). keep isLive (map (remark c′ r) l))
+        ∙ ap (keep isLive) (heard-seen (headOf ys) (r .head) ys ∙ marked-seen p c′ r xs)
+        ∙ drop-ended p c′ r (map seen xs)
+        ∙ ap (λ (l : List JobShown). keep isLive (map (remark p c′ r) l))
         (came-seen u b (b .entries) (r .came) ∙ ap (λ (l : List JobShown). l ++ comers r) (a .jobs-are))
-        ∙ sym (rw clock-after at (L .tells m c v))
+        ∙ sym (rw (clock-after, cleanup-after) at (L .tells m c v))
 
     -- who waits
     queue-before : queued (b .entries) ≡ waitingTickets m
@@ -169,35 +182,35 @@ module _ {k : Kind} {R : Rules} {Valid : Model → Type 0} {OnCourse : Model →
 
     -- The walk over the entries after the call: each comes from one before it, and hears a forecast or does not.
     each : (P : Entry → Type 0)
-        → ((x : Entry) → Came x → (isWaiting (marked c′ r x) && is (headOf ys) (x .ticket) && not (x .headed)) ≡ false → P (marked c′ r x))
-        → ((x : Entry) → Came x → isWaiting (marked c′ r x) ≡ true → is (headOf ys) (x .ticket) ≡ true → x .headed ≡ false
-        → P (hearing (r .head) (marked c′ r x)))
+        → ((x : Entry) → Came x → (isWaiting (marked p c′ r x) && is (headOf ys) (x .ticket) && not (x .headed)) ≡ false → P (marked p c′ r x))
+        → ((x : Entry) → Came x → isWaiting (marked p c′ r x) ≡ true → is (headOf ys) (x .ticket) ≡ true → x .headed ≡ false
+        → P (hearing (r .head) (marked p c′ r x)))
         → (z : Entry) → In z (b′ .entries) → P z
     unfolding enter
     each P f g z i =
-        let p = map-in (heard (headOf ys) (r .head)) ys i in
-        let q = map-in (marked c′ r) xs (p .1) in
-        from (q .0) (p .2 ∙ ap (heard (headOf ys) (r .head)) (q .2)) (origin (q .0) (in-append (b .entries) (q .1)))
-        (heard-by (headOf ys) (r .head) (marked c′ r (q .0)))
+        let y = map-in (heard (headOf ys) (r .head)) ys i in
+        let q = map-in (marked p c′ r) xs (y .1) in
+        from (q .0) (y .2 ∙ ap (heard (headOf ys) (r .head)) (q .2)) (origin (q .0) (in-append (b .entries) (q .1)))
+        (heard-by (headOf ys) (r .head) (marked p c′ r (q .0)))
       where
         origin : (x : Entry) → In x (b .entries) ⊎ In x (map (entry u b) (r .came)) → Came x
         origin x (inl k) = old x k
         origin x (inr k) = let q = map-in (entry u b) (r .came) k in subst Came (sym (q .2)) (new (q .0) (q .1))
 
-        from : (x : Entry) → z ≡ heard (headOf ys) (r .head) (marked c′ r x) → Came x → Heard (headOf ys) (r .head) (marked c′ r x) → P z
+        from : (x : Entry) → z ≡ heard (headOf ys) (r .head) (marked p c′ r x) → Came x → Heard (headOf ys) (r .head) (marked p c′ r x) → P z
         from x e o (same q t) = subst P (sym (e ∙ q)) (f x o t)
         from x e o (first-time q w h n) = subst P (sym (e ∙ q)) (g x o w h n)
 
     -- who met a deadline, or was on course for it, does so after the call
-    on-time : (t d : ℕ) (f : Fate) → OnTime OnCourse m t f d → OnTime OnCourse m′ t (fateAfter c′ r t f) d
+    on-time : (t d : ℕ) (f : Fate) → OnTime OnCourse m t f d → OnTime OnCourse m′ t (fateAfter p c′ r t f) d
     on-time t d f o =
-        subst (λ (x : ℕ). OnTime OnCourse m′ t (fateAfter x r t f) d) clock-after
-        (kept-after R Valid (by d) (For OnCourse d) (L .keeps d) (L .clock) m c v t f o)
+        subst (λ (x : ℕ). OnTime OnCourse m′ t (fateAfter p x r t f) d) clock-after
+        (kept-after R Valid (by d) (For OnCourse d) (L .keeps d) (L .clock) m c v p t f o)
 
-    deadline-came : (x : Entry) → Came x → OnTime OnCourse m′ (x .ticket) (fateAfter c′ r (x .ticket) (x .fate)) (deadlineOf k x)
+    deadline-came : (x : Entry) → Came x → OnTime OnCourse m′ (x .ticket) (fateAfter p c′ r (x .ticket) (x .fate)) (deadlineOf k x)
     deadline-came x (old y i) = on-time (x .ticket) (deadlineOf k x) (x .fate) (a .deadlines x i)
     deadline-came x (new o i) =
-        subst (λ (y : ℕ). OnTime OnCourse m′ (o .ticket) (fateAfter y r (o .ticket) waiting) (deadlineOf k (entry u b o))) clock-after
+        subst (λ (y : ℕ). OnTime OnCourse m′ (o .ticket) (fateAfter p y r (o .ticket) waiting) (deadlineOf k (entry u b o))) clock-after
         (subst (λ (d : ℕ). let e = deadline k (o .promise) d in Kept (by e) (For OnCourse e) (o .ticket) r m′) bound-is (L .joins m c o v i))
 
     deadline-after : (z : Entry) → In z (b′ .entries) → OnTime OnCourse m′ (z .ticket) (z .fate) (deadlineOf k z)
@@ -205,7 +218,7 @@ module _ {k : Kind} {R : Rules} {Valid : Model → Type 0} {OnCourse : Model →
         each (λ (z : Entry). OnTime OnCourse m′ (z .ticket) (z .fate) (deadlineOf k z)) (λ x o t. deadline-came x o) (λ x o w h n. deadline-came x o)
 
     -- a forecast that an entry had, or hears now
-    forecast-came : (x : Entry) (f : ℕ) → Came x → x .forecast ≡ some f → OnTime OnCourse m′ (x .ticket) (fateAfter c′ r (x .ticket) (x .fate)) f
+    forecast-came : (x : Entry) (f : ℕ) → Came x → x .forecast ≡ some f → OnTime OnCourse m′ (x .ticket) (fateAfter p c′ r (x .ticket) (x .fate)) f
     forecast-came x f (old y i) e = on-time (x .ticket) f (x .fate) (a .forecasts x f i e)
     forecast-came x f (new o i) e = absurd (let z : _≡_ {A = ℕ} 0 1 = cc in omega arith)
 
@@ -220,7 +233,7 @@ module _ {k : Kind} {R : Rules} {Valid : Model → Type 0} {OnCourse : Model →
     forecast-after =
         each (λ (z : Entry). (f : ℕ) → z .forecast ≡ some f → OnTime OnCourse m′ (z .ticket) (z .fate) f)
         (λ x o t f g. forecast-came x f o g)
-        (λ x o w h n f g. rw (waiting-is (fateAfter c′ r (x .ticket) (x .fate)) w) (forecast-now x f g))
+        (λ x o w h n f g. rw (waiting-is (fateAfter p c′ r (x .ticket) (x .fate)) w) (forecast-now x f g))
 
     -- who is head now for the first time was not head before
     not-before : (x : Entry) → Came x → waits (x .fate) ≡ true → x .headed ≡ false → lowestWaiting m ≡ some (x .ticket) → ⊥
@@ -237,7 +250,7 @@ module _ {k : Kind} {R : Rules} {Valid : Model → Type 0} {OnCourse : Model →
         (λ x o t h. headed-came ke x o h)
         (λ x o w hd n h.
         let now : lowestWaiting m′ ≡ some (x .ticket) = sym head-after ∙ head-heard ∙ is-some (headOf ys) (x .ticket) hd in
-        let F = L .hears ke m c (x .ticket) v now (not-before x o (waited c′ r (x .ticket) (x .fate) w) n) in
+        let F = L .hears ke m c (x .ticket) v now (not-before x o (waited p c′ r (x .ticket) (x .fate) w) n) in
         (F .0 .minute, given-told (r .head) (F .0) (x .ticket) (F .1) (F .2)))
 
     heads-after : (z : Entry) → In z (b′ .entries) → isWaiting z ≡ true → headOf (b′ .entries) ≡ some (z .ticket) → z .headed ≡ true
@@ -293,19 +306,21 @@ module _ {k : Kind} {R : Rules} {Valid : Model → Type 0} {OnCourse : Model →
 
   -- ## Every list of calls
 
-  pub record InStep (u : ℕ) (m : Model) (b : Book) : Type 0 where
+  pub record InStep (u p : ℕ) (m : Model) (b : Book) : Type 0 where
     pub valid : Valid m
     pub agrees : Agrees k OnCourse m b
     pub unit-is : u ≡ unit (m .settings)
+    pub cleanup-is : p ≡ cleanup (m .settings)
 
-  pub follows : (u : ℕ) (m : Model) (b : Book) (cs : List Call) → InStep u m b → InStep u (after R m cs) (enterAll u b (events R m cs))
-  follows u m b [] f = f
-  follows u m b (c ∷ cs) f =
-      follows u (R m c .model) (enter u b (said R m c)) cs
+  pub follows : (u p : ℕ) (m : Model) (b : Book) (cs : List Call) → InStep u p m b → InStep u p (after R m cs) (enterAll u p b (events R m cs))
+  follows u p m b [] f = f
+  follows u p m b (c ∷ cs) f =
+      follows u p (R m c .model) (enter u p b (said R m c)) cs
       (record {
         valid = L .valid m c (f .valid);
-        agrees = agrees-call m c (f .valid) b (f .agrees) u (f .unit-is);
+        agrees = agrees-call m c (f .valid) b (f .agrees) u p (f .unit-is) (f .cleanup-is);
         unit-is = f .unit-is ∙ ap unit (sym (L .settings m c (f .valid)));
+        cleanup-is = f .cleanup-is ∙ ap cleanup (sym (L .settings m c (f .valid)));
       })
 
   -- ## What agreement guarantees
@@ -324,6 +339,7 @@ module _ {k : Kind} {R : Rules} {Valid : Model → Type 0} {OnCourse : Model →
         go : (f : Fate) → x .fate ≡ f → OnTime OnCourse m (x .ticket) f d → guarantee.Kept (b .clock) x d
         go waiting e o = unless waiting e refl (λ l. absurd (omega (arith, L .keeps d .rest m (x .ticket) v o, a .clock-is)))
         go (running s) e o = unless (running s) e refl (λ l. record { minute = s; started = ap start e; by = o })
+        go (cleaning s n) e o = unless (cleaning s n) e refl (λ l. record { minute = s; started = ap start e; by = o })
         go (ended s) e o = unless (ended s) e refl (λ l. record { minute = s; started = ap start e; by = o })
         go (withdrawn y) e o = record {
           starts = λ n l. absurd (let p : some y ≡ none = sym (ap withdrawal e) ∙ n in let z : _≡_ {A = ℕ} 0 1 = cc in omega arith);
@@ -345,10 +361,10 @@ module _ {k : Kind} {R : Rules} {Valid : Model → Type 0} {OnCourse : Model →
         by-kind κ q x o = subst (λ (j : Kind). OnTime OnCourse m (x .ticket) (x .fate) (deadlineOf j x)) q o
 
   -- from any book that agrees with a valid model, after every list of calls
-  pub guaranteed : (u : ℕ) (m : Model) (b : Book) (cs : List Call) → InStep u m b → Guarantee k (after R m cs .settings .nodes) (enterAll u b (events R m cs))
-  guaranteed u m b cs f =
-      let g = follows u m b cs f in
-      agrees-guarantee (after R m cs) (enterAll u b (events R m cs)) (g .valid) (g .agrees)
+  pub guaranteed : (u p : ℕ) (m : Model) (b : Book) (cs : List Call) → InStep u p m b → Guarantee k (after R m cs .settings .nodes) (enterAll u p b (events R m cs))
+  guaranteed u p m b cs f =
+      let g = follows u p m b cs f in
+      agrees-guarantee (after R m cs) (enterAll u p b (events R m cs)) (g .valid) (g .agrees)
 
   -- the machine's nodes stay what they were
   pub settings-after : (m : Model) (cs : List Call) → Valid m → after R m cs .settings ≡ m .settings

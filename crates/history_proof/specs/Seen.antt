@@ -20,7 +20,7 @@ use Rattle.scheduler.specs.Table.{nodesHeld, ticketsOf}
 use Rattle.scheduler.specs.Model.{Live}
 use Rattle.scheduler.specs.Answers.{Forecast}
 use Rattle.history.specs.News.{Newcomer, News}
-use Rattle.history.specs.Book.{Fate, waiting, running, ended, withdrawn, Entry, Book, entry, waits, holds, isWaiting, fateAfter, marked, entryTicket, is, hearing, heard}
+use Rattle.history.specs.Book.{Fate, waiting, running, cleaning, ended, withdrawn, Entry, Book, entry, waits, holds, isWaiting, fateAfter, marked, entryTicket, is, hearing, heard}
 use Rattle.history.specs.Guarantee.{held-nodes}
 use Rattle.history_proof.specs.Obligations.{JobShown, fateBy, shown, live, isLive, remark, newly}
 
@@ -35,8 +35,8 @@ keep-seen xs = sym (keep-map isLive seen xs)
 
 -- ## After an event
 
-pub marked-seen : (c : ℕ) (e : News) (xs : List Entry) → map seen (map (marked c e) xs) ≡ map (remark c e) (map seen xs)
-marked-seen c e xs = map-map seen (marked c e) xs ∙ sym (map-map (remark c e) seen xs)
+pub marked-seen : (k c : ℕ) (e : News) (xs : List Entry) → map seen (map (marked k c e) xs) ≡ map (remark k c e) (map seen xs)
+marked-seen k c e xs = map-map seen (marked k c e) xs ∙ sym (map-map (remark k c e) seen xs)
 
 -- an entry that hears a forecast was waiting, head, and had not been head before
 pub data Heard (h : Option ℕ) (f : Option Forecast) (y : Entry) : Type 0 where
@@ -59,19 +59,20 @@ heard-seen h f ys = map-map seen (heard h f) ys ∙ map-cong (λ (y : Entry). se
     one y (first-time e w i n) = ap seen e
 
 -- who has ended or was withdrawn stays so
-ended-stays : (c : ℕ) (e : News) (t : ℕ) (f : Fate) → (live f && live (fateAfter c e t f)) ≡ live (fateAfter c e t f)
-ended-stays c e t waiting = refl
-ended-stays c e t (running s) = refl
-ended-stays c e t (ended s) = refl
-ended-stays c e t (withdrawn w) = refl
+ended-stays : (k c : ℕ) (e : News) (t : ℕ) (f : Fate) → (live f && live (fateAfter k c e t f)) ≡ live (fateAfter k c e t f)
+ended-stays k c e t waiting = refl
+ended-stays k c e t (running s) = refl
+ended-stays k c e t (cleaning s m) = refl
+ended-stays k c e t (ended s) = refl
+ended-stays k c e t (withdrawn w) = refl
 
-pub drop-ended : (c : ℕ) (e : News) (xs : List JobShown) → keep isLive (map (remark c e) xs) ≡ keep isLive (map (remark c e) (keep isLive xs))
-drop-ended c e xs =
-    let after : JobShown → Bool = λ (x : JobShown). isLive (remark c e x) in
-    keep-map isLive (remark c e) xs
-    ∙ ap (map (remark c e))
-    (sym (keep-keep after isLive xs ∙ keep-cong (λ (x : JobShown). isLive x && after x) after xs (λ x i. ended-stays c e (x .ticket) (x .fate))))
-    ∙ sym (keep-map isLive (remark c e) (keep isLive xs))
+pub drop-ended : (k c : ℕ) (e : News) (xs : List JobShown) → keep isLive (map (remark k c e) xs) ≡ keep isLive (map (remark k c e) (keep isLive xs))
+drop-ended k c e xs =
+    let after : JobShown → Bool = λ (x : JobShown). isLive (remark k c e x) in
+    keep-map isLive (remark k c e) xs
+    ∙ ap (map (remark k c e))
+    (sym (keep-keep after isLive xs ∙ keep-cong (λ (x : JobShown). isLive x && after x) after xs (λ x i. ended-stays k c e (x .ticket) (x .fate))))
+    ∙ sym (keep-map isLive (remark k c e) (keep isLive xs))
 
 -- who comes is live
 pub came-seen : (u : ℕ) (b : Book) (xs : List Entry) (os : List Newcomer)
@@ -106,6 +107,7 @@ queue xs = map shown-ticket (keep waits-shown xs)
 waits-live : (f : Fate) → (live f && waits f) ≡ waits f
 waits-live waiting = refl
 waits-live (running s) = refl
+waits-live (cleaning s e) = refl
 waits-live (ended s) = refl
 waits-live (withdrawn w) = refl
 
@@ -141,6 +143,7 @@ shown-nodes x = on (holds (x .fate)) (x .nodes)
 holds-live : (f : Fate) → live f ≡ false → holds f ≡ false
 holds-live waiting e = refl
 holds-live (running s) e = e
+holds-live (cleaning s m) e = e
 holds-live (ended s) e = refl
 holds-live (withdrawn w) e = refl
 

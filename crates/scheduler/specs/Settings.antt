@@ -27,6 +27,10 @@ longest S = limit.longestEstimate
 unfoldable pub holdTime : Settings → ℕ → ℕ
 holdTime S e = wallTime e
 
+-- the minutes for which its nodes stay taken after its run has ended (document 02, No. 3: "clearing"): so far none
+unfoldable pub cleanup : Settings → ℕ
+cleanup S = 0
+
 -- the longest of these: the unit of the bound, "r × 10,080"
 unfoldable pub unit : Settings → ℕ
 unit S = holdTime S (longest S)
