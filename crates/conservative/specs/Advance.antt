@@ -11,7 +11,7 @@ use lib.ListN.{length, getD, take, replicate}
 use Rattle.lists.specs.Tests.{case}
 use Rattle.lists.specs.Pads.{pad}
 use Rattle.scheduler.specs.declared.State.{State}
-use Rattle.scheduler.specs.declared.State.the-variants.{Unused, Waiting, Running}
+use Rattle.scheduler.specs.declared.State.the-variants.{Unused, Waiting, Running, Cleanup}
 use Rattle.scheduler.specs.declared.Job.{Job}
 use Rattle.scheduler.specs.declared.Outcome.{Outcome}
 use Rattle.scheduler.specs.declared.Refusal.{Refusal}
@@ -19,8 +19,9 @@ use Rattle.scheduler.specs.declared.Refusal.the-variants as refusal
 use Rattle.scheduler.specs.declared.Scheduler.{Scheduler}
 use Rattle.scheduler.specs.declared.Select.{Select}
 use Rattle.scheduler.specs.Limits.{slots}
-use Rattle.scheduler.specs.Jobs.{unused, waiting?, running?, isWaiting, isRunning}
-use Rattle.scheduler.specs.Table.{oneIf, tickets, endedOf, staying}
+use Rattle.scheduler.specs.States.{waiting?, running?}
+use Rattle.scheduler.specs.Jobs.{unused, isWaiting, isRunning}
+use Rattle.scheduler.specs.Table.{oneIf, tickets, endedOf}
 use Rattle.scheduler.specs.Model.{Model, store, without, withModelJobs}
 use Rattle.scheduler.specs.Answers.{outcome, refuse}
 use Rattle.job_table.specs.declared.Part.{Part}
@@ -95,6 +96,7 @@ begun-self (j ∷ js) = rw (never (j .state)) (begun-self js)
     never Unused = refl
     never Waiting = refl
     never Running = refl
+    never Cleanup = refl
 
 -- a refused call that leaves the table as it was
 pub refused-stored : (m : Model) (r : Refusal) → advancedBy (part (refusedOwn m r)) (store m) ≡ outcome (refuse m r)
@@ -103,7 +105,7 @@ refused-stored m r =
     ap (λ (ts : List ℕ). outcome
     (record { reply = record { refusal = r; ticket = 0; promise = 0; ended = []; started = ts; head = none }; model = m })) (begun-self (store m .jobs))
 
-pub advanced-stored : (m : Model) (clock : ℕ) (s : Select) (w : ℕ) (ks : List Job) → length (staying s (m .jobs)) ≡ length ks
+pub advanced-stored : (m : Model) (clock : ℕ) (s : Select) (w : ℕ) (ks : List Job) → length (without m clock s .jobs) ≡ length ks
     → advancedBy (part (leaving m clock s w)) (store (withModelJobs (without m clock s) ks)) ≡ outcome (advanced m clock s ks)
 unfolding advancedBy advanced
 advanced-stored m clock s w ks e = λ i. record {

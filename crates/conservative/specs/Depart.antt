@@ -1,27 +1,24 @@
 -- What the code of an early completion or a withdrawal computes on a stored model is the definition's.
 -- Assumes nothing.
 use mathlib.Core.Path.{_≡_, refl, sym, ap, _∙_}
-use mathlib.Core.Bool.{true, false, not}
+use mathlib.Core.Bool.{true, false}
 use mathlib.Core.List.{[]}
 use Prim.Native.Nat.{ℕ}
 use native.Mathlib.Omega.{arith}
-use Rattle.lists.specs.Lists.{keep-in}
-use Rattle.scheduler.specs.declared.Job.{Job}
 use Rattle.scheduler.specs.declared.Outcome.{Outcome}
 use Rattle.scheduler.specs.declared.Departure.{Departure}
 use Rattle.scheduler.specs.declared.Select.the-variants as select
-use Rattle.scheduler.specs.Jobs.{picks}
 use Rattle.scheduler.specs.Table.{withJobs}
 use Rattle.scheduler.specs.Model.{Model, store, view, without, withModelJobs}
 use Rattle.scheduler.specs.Answers.{outcome, accepts}
 use Rattle.scheduler.specs.Refusals.{departRefusal}
-use Rattle.jobs.specs.Soundness.{Sound, sound-leave, early, all-live}
+use Rattle.jobs.specs.Soundness.{Sound, sound-leave, early, all-live, remained-waits}
 use Rattle.jobs.specs.Premise.{Holds, store-holds}
 use Rattle.job_table.specs.declared.Part.{Part}
 use Rattle.job_table.specs.Parts.{Own, departing, withdrawnBy, leaving, part, own-taken, own-refused}
 use Rattle.history.specs.Calls.{depart}
 use Rattle.conservative_rules.specs.Conservative.{pass, call, departed}
-use Rattle.conservative_laws.specs.Validity.{Valid, used-staying}
+use Rattle.conservative_laws.specs.Validity.{Valid, used-remaining}
 use Rattle.conservative.specs.Advance.{advancedBy, refused-stored, advanced-stored}
 use Rattle.conservative_plan.specs.Pass.{Replannable, pass-stored, pass-length}
 
@@ -38,8 +35,8 @@ module _ (m : Model) (h : Departure) (t : ℕ) (v : Valid m) where
 
   replannable : Replannable rest
   replannable = record {
-    planned = record { sound = sound-rest; room = λ r l. omega (arith, used-staying (m .settings) r (select.Departing h t) (m .jobs), v .room r l) };
-    ahead = λ j i w. v .ahead j (keep-in (λ (k : Job). not (picks (select.Departing h t) k)) (m .jobs) i .0) w;
+    planned = record { sound = sound-rest; room = λ r l. omega (arith, used-remaining m (m .clock) (select.Departing h t) (v .sound) (early h t) r, v .room r l) };
+    ahead = λ j i w. v .ahead j (remained-waits (m .settings) (m .clock) (select.Departing h t) (m .jobs) i w .0) w;
   }
 
   rest-held : Holds Replannable (store rest)

@@ -2,16 +2,16 @@
 -- Assumes nothing.
 use mathlib.Core.Path.{_≡_, refl, sym, ap, _∙_}
 use mathlib.Core.Bool.{true, false}
-use mathlib.Core.List.{List, _∷_, _++_, map, map-append, append-nil}
-use Prim.Native.Nat.{ℕ, zero, suc, _+_, _-_, _≤_, _<_}
+use mathlib.Core.List.{List, _++_, map, map-append, append-nil}
+use Prim.Native.Nat.{ℕ, suc, _+_, _≤_, _<_}
 use native.Mathlib.Omega.{arith}
-use lib.ListN.{length, getD, set, take, drop, replicate, length-map, length-append, drop-of-length-le}
+use lib.ListN.{length, getD, set, take, drop, length-map, length-append, drop-of-length-le}
 use lib.Seq.{take-all, length-take-le, getD-append-add, getD-drop}
 use borrow.Author.Tests.{ne-eqb}
 use Rattle.lists.specs.Tests.{case}
 use Rattle.lists.specs.Lists.{keep, In, map-same}
 use Rattle.lists.specs.Loops.{keep-take-yes, keep-take-no, mapped-set, mapped-skip}
-use Rattle.lists.specs.Pads.{pad, pad-push}
+use Rattle.lists.specs.Pads.{pad, pad-push, map-pad}
 use Rattle.scheduler.specs.declared.Job.{Job}
 use Rattle.scheduler.specs.declared.Refusal.{Refusal}
 use Rattle.scheduler.specs.declared.Scheduler.{Scheduler}
@@ -33,21 +33,10 @@ use Rattle.conservative.specs.Advance.{advancedBy, refused-stored, advan
 
 -- ## The starts, on the slots of the table and on the model
 
--- unused slots stay unused
-turned-same : (now k : ℕ) → map (turned now) (replicate k unused) ≡ replicate k unused
-turned-same now zero = refl
-turned-same now (suc k) = ap (λ (l : List Job). unused ∷ l) (turned-same now k)
-
-turned-pad : (now : ℕ) (js : List Job) → map (turned now) (pad limit.slots unused js) ≡ pad limit.slots unused (map (turned now) js)
-unfolding pad
-turned-pad now js =
-    map-append (turned now) js (replicate (limit.slots - length js) unused)
-    ∙ rw (turned-same now (limit.slots - length js), length-map js (turned now))
-
 -- the slots of a stored model
 turned-stored : (now : ℕ) (m : Model) → withJobs (store m) (map (turned now) (store m .jobs)) ≡ store (withModelJobs m (map (turned now) (m .jobs)))
 unfolding store
-turned-stored now m = ap (withJobs (store m)) (turned-pad now (m .jobs))
+turned-stored now m = ap (withJobs (store m)) (map-pad limit.slots unused (turned now) (m .jobs) refl)
 
 -- ## The tick
 

@@ -57,6 +57,7 @@ fn began(before: Job, after: Job) -> bool
         State::Unused => false,
         State::Waiting => false,
         State::Running => before.is_waiting(),
+        State::Cleanup => false,
     }
 }
 
@@ -152,6 +153,7 @@ fn starts_at(job: Job, now: u32) -> bool
         State::Unused => false,
         State::Waiting => job.start == now,
         State::Running => false,
+        State::Cleanup => false,
     }
 }
 

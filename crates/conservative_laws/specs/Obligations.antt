@@ -4,33 +4,36 @@
 use Prim.Native.Nat.{ℕ, suc, min, _≤_, _<_}
 use native.Mathlib.Omega.{arith}
 use mathlib.Core.Path.{_≡_, refl, sym, ap, subst, _∙_}
-use mathlib.Core.Bool.{true, false, not, _&&_, cond}
+use mathlib.Core.Bool.{Bool, true, false, not, _&&_, cond}
 use mathlib.Core.List.{List, [], _∷_, map, foldr}
 use mathlib.Core.Logic.{_⊎_, inl, inr}
 use mathlib.Core.Option.{none, some}
 use lib.Dec.{eqb}
 use borrow.Author.Tests.{eqb-true, eq-eqb, ne-eqb, not-true}
 use Rattle.lists.specs.Tests.{case, true-false, both}
-use Rattle.lists.specs.Lists.{keep, elem, In, here, there, in-nil, in-cons, in-left, in-right, keep-in, in-keep}
+use Rattle.lists.specs.Lists.{keep, elem, In, here, there, in-nil, in-cons, in-left, in-right, keep-in}
 use Rattle.scheduler.specs.declared.Kind.the-variants.{Conservative}
 use Rattle.scheduler.specs.declared.State.{State}
-use Rattle.scheduler.specs.declared.State.the-variants.{Unused, Waiting, Running}
+use Rattle.scheduler.specs.declared.State.the-variants.{Unused, Waiting, Running, Cleanup}
 use Rattle.scheduler.specs.declared.Job.{Job}
 use Rattle.scheduler.specs.declared.Select.{Select}
-use Rattle.scheduler.specs.Jobs.{isWaiting, isRunning, waiting?, running?, picks}
+use Rattle.scheduler.specs.States.{waiting?, running?}
+use Rattle.scheduler.specs.Jobs.{isWaiting, isRunning}
 use Rattle.scheduler.specs.Settings.{cleanup}
-use Rattle.scheduler.specs.Table.{ticketsOf, staying}
+use Rattle.scheduler.specs.Table as table
+use Rattle.scheduler.specs.Table.{ticketsOf, staying, ceased, remaining}
 use Rattle.scheduler.specs.Model.{Model}
 use Rattle.scheduler.specs.Answers.{Result, refusing}
-use Rattle.jobs.specs.Order.{Asc, asc-in, asc-keep}
+use Rattle.jobs.specs.Order.{Asc, asc-in, elem-job, elem-picked}
 use Rattle.jobs.specs.Departing.{ended-ran}
-use Rattle.jobs.specs.Soundness.{all-live}
+use Rattle.jobs.specs.Soundness.{all-live, Leaving, withdraws-waits, ceased-ticket, ceased-waits, waits-remains, remained-waits, sound-leave}
+use Rattle.jobs.specs.Soundness as soundness
 use Rattle.history.specs.Calls.{Call, submit}
 use Rattle.history.specs.News.{Newcomer, News, newsOf, clockAfter, came-stays}
 use Rattle.history.specs.Book.{running, fateAfter, lowest}
 use Rattle.history_proof.specs.Obligations.{shown, fateBy, live, remark, Tells, by, Kept, Queued, Comes, For, Lawful}
-use Rattle.history_proof.specs.Departures.{shown-with, waits-runs, queued-by, lives, lives-by, tells-leave, remark-same, tells-stay, tells-nothing, kept-by}
-use Rattle.conservative_rules.specs.Conservative.{planned, stateAt, newJob, submitted, begun, advanced, call}
+use Rattle.history_proof.specs.Departures.{shown-with, queued-by, lives, Departs, departs-live, departs-shown, tells-leave, tells-stay, tells-nothing, kept-by}
+use Rattle.conservative_rules.specs.Conservative.{planned, stateAt, newJob, submitted, placed, begun, advanced, call}
 use Rattle.conservative_laws.specs.Validity.{Valid, Zip, zip-map, zip-left, Follows, stays, moves, follows-ticket, follows-start}
 use Rattle.conservative_laws.specs.Validity.{follows-begins, Moved, Says, CameOut, idle, joins, leaves, outcome, call-valid}
 
@@ -85,60 +88,97 @@ begun-waited t (j ∷ js) (k ∷ ks) e =
 
 -- ## The answer tells what has changed
 
-module _ (c : ℕ) (e : News) where
-  -- a job that waits and starts, or goes on waiting
-  fate-placed : (t : ℕ) (s : State) (b d : ℕ) → waiting? s ≡ true → elem t (e .started) ≡ running? (stateAt c d)
-      → live (fateAfter 0 c e t (fateBy s b)) ≡ true → fateBy (stateAt c d) d ≡ fateAfter 0 c e t (fateBy s b)
-  fate-placed t Unused b d w p l = true-false false w refl
-  fate-placed t Waiting b d w p l =
-      case (elem t (e .withdrew))
-      (λ x. true-false false (rw x at l) refl)
-      (λ x. case (eqb d c) (λ q. rw (x, p, q) (ap running (eqb-true d c q))) (λ q. rw (x, p, q)))
-  fate-placed t Running b d w p l = true-false false w refl
+-- a job that waits and starts, or goes on waiting
+fate-placed : (k c : ℕ) (e : News) (t : ℕ) (s : State) (b n d : ℕ) → waiting? s ≡ true → elem t (e .started) ≡ running? (stateAt c d)
+    → live (fateAfter k c e t (fateBy s b n)) ≡ true → fateBy (stateAt c d) d 0 ≡ fateAfter k c e t (fateBy s b n)
+fate-placed k c e t Unused b n d w p l = true-false false w refl
+fate-placed k c e t Waiting b n d w p l =
+    case (elem t (e .withdrew))
+    (λ x. true-false false (rw x at l) refl)
+    (λ x. case (eqb d c) (λ q. rw (x, p, q) (ap running (eqb-true d c q))) (λ q. rw (x, p, q)))
+fate-placed k c e t Running b n d w p l = true-false false w refl
+fate-placed k c e t Cleanup b n d w p l = true-false false w refl
 
-  remark-follows : (j k : Job) → Follows c j k → elem (j .ticket) (e .started) ≡ (isWaiting j && isRunning k) → lives c e j ≡ true
-      → shown k ≡ remark 0 c e (shown j)
-  remark-follows j k (stays w) p q = sym (remark-same c e j (rw w at p) q)
-  remark-follows j k (moves s w a b) p q = shown-with (remark 0 c e (shown j)) _ (fate-placed (j .ticket) (j .state) (j .start) s w (rw w at p) q)
+-- nobody waits and runs
+never-both : (s : State) → (waiting? s && running? s) ≡ false
+never-both Unused = refl
+never-both Waiting = refl
+never-both Running = refl
+never-both Cleanup = refl
 
-  remark-all : (js ks : List Job) → Zip (Told (Follows c) (e .started)) js ks → ((j : Job) → In j js → lives c e j ≡ true)
-      → map shown ks ≡ map (remark 0 c e) (map shown js)
-  remark-all [] [] z f = refl
-  remark-all [] (k ∷ ks) z f = absurd z
-  remark-all (j ∷ js) [] z f = absurd z
-  remark-all (j ∷ js) (k ∷ ks) z f =
-      rw (remark-follows j k (z .0 .0) (z .0 .1) (f j (here refl)), remark-all js ks (z .1) (λ x i. f x (there i)))
+module _ (m : Model) (c : ℕ) (s : Select) (e : News) (v : Valid m) (d : Departs m c s e) where
+  abbrev k : ℕ
+  k = cleanup (m .settings)
+
+  remark-follows : (j x : Job) → In j (m .jobs) → table.leaves (m .settings) s j ≡ false → Follows c (ceased c s j) x
+      → elem (ceased c s j .ticket) (e .started) ≡ (isWaiting (ceased c s j) && isRunning x) → shown x ≡ remark k c e (shown j)
+  remark-follows j x i n f p = go x f p
+    where
+      named : elem (ceased c s j .ticket) (e .started) ≡ elem (j .ticket) (e .started)
+      named = ap (λ (t : ℕ). elem t (e .started)) (ceased-ticket c s j)
+
+      go : (x : Job) → Follows c (ceased c s j) x → elem (ceased c s j .ticket) (e .started) ≡ (isWaiting (ceased c s j) && isRunning x)
+          → shown x ≡ remark k c e (shown j)
+      go x (stays w) p = sym (departs-shown m c s e (v .sound) d j i n (sym named ∙ p ∙ never-both (ceased c s j .state)))
+      go x (moves b w a l) p =
+          let same : ceased c s j ≡ j = ceased-waits c s j w in
+          let u : isWaiting j ≡ true = subst (λ (y : Job). isWaiting y ≡ true) same w in
+          ap (λ (y : Job). shown (placed c b y)) same
+          ∙ shown-with (remark k c e (shown j)) _ (fate-placed k c e (j .ticket) (j .state) (j .start) (j .end) b u
+          (sym named ∙ p ∙ ap (λ (t : Bool). t && running? (stateAt c b)) w)
+          (departs-live m c s e (v .sound) d j i ∙ ap not n))
+
+  remark-all : (js xs : List Job) → ((j : Job) → In j js → In j (m .jobs) × (table.leaves (m .settings) s j ≡ false))
+      → Zip (Told (Follows c) (e .started)) (map (ceased c s) js) xs → map shown xs ≡ map (remark k c e) (map shown js)
+  remark-all [] [] f z = refl
+  remark-all [] (x ∷ xs) f z = absurd z
+  remark-all (j ∷ js) [] f z = absurd z
+  remark-all (j ∷ js) (x ∷ xs) f z =
+      let h = f j (here refl) in
+      rw (remark-follows j x (h .0) (h .1) (z .0 .0) (z .0 .1), remark-all js xs (λ y i. f y (there i)) (z .1))
 
 -- tickets of live jobs are not the one given
 not-new : (s c t n : ℕ) → t < n → elem t (cond (eqb s c) (n ∷ []) []) ≡ false
 not-new s c t n l = case (eqb s c) (λ q. rw (q, ne-eqb t n (λ e. omega arith))) (λ q. rw q)
 
--- who lives on stays; so does who waits and is not withdrawn
-pub lives-stays : (m : Model) (e : News) (c : ℕ) (s : Select) → Says m e c s → (j : Job) → In j (m .jobs) → lives c e j ≡ true → picks s j ≡ false
-lives-stays m e c s t j i l = not-true (picks s j) (sym (t .live-on j i) ∙ l)
+-- who lives on does not leave; so does who waits and is not withdrawn
+pub lives-stays : (m : Model) (e : News) (c : ℕ) (s : Select) → Valid m → Says m e c s → (j : Job) → In j (m .jobs)
+    → lives (cleanup (m .settings)) c e j ≡ true → table.leaves (m .settings) s j ≡ false
+lives-stays m e c s v t j i l = not-true (table.leaves (m .settings) s j) (sym (departs-live m c s e (v .sound) (t .departs) j i) ∙ l)
 
-pub waits-lives : (c : ℕ) (e : News) (j : Job) → isWaiting j ≡ true → elem (j .ticket) (e .withdrew) ≡ false → lives c e j ≡ true
-waits-lives c e j w n = rw (waits-runs (j .state) w, n) at (lives-by c e j)
+pub waits-lives : (k c : ℕ) (e : News) (j : Job) → isWaiting j ≡ true → elem (j .ticket) (e .withdrew) ≡ false → lives k c e j ≡ true
+waits-lives k c e j w n = go (j .state) w
+  where
+    go : (s : State) → waiting? s ≡ true → live (fateAfter k c e (j .ticket) (fateBy s (j .start) (j .end))) ≡ true
+    go Unused w = true-false false w refl
+    go Waiting w = rw n (case (elem (j .ticket) (e .started)) (λ y. rw y) (λ y. rw y))
+    go Running w = true-false false w refl
+    go Cleanup w = true-false false w refl
 
--- those that stay, beside the jobs after
-module _ (m : Model) (c : ℕ) (s : Select) (ks : List Job) (v : Valid m) (g : Moved (m .settings) c (staying s (m .jobs)) ks) where
-  pub leaves-told : Zip (Told (Follows c) (begun (staying s (m .jobs)) ks)) (staying s (m .jobs)) ks
-  leaves-told = begun-tells (Follows c) 1 (staying s (m .jobs)) ks (asc-keep (λ (j : Job). not (picks s j)) 1 (m .jobs) (v .sound .asc)) (g .follow)
+-- those that remain, beside the jobs after
+module _ (m : Model) (c : ℕ) (s : Select) (ks : List Job) (v : Valid m) (l : Leaving m c s) (g : Moved (m .settings) c (remaining (m .settings) c s (m .jobs)) ks) where
+  abbrev left : List Job
+  left = remaining (m .settings) c s (m .jobs)
+
+  pub leaves-told : Zip (Told (Follows c) (begun left ks)) left ks
+  leaves-told = begun-tells (Follows c) 1 left ks (sound-leave m c s (v .sound) l .asc) (g .follow)
 
 outcome-tells : (m : Model) {c : Call} {r : Result} → Valid m → CameOut m c r → Tells m (newsOf c (r .reply)) (r .model)
-unfolding cleanup submitted advanced
-outcome-tells m v (idle c r n) = tells-nothing m (newsOf c (refusing r)) n
+unfolding submitted advanced
+outcome-tells m v (idle c r n) = tells-nothing m (newsOf c (refusing r)) (v .sound) n
 outcome-tells m v (joins o f l) =
     let s = planned m o in
     let now = m .clock in
-    tells-stay now (newsOf (submit o) (submitted m o s .reply)) (m .jobs) (newJob m o s ∷ []) refl refl
+    tells-stay m (newsOf (submit o) (submitted m o s .reply)) (v .sound) refl refl (newJob m o s ∷ [])
     (λ j i. not-new s now (j .ticket) (m .next) (v .sound .below j i))
     (case (eqb s now) (λ q. rw (q, eq-eqb (m .next) (m .next) refl, eqb-true s now q)) (λ q. rw q))
 outcome-tells m v (leaves c clock s after l g t) =
     let e = newsOf c (advanced m clock s after .reply) in
-    tells-leave clock e (picks s) (m .jobs) after (t .live-on) (t .none-comes)
-    (remark-all clock e (staying s (m .jobs)) after (leaves-told m clock s after v g)
-    (λ j i. let k = keep-in (λ (j : Job). not (picks s j)) (m .jobs) i in t .live-on j (k .0) ∙ k .1))
+    let S = m .settings in
+    tells-leave (cleanup S) clock e (table.leaves S s) (m .jobs) after (departs-live m clock s e (v .sound) (t .departs)) (t .none-comes)
+    (remark-all m clock s e v (t .departs) (staying S s (m .jobs)) after
+    (λ j i. let k = keep-in (λ (j : Job). not (table.leaves S s j)) (m .jobs) i in (k .0, not-true (table.leaves S s j) (k .1)))
+    (leaves-told m clock s after v l g))
 
 -- ## A job on course stays on course
 
@@ -148,19 +188,19 @@ StartsBy u b r = ((elem u (r .reply .started) ≡ true) × (r .model .clock ≤ 
 
 -- one that waits and does not start goes on waiting
 follows-waits : (now : ℕ) (j k : Job) → Follows now j k → isWaiting j ≡ true → isRunning k ≡ false → isWaiting k ≡ true
-follows-waits now j k (stays e) w r = true-false (isWaiting j) w e
+follows-waits now j k (stays e) w r = w
 follows-waits now j k (moves s e a b) w r = case (eqb s now) (λ q. true-false true refl (rw q at r)) (λ q. rw q)
 
-leaves-keeps : (m : Model) (c : ℕ) (s : Select) (ks : List Job) (u b : ℕ) → Valid m → Moved (m .settings) c (staying s (m .jobs)) ks
-    → (o : OnCourse m u b) → picks s (o .job) ≡ false → StartsBy u b (advanced m c s ks)
+leaves-keeps : (m : Model) (c : ℕ) (s : Select) (ks : List Job) (u b : ℕ) → Valid m → Leaving m c s
+    → Moved (m .settings) c (remaining (m .settings) c s (m .jobs)) ks → (o : OnCourse m u b) → table.leaves (m .settings) s (o .job) ≡ false
+    → StartsBy u b (advanced m c s ks)
 unfolding advanced
-leaves-keeps m c s ks u b v g o n =
-    let z = zip-left (Told (Follows c) (begun js ks)) js ks (leaves-told m c s ks v g)
-    (in-keep (λ (j : Job). not (picks s j)) (o .inside) (ap not n)) in
+leaves-keeps m c s ks u b v l g o n =
+    let z = zip-left (Told (Follows c) (begun js ks)) js ks (leaves-told m c s ks v l g) (waits-remains (m .settings) c s (m .jobs) (o .inside) (o .waits) n) in
     go (z .0) (z .1) (z .2 .0) (z .2 .1)
   where
     js : List Job
-    js = staying s (m .jobs)
+    js = remaining (m .settings) c s (m .jobs)
 
     go : (k : Job) → In k ks → Follows c (o .job) k → elem (o .job .ticket) (begun js ks) ≡ (isWaiting (o .job) && isRunning k)
         → ((elem u (begun js ks) ≡ true) × (c ≤ b))
@@ -190,8 +230,9 @@ outcome-keeps m u b v o (joins w f l) n = inr (
 )
 outcome-keeps m u b v o (leaves c clock s after l g t) n =
     let e = newsOf c (advanced m clock s after .reply) in
-    leaves-keeps m clock s after u b v g o
-    (lives-stays m e clock s t (o .job) (o .inside) (waits-lives clock e (o .job) (o .waits) (ap (λ (x : ℕ). elem x (e .withdrew)) (o .is-u) ∙ n)))
+    leaves-keeps m clock s after u b v l g o
+    (lives-stays m e clock s v t (o .job) (o .inside)
+    (waits-lives (cleanup (m .settings)) clock e (o .job) (o .waits) (ap (λ (x : ℕ). elem x (e .withdrew)) (o .is-u) ∙ n)))
 
 -- who comes has the next ticket, and starts now or is planned for its promise
 pub outcome-joins : (m : Model) {c : Call} {r : Result} (o : Newcomer) → CameOut m c r → In o (newsOf c (r .reply) .came)
@@ -222,34 +263,39 @@ outcome-joins m o (leaves c clock s after l g t) i = in-nil (subst (In o) (t .no
 
 -- ## Who starts, whose run ends, and who is withdrawn
 
-outcome-starts : (m : Model) {c : Call} {r : Result} (u : ℕ) → CameOut m c r → elem u (r .reply .started) ≡ true
+outcome-starts : (m : Model) {c : Call} {r : Result} (u : ℕ) → Valid m → CameOut m c r → elem u (r .reply .started) ≡ true
     → let e = newsOf c (r .reply) in (elem u (e .withdrew) ≡ false) × (Queued m u ⊎ Comes e u)
 unfolding submitted advanced
-outcome-starts m u (idle c r n) x = true-false false x refl
-outcome-starts m u (joins o f l) x =
+outcome-starts m u v (idle c r n) x = true-false false x refl
+outcome-starts m u v (joins o f l) x =
     case (eqb (planned m o) (m .clock))
     (λ q. case (eqb u (m .next)) (λ y. (refl, inr (_, here refl, sym (eqb-true u (m .next) y)))) (λ y. true-false false (rw (q, y) at x) refl))
     (λ q. true-false false (rw q at x) refl)
-outcome-starts m u (leaves c clock s after l g t) x =
+outcome-starts m u v (leaves c clock s after l g t) x =
     let e = newsOf c (advanced m clock s after .reply) in
-    let w = begun-waited u (staying s (m .jobs)) after x in
-    let k = keep-in (λ (j : Job). not (picks s j)) (m .jobs) (w .1) in
-    let n : lives clock e (w .0) ≡ true = t .live-on (w .0) (k .0) ∙ k .1 in
-    let z : not (elem (w .0 .ticket) (e .withdrew)) ≡ true = sym (rw (waits-runs (w .0 .state) (w .2)) at (lives-by clock e (w .0))) ∙ n in
-    (ap (λ (y : ℕ). elem y (e .withdrew)) (sym (w .3)) ∙ not-true (elem (w .0 .ticket) (e .withdrew)) z, inl (queued-by m u (w .0) (k .0) (w .2) (w .3)))
+    let w = begun-waited u (remaining (m .settings) clock s (m .jobs)) after x in
+    let k = remained-waits (m .settings) clock s (m .jobs) (w .1) (w .2) in
+    let n : elem (w .0 .ticket) (e .withdrew) ≡ false =
+    ap (elem (w .0 .ticket)) (t .departs .withdrew-are)
+    ∙ elem-picked (table.withdraws s) 1 (m .jobs) (w .0) (v .sound .asc) (k .0)
+    ∙ soundness.stays (m .settings) s (w .0) (k .1) .0 in
+    (ap (λ (y : ℕ). elem y (e .withdrew)) (sym (w .3)) ∙ n, inl (queued-by m u (w .0) (k .0) (w .2) (w .3)))
 
 outcome-withdraws : (m : Model) {c : Call} {r : Result} (u : ℕ) → CameOut m c r → elem u (newsOf c (r .reply) .withdrew) ≡ true → Queued m u
 unfolding submitted advanced
 outcome-withdraws m u (idle c r n) x = true-false false (ap (λ (e : News). elem u (e .withdrew)) (sym n) ∙ x) refl
 outcome-withdraws m u (joins o f l) x = true-false false x refl
-outcome-withdraws m u (leaves c clock s after l g t) x = t .waited u x
+outcome-withdraws m u (leaves c clock s after l g t) x =
+    let j = elem-job u (keep (table.withdraws s) (m .jobs)) (ap (elem u) (sym (t .departs .withdrew-are)) ∙ x) in
+    let k = keep-in (table.withdraws s) (m .jobs) (j .1) in
+    queued-by m u (j .0) (k .0) (withdraws-waits s (j .0) (k .1)) (j .2)
 
 pub outcome-ends : (m : Model) {c : Call} {r : Result} (u : ℕ) → CameOut m c r → elem u (r .reply .ended) ≡ true
     → elem u (ticketsOf (keep isRunning (m .jobs))) ≡ true
 unfolding submitted advanced
 outcome-ends m u (idle c r n) x = true-false false x refl
 outcome-ends m u (joins o f l) x = true-false false x refl
-outcome-ends m u (leaves c clock s after l g t) x = ended-ran m clock s l u x
+outcome-ends m u (leaves c clock s after l g t) x = ended-ran s (m .jobs) u x
 
 -- ## The rest
 
@@ -294,7 +340,7 @@ conservative-lawful = record {
     keeps = λ m c u v o n. kept m c u b n (outcome-keeps m u b v o (outcome m c v) n);
   };
   joins = λ m c o v i. kept m c (o .ticket) (o .promise) (came-stays c (call m c .reply) (o .ticket) o i) (outcome-joins m o (outcome m c v) i .1);
-  starts = λ m c u v x. outcome-starts m u (outcome m c v) x;
+  starts = λ m c u v x. outcome-starts m u v (outcome m c v) x;
   withdraws = λ m c u v x. outcome-withdraws m u (outcome m c v) x;
   fresh = λ m c o v i h.
       omega (
@@ -308,4 +354,4 @@ conservative-lawful = record {
   where
     kept : (m : Model) (c : Call) (u b : ℕ) → elem u (newsOf c (call m c .reply) .withdrew) ≡ false → StartsBy u b (call m c)
         → Kept (by b) (For OnCourse b) u (newsOf c (call m c .reply)) (call m c .model)
-    kept m c u b = kept-by (m .clock) (newsOf c (call m c .reply)) (by b) (For OnCourse b) (call m c .model) u
+    kept m c u b = kept-by (newsOf c (call m c .reply)) (by b) (For OnCourse b) (call m c .model) u

@@ -6,18 +6,18 @@ use Prim.Native.Nat.{ℕ, suc, _+_, _-_, _≤_, _<_}
 use native.Mathlib.Omega.{arith}
 use mathlib.Core.Path.{_≡_, refl, sym, ap, _∙_}
 use mathlib.Core.Bool.{Bool, true, false, not, _&&_, _||_, cond}
-use mathlib.Core.List.{List, [], _∷_, _++_, map}
+use mathlib.Core.List.{List, [], _∷_, _++_, map, map-map}
 use lib.Dec.{leb, ltb, eqb}
 use lib.ListN.{length, length-append, length-map}
 use borrow.Author.Tests.{leb-false, le-leb, le-ltb, eqb-true, ne-eqb}
-use Rattle.lists.specs.Tests.{case, true-false, both, on}
-use Rattle.lists.specs.Lists.{keep, any, sum, elem, In, here, there, in-left, in-keep, keep-in, keep-keep, keep-cong}
+use Rattle.lists.specs.Tests.{case, true-false, and-right-false, on}
+use Rattle.lists.specs.Lists.{keep, any, sum, elem, In, here, there, in-left, in-map, in-keep, keep-keep, keep-cong, keep-none, keep-map, map-cong}
 use Rattle.walltime.specs.WallTime.{wallTime}
 use Rattle.spans.specs.Spans.{takes, used, free, Earliest, Profile}
 use Rattle.spans.specs.EarliestStart.{earliest-is}
 use Rattle.spans.specs.ProfileLaws.{profile-is, profile-agrees, profile-length}
 use Rattle.scheduler.specs.declared.State.{State}
-use Rattle.scheduler.specs.declared.State.the-variants.{Unused, Waiting, Running}
+use Rattle.scheduler.specs.declared.State.the-variants.{Unused, Waiting, Running, Cleanup}
 use Rattle.scheduler.specs.declared.Job.{Job}
 use Rattle.scheduler.specs.declared.Submission.{Submission}
 use Rattle.scheduler.specs.declared.Refusal.{Refusal}
@@ -27,21 +27,24 @@ use Rattle.scheduler.specs.declared.Departure.the-variants.{Complete, Cancel}
 use Rattle.scheduler.specs.declared.Select.{Select}
 use Rattle.scheduler.specs.declared.Select.the-variants as select
 use Rattle.scheduler.specs.Limits as limit
-use Rattle.scheduler.specs.Jobs.{fresh, jobAt, isWaiting, isRunning, isHolding, waiting?, running?, holding?, live?, departsAs, picks}
+use Rattle.scheduler.specs.States.{live?, waiting?, running?, cleaning?, holding?}
+use Rattle.scheduler.specs.Jobs.{fresh, jobAt, cleaning, isWaiting, isRunning, isCleaning, departsAs}
 use Rattle.scheduler.specs.declared.Settings.{Settings}
-use Rattle.scheduler.specs.Settings.{horizon, holdTime, until}
-use Rattle.scheduler.specs.Table.{ticketsOf, endedOf, staying}
+use Rattle.scheduler.specs.Settings.{horizon, cleanup, runTime, holdTime, until}
+use Rattle.scheduler.specs.Times.{cleanup-is, hold-is, end-is, until-is, until-cleaning}
+use Rattle.scheduler.specs.Table as table
+use Rattle.scheduler.specs.Table.{ticketOf, ticketsOf, ends, staying, ceased, remaining}
 use Rattle.scheduler.specs.Model.{Model, ending}
 use Rattle.scheduler.specs.Answers.{Result, verdict, accepts, refuse}
 use Rattle.scheduler.specs.Refusals.{judged, submitTests, departRefusal, tickRefusal}
 use Rattle.jobs.specs.Order.{Asc, asc-keep, asc-one}
 use Rattle.jobs.specs.Departing.{departs-alone}
-use Rattle.jobs.specs.Soundness.{SoundJob}
+use Rattle.jobs.specs.Soundness.{SoundJob, early, waiting-clean, ceased-ticket, waits-on, remained-waits, sound-leave}
 use Rattle.history.specs.Calls.{Call, submit, depart, complete, cancel, tick, unchanged}
 use Rattle.history.specs.News.{News, newsOf}
 use Rattle.history.specs.Tickets.{nextAfter}
 use Rattle.history_proof.specs.Obligations.{said, Ticketed}
-use Rattle.history_proof.specs.Departures.{queued-by, lives, leavers, lives-by}
+use Rattle.history_proof.specs.Departures.{waits-runs, queued-by, lives, unless-said}
 use Rattle.conservative_rules.specs.Conservative.{span, spans, planned, newJob, withNew, points, maxPoints, submitRefusal, submitted, begun}
 use Rattle.conservative_rules.specs.Conservative.{advanced, moved, departed, turned, ticked, profileRefusal, call}
 use Rattle.conservative_rules.specs.Computed.{startOf, promiseOf}
@@ -53,40 +56,63 @@ use Rattle.conservative_laws.specs.PassLoop.{loop, pass-as-loop}
 
 -- ## Free nodes
 
--- "those of running stacks whose end is after t"
-abbrev pub runningAfter : Settings → ℕ → Job → ℕ
-runningAfter S t j = on (isHolding j && ltb t (until S j)) (j .nodes)
+-- the minute from which the nodes of a job with this start are free again: its held time after the start, and its clearing
+abbrev pub freedAt : Settings → Job → ℕ
+freedAt S j = j .start + wallTime (j .estimate) + S .cleanup
 
--- "those of waiting stacks with start ≤ t < start + held"
+-- "those of running stacks whose end is after t": with clearing, whose nodes are taken still
+abbrev pub runningAfter : Settings → ℕ → Job → ℕ
+runningAfter S t j = on (isRunning j && ltb t (freedAt S j)) (j .nodes)
+
+-- document 02, No. 3: "nodes stay taken for clearing minutes .. after a planned or an early end alike"
+abbrev pub cleaningAfter : Settings → ℕ → Job → ℕ
+cleaningAfter S t j = on (isCleaning j && ltb t (j .end + S .cleanup)) (j .nodes)
+
+-- "those of waiting stacks with start ≤ t < start + held": with clearing, start + held + clearing
 abbrev pub waitingOver : Settings → ℕ → Job → ℕ
-waitingOver S t j = on (isWaiting j && (leb (j .start) t && ltb t (until S j))) (j .nodes)
+waitingOver S t j = on (isWaiting j && (leb (j .start) t && ltb t (freedAt S j))) (j .nodes)
 
 -- "Free nodes at minute t are the rack's, less those of running stacks whose end is after t, less those of waiting stacks with
 -- start ≤ t < start + held."
 abbrev pub freeNodes : Model → ℕ → ℕ
-freeNodes m t = m .settings .nodes - sum (runningAfter (m .settings) t) (m .jobs) - sum (waitingOver (m .settings) t) (m .jobs)
+freeNodes m t =
+    m .settings .nodes
+    - sum (runningAfter (m .settings) t) (m .jobs)
+    - sum (cleaningAfter (m .settings) t) (m .jobs)
+    - sum (waitingOver (m .settings) t) (m .jobs)
 
-used-as-written : (S : Settings) (now t : ℕ) (js : List Job) → now ≤ t → ((j : Job) → In j js → SoundJob S now j)
-    → used t (spans S js) ≡ sum (runningAfter S t) js + sum (waitingOver S t) js
+-- a clearing that an opening takes is the setting
+until-freed : (S : Settings) (j : Job) → S .cleanup ≤ limit.longestCleanup → isCleaning j ≡ false → until S j ≡ freedAt S j
+unfolding runTime
+until-freed S j k n = omega (arith, until-is S j n, hold-is S (j .estimate), cleanup-is S k)
+
+used-as-written : (S : Settings) (now t : ℕ) (js : List Job) → S .cleanup ≤ limit.longestCleanup → now ≤ t → ((j : Job) → In j js → SoundJob S now j)
+    → used t (spans S js) ≡ sum (runningAfter S t) js + sum (cleaningAfter S t) js + sum (waitingOver S t) js
 unfolding takes
-used-as-written S now t [] l f = refl
-used-as-written S now t (j ∷ js) l f = omega (arith, one (f j (here refl)), used-as-written S now t js l (λ x i. f x (there i)))
+used-as-written S now t [] k l f = refl
+used-as-written S now t (j ∷ js) k l f = omega (arith, one (f j (here refl)), used-as-written S now t js k l (λ x i. f x (there i)))
   where
-    over : Bool
-    over = ltb t (until S j)
+    begun : Bool
+    begun = leb (j .start) t
 
-    by : (x : State) → live? x ≡ true → (holding? x ≡ true → leb (j .start) t ≡ true)
-        → on (leb (j .start) t && over) (j .nodes) ≡ on (holding? x && over) (j .nodes) + on (waiting? x && (leb (j .start) t && over)) (j .nodes)
-    by Unused a r = true-false false a refl
-    by Waiting a r = omega arith
-    by Running a r = rw (r refl) (omega arith)
+    by : (x : State) → live? x ≡ true → (holding? x ≡ true → begun ≡ true) → (u : ℕ) → (cleaning? x ≡ false → u ≡ freedAt S j)
+        → (cleaning? x ≡ true → u ≡ j .end + S .cleanup)
+        → on (begun && ltb t u) (j .nodes) ≡ on (running? x && ltb t (freedAt S j)) (j .nodes)
+        + on (cleaning? x && ltb t (j .end + S .cleanup)) (j .nodes)
+        + on (waiting? x && (begun && ltb t (freedAt S j))) (j .nodes)
+    by Unused a r u p q = true-false false a refl
+    by Waiting a r u p q = rw (p refl) (omega arith)
+    by Running a r u p q = rw (r refl, p refl) (omega arith)
+    by Cleanup a r u p q = rw (r refl, q refl) (omega arith)
 
-    one : SoundJob S now j → takes t (span S j) ≡ runningAfter S t j + waitingOver S t j
-    one s = by (j .state) (s .is-live) (λ r. le-leb (j .start) t (omega (arith, s .holds r)))
+    one : SoundJob S now j → takes t (span S j) ≡ runningAfter S t j + cleaningAfter S t j + waitingOver S t j
+    one s =
+        by (j .state) (s .is-live) (λ r. le-leb (j .start) t (omega (arith, s .holds r))) (until S j) (until-freed S j k)
+        (λ c. omega (arith, until-cleaning S j c, cleanup-is S k))
 
 -- the free nodes that the plan goes by are these
 pub free-as-written : (m : Model) (t : ℕ) → Valid m → m .clock ≤ t → free (m .settings .nodes) (spans (m .settings) (m .jobs)) t ≡ freeNodes m t
-free-as-written m t v l = omega (arith, used-as-written (m .settings) (m .clock) t (m .jobs) l (v .sound .each))
+free-as-written m t v l = omega (arith, used-as-written (m .settings) (m .clock) t (m .jobs) (v .sound .cleanup-to) l (v .sound .each))
 
 -- ## Submission
 
@@ -140,7 +166,14 @@ complete-ends m t v =
 -- a job that is withdrawn has not run: no ticket is ended
 pub cancel-ends : (m : Model) (t : ℕ) → call m (cancel t) .reply .ended ≡ []
 unfolding call departed advanced
-cancel-ends m t = judged-by (λ (r : Result). r .reply .ended ≡ []) m (departRefusal m Cancel t) (departed m Cancel t) (λ a. refl) (λ a. refl)
+cancel-ends m t =
+    judged-by (λ (r : Result). r .reply .ended ≡ []) m (departRefusal m Cancel t) (departed m Cancel t)
+    (λ a. ap ticketsOf (keep-none (λ (j : Job). false) (m .jobs) (λ j i. refl))) (λ a. refl)
+
+cancel-clock : (m : Model) (t : ℕ) → call m (cancel t) .model .clock ≡ m .clock
+unfolding call departed advanced
+cancel-clock m t =
+    judged-by (λ (r : Result). r .model .clock ≡ m .clock) m (departRefusal m Cancel t) (departed m Cancel t) (λ a. refl) (λ a. refl)
 
 -- "taken out of the plan and put in again at its smallest minute, the others staying at their places. One that comes to now starts."
 pub record Placed (S : Settings) (now : ℕ) (others : List Job) (j k : Job) : Type 0 where
@@ -155,90 +188,114 @@ moved-waiting S now others j w l =
 pub moved-running : (S : Settings) (now : ℕ) (others : List Job) (j : Job) → isWaiting j ≡ false → moved S now others j ≡ j
 moved-running S now others j w = rw w
 
--- "Then each waiting stack, once, in ticket order": the jobs that stay have their turns by their indices, each with all others as they are
--- then (`turn` moves the job at an index; z stands for what is past the list). Document 02, No. 1: the same after a withdrawal.
+-- "Then each waiting stack, once, in ticket order": the jobs that remain have their turns by their indices, each with all others as they are
+-- then (`turn` moves the job at an index; z stands for what is past the list). Document 02, No. 1: the same after a withdrawal. No. 3: one
+-- whose run has ended is in cleanup, and the others are planned around it.
 pub depart-moves : (m : Model) (h : Departure) (t : ℕ) (z : Job) → Valid m → accepts (call m (depart h t) .reply .refusal) ≡ true
-    → let js = keep (λ (j : Job). not (departsAs h t j)) (m .jobs) in call m (depart h t) .model .jobs ≡ loop (m .settings) (m .clock) z (length js) 0 js
+    → let js = remaining (m .settings) (m .clock) (select.Departing h t) (m .jobs) in
+    call m (depart h t) .model .jobs ≡ loop (m .settings) (m .clock) z (length js) 0 js
 unfolding call departed advanced
 depart-moves m h t z v =
     judged-taken (λ (r : Result). r .model .jobs ≡ loop (m .settings) (m .clock) z (length js) 0 js) m (departRefusal m h t) (departed m h t)
-    (sym (pass-as-loop (m .settings) (m .clock) z js (λ j i. v .sound .each j (keep-in (λ (j : Job). not (departsAs h t j)) (m .jobs) i .0) .nodes-to)))
+    (sym (pass-as-loop (m .settings) (m .clock) z js (λ j i. sound-leave m (m .clock) (select.Departing h t) (v .sound) (early h t) .each j i .nodes-to)))
   where
     js : List Job
-    js = staying (select.Departing h t) (m .jobs)
+    js = remaining (m .settings) (m .clock) (select.Departing h t) (m .jobs)
 
 -- ## Minute step
 
 -- "stacks whose end is now"
-abbrev pub overAt : Settings → ℕ → Job → Bool
-overAt S now j = isRunning j && eqb (until S j) now
+abbrev pub overAt : ℕ → Job → Bool
+overAt now j = isRunning j && eqb (j .start + wallTime (j .estimate)) now
+
+-- document 02, No. 3: those whose nodes have been cleared now; with clearing 0, those whose end is now
+abbrev pub freeNow : Settings → ℕ → Job → Bool
+freeNow S now j = (isCleaning j && eqb (j .end + S .cleanup) now) || (overAt now j && eqb (S .cleanup) 0)
+
+-- and those whose end is now otherwise: their records keep it
+abbrev pub endsNow : ℕ → Job → Job
+endsNow now j = cond (overAt now j) (cleaning now j) j
 
 -- "waiting stacks whose planned start is now"
 abbrev pub startsAt : ℕ → Job → Bool
 startsAt now j = isWaiting j && eqb (j .start) now
 
 turned-starts : (now : ℕ) (j : Job) → (isWaiting j && isRunning (turned now j)) ≡ startsAt now j
-turned-starts now j = case (isWaiting j) (λ w. rw w (case (eqb (j .start) now) (λ s. rw s) (λ s. rw s))) (λ w. rw w)
+turned-starts now j =
+    case (isWaiting j) (λ w. rw w (case (eqb (j .start) now) (λ s. rw s) (λ s. rw s (waits-runs (j .state) w)))) (λ w. rw w)
 
 -- those that start are those that wait before and run after
 pub begun-turned : (now : ℕ) (js : List Job) → begun js (map (turned now) js) ≡ ticketsOf (keep (startsAt now) js)
 begun-turned now [] = refl
 begun-turned now (j ∷ js) = rw (turned-starts now j) (case (startsAt now j) (λ e. rw (e, begun-turned now js)) (λ e. rw (e, begun-turned now js)))
 
--- a job that runs does not wait
-runs-waits : (s : State) → running? s ≡ true → waiting? s ≡ false
-runs-waits Unused r = refl
-runs-waits Waiting r = true-false false r refl
-runs-waits Running r = refl
-
 -- none of them leaves
-starts-stay : (now : ℕ) (S : Settings) (js : List Job) → keep (startsAt now) (keep (λ (j : Job). not (overAt S now j)) js) ≡ keep (startsAt now) js
-starts-stay now S js =
-    keep-keep (startsAt now) (λ (j : Job). not (overAt S now j)) js
-    ∙ keep-cong (λ (j : Job). not (overAt S now j) && startsAt now j) (startsAt now) js (λ j i. one j)
+starts-stay : (m : Model) (now : ℕ)
+    → ticketsOf (keep (startsAt now) (remaining (m .settings) now (ending m) (m .jobs))) ≡ ticketsOf (keep (startsAt now) (m .jobs))
+starts-stay m now =
+    ap ticketsOf (keep-map (startsAt now) (ceased now u) (staying S u (m .jobs)))
+    ∙ map-map ticketOf (ceased now u) (keep due (staying S u (m .jobs)))
+    ∙ map-cong (λ (j : Job). ticketOf (ceased now u j)) ticketOf (keep due (staying S u (m .jobs))) (λ j i. ceased-ticket now u j)
+    ∙ ap ticketsOf
+    (keep-keep due (λ (j : Job). not (table.leaves S u j)) (m .jobs)
+    ∙ keep-cong (λ (j : Job). not (table.leaves S u j) && due j) (startsAt now) (m .jobs) (λ j i. one j))
   where
-    one : (j : Job) → (not (overAt S now j) && startsAt now j) ≡ startsAt now j
-    one j = case (overAt S now j) (λ e. rw (e, runs-waits (j .state) (both (isRunning j) (eqb (until S j) now) e .0))) (λ e. rw e)
+    S : Settings
+    S = m .settings
 
--- the job in another state
-abbrev pub withState : State → Job → Job
-withState s j = jobAt s (j .start) j
+    u : Select
+    u = ending m
 
-turned-is : (now : ℕ) (j : Job) → turned now j ≡ cond (startsAt now j) (withState Running j) j
-turned-is now j = go (j .state)
-  where
-    go : (s : State) → cond (waiting? s) (withState (cond (eqb (j .start) now) Running Waiting) j) (withState s j)
-        ≡ cond (waiting? s && eqb (j .start) now) (withState Running j) (withState s j)
-    go Unused = refl
-    go Waiting = case (eqb (j .start) now) (λ e. rw e) (λ e. rw e)
-    go Running = refl
+    due : Job → Bool
+    due j = startsAt now (ceased now u j)
 
--- "The clock rises by one, stacks whose end is now leave, waiting stacks whose planned start is now start. Nothing else moves."
+    one : (j : Job) → (not (table.leaves S u j) && startsAt now (ceased now u j)) ≡ startsAt now j
+    one j =
+        case (isWaiting j)
+        (λ w. rw (waits-on now u j w, waits-stays w))
+        (λ w. and-right-false (not (table.leaves S u j)) (ap (λ (b : Bool). b && eqb (ceased now u j .start) now) (still w)) ∙ sym (ap (λ (b : Bool). b && eqb (j .start) now) w))
+      where
+        still : isWaiting j ≡ false → isWaiting (ceased now u j) ≡ false
+        still w = case (ends u j) (λ e. rw e) (λ e. rw e w)
+
+        waits-stays : isWaiting j ≡ true → table.leaves S u j ≡ false
+        waits-stays w = rw (waits-runs (j .state) w, waiting-clean (j .state) w)
+
+-- "The clock rises by one, stacks whose end is now leave, waiting stacks whose planned start is now start. Nothing else moves." With
+-- clearing, stacks whose end is now are cleared from then on, and stacks that have been cleared leave
 pub record Ticked (m : Model) (r : Result) : Type 0 where
   pub clock-is : r .model .clock ≡ suc (m .clock)
-  pub ended-is : r .reply .ended ≡ ticketsOf (keep (overAt (m .settings) (suc (m .clock))) (m .jobs))
+  pub ended-is : r .reply .ended ≡ ticketsOf (keep (overAt (suc (m .clock))) (m .jobs))
   pub started-is : r .reply .started ≡ ticketsOf (keep (startsAt (suc (m .clock))) (m .jobs))
-  pub jobs-are : r .model .jobs ≡ map (λ (j : Job). cond (startsAt (suc (m .clock)) j) (withState Running j) j)
-      (keep (λ (j : Job). not (overAt (m .settings) (suc (m .clock)) j)) (m .jobs))
+  pub jobs-are : r .model .jobs ≡ map (λ (j : Job). cond (startsAt (suc (m .clock)) j) (jobAt Running (j .start) j) j)
+      (map (endsNow (suc (m .clock))) (keep (λ (j : Job). not (freeNow (m .settings) (suc (m .clock)) j)) (m .jobs)))
 
-pub tick-taken : (m : Model) → accepts (call m tick .reply .refusal) ≡ true → Ticked m (call m tick)
-unfolding call ticked advanced
-tick-taken m a = judged-taken (Ticked m) m (tickRefusal m) (ticked m) (record {
+pub tick-taken : (m : Model) → Valid m → accepts (call m tick .reply .refusal) ≡ true → Ticked m (call m tick)
+unfolding call ticked advanced runTime
+tick-taken m v a = judged-taken (Ticked m) m (tickRefusal m) (ticked m) (record {
   clock-is = refl;
-  ended-is = refl;
-  started-is = begun-turned now (staying u (m .jobs)) ∙ ap ticketsOf (starts-stay now (m .settings) (m .jobs));
-  jobs-are = all (staying u (m .jobs));
+  ended-is = ap ticketsOf (keep-cong (ends u) (overAt now) (m .jobs) (λ j i. over j));
+  started-is = begun-turned now (remaining S now u (m .jobs)) ∙ starts-stay m now;
+  jobs-are = ap (map (turned now)) (ap (map (ceased now u)) (keep-cong (λ (j : Job). not (table.leaves S u j)) (λ (j : Job). not (freeNow S now j)) (m .jobs) (λ j i. ap not (goes j)))
+      ∙ map-cong (ceased now u) (endsNow now) (keep (λ (j : Job). not (freeNow S now j)) (m .jobs)) (λ j i. ap (λ (b : Bool). cond b (cleaning now j) j) (over j)));
 }) a
   where
+    S : Settings
+    S = m .settings
+
     now : ℕ
     now = suc (m .clock)
 
     u : Select
     u = ending m
 
-    all : (js : List Job) → map (turned now) js ≡ map (λ (j : Job). cond (startsAt now j) (withState Running j) j) js
-    all [] = refl
-    all (j ∷ js) = rw (turned-is now j, all js)
+    over : (j : Job) → ends u j ≡ overAt now j
+    over j = ap (λ (n : ℕ). isRunning j && eqb n now) (end-is S j)
+
+    goes : (j : Job) → table.leaves S u j ≡ freeNow S now j
+    goes j =
+        let k = cleanup-is S (v .sound .cleanup-to) in
+        rw (over j, k) (case (isCleaning j) (λ c. rw (c, until-cleaning S j c, k)) (λ c. rw c))
 
 -- ## Planned starts
 
@@ -249,21 +306,34 @@ pub record Still (j k : Job) : Type 0 where
   pub promise : k .promise ≡ j .promise
 
 -- so is each that the answer does not say to leave
-outcome-still : (m : Model) {c : Call} {r : Result} (j : Job) → CameOut m c r → In j (m .jobs) → ((now : ℕ) → lives now (newsOf c (r .reply)) j ≡ true)
-    → (k : Job) × In k (r .model .jobs) × Still j k
+outcome-still : (m : Model) {c : Call} {r : Result} (j : Job) → Valid m → CameOut m c r → In j (m .jobs)
+    → lives (cleanup (m .settings)) (r .model .clock) (newsOf c (r .reply)) j ≡ true → (k : Job) × In k (r .model .jobs) × Still j k
 unfolding submitted advanced
-outcome-still m j (idle c r n) i w = (j, i, record { ticket = refl; start = omega arith; promise = refl })
-outcome-still m j (joins o f l) i w = (j, in-left _ i, record { ticket = refl; start = omega arith; promise = refl })
-outcome-still m j (leaves c clock s after l g t) i w =
-    let z = zip-left (Follows clock) (staying s (m .jobs)) after (g .follow)
-    (in-keep (λ (j : Job). not (picks s j)) i (ap not (lives-stays m _ clock s t j i (w clock)))) in
+outcome-still m j v (idle c r n) i w = (j, i, record { ticket = refl; start = omega arith; promise = refl })
+outcome-still m j v (joins o f l) i w = (j, in-left _ i, record { ticket = refl; start = omega arith; promise = refl })
+outcome-still m j v (leaves c clock s after l g t) i w =
+    let S = m .settings in
+    let z = zip-left (Follows clock) (remaining S clock s (m .jobs)) after (g .follow)
+    (in-map (ceased clock s) (in-keep (λ (j : Job). not (table.leaves S s j)) i (ap not (lives-stays m _ clock s v t j i w)))) in
     let k = z .0 in
-    (k, z .1, record { ticket = follows-ticket clock j k (z .2); start = follows-start clock j k (z .2); promise = follows-promise clock j k (z .2) })
+    let f = z .2 in (
+      k,
+      z .1,
+      record {
+        ticket = follows-ticket clock (ceased clock s j) k f ∙ ceased-ticket clock s j;
+        start = omega (arith, follows-start clock (ceased clock s j) k f, as-was startOf refl);
+        promise = follows-promise clock (ceased clock s j) k f ∙ as-was promiseOf refl;
+      },
+    )
+  where
+    as-was : (f : Job → ℕ) → f (cleaning clock j) ≡ f j → f (ceased clock s j) ≡ f j
+    as-was f q = case (ends s j) (λ e. rw e q) (λ e. rw e)
 
 -- after every call this holds of each job that waits and that the call does not withdraw
 pub still-there : (m : Model) (c : Call) (j : Job) → Valid m → In j (m .jobs) → isWaiting j ≡ true → elem (j .ticket) (said call m c .withdrew) ≡ false
     → (k : Job) × In k (call m c .model .jobs) × Still j k
-still-there m c j v i w n = outcome-still m j (outcome m c v) i (λ now. waits-lives now (said call m c) j w n)
+still-there m c j v i w n =
+    outcome-still m j v (outcome m c v) i (waits-lives (cleanup (m .settings)) (call m c .model .clock) (said call m c) j w n)
 
 -- whichever job has its ticket after the call is this one: "each never later", and "This start is its promise and never changes"
 pub never-later : (m : Model) (c : Call) (j k : Job) → Valid m → In j (m .jobs) → isWaiting j ≡ true → elem (j .ticket) (said call m c .withdrew) ≡ false
@@ -276,7 +346,7 @@ never-later m c j k v i w n l e =
 -- document 02, No. 1: "no other planned start gets later through it": a withdrawal leaves every other job there, waiting or running
 pub withdrawal-never-later : (m : Model) (t : ℕ) (j : Job) → Valid m → In j (m .jobs) → (j .ticket ≡ t → ⊥)
     → (k : Job) × In k (call m (cancel t) .model .jobs) × Still j k
-withdrawal-never-later m t j v i n = outcome-still m j (outcome m (cancel t) v) i (λ now. lives-by now e j ∙ ap not (stays now (isRunning j)))
+withdrawal-never-later m t j v i n = outcome-still m j v (outcome m (cancel t) v) i lives-on
   where
     e : News
     e = said call m (cancel t)
@@ -284,9 +354,10 @@ withdrawal-never-later m t j v i n = outcome-still m j (outcome m (cancel t) v) 
     other : (r : Refusal) → elem (j .ticket) (cond (accepts r) (t ∷ []) []) ≡ false
     other r = case (accepts r) (λ a. rw (a, ne-eqb (j .ticket) t n)) (λ a. rw a)
 
-    stays : (now : ℕ) (runs : Bool) → elem (j .ticket) (leavers now e runs) ≡ false
-    stays now true = ap (elem (j .ticket)) (cancel-ends m t)
-    stays now false = other (call m (cancel t) .reply .refusal)
+    lives-on : lives (cleanup (m .settings)) (call m (cancel t) .model .clock) e j ≡ true
+    lives-on =
+        ap (λ (c : ℕ). lives (cleanup (m .settings)) c e j) (cancel-clock m t)
+        ∙ unless-said (m .settings) (m .clock) e j (v .sound .each j i) (other (call m (cancel t) .reply .refusal)) (ap (elem (j .ticket)) (cancel-ends m t))
 
 -- so after no call is a job planned for later than promised (what replanning the whole queue would do is computed in Computed.antt)
 pub single-moves-keep : (m : Model) (c : Call) (j : Job) → Valid m → In j (call m c .model .jobs) → j .start ≤ j .promise
@@ -320,19 +391,9 @@ unfolding submitted advanced
 outcome-rises m v (idle c r n) = (tt, tt)
 outcome-rises m v (joins o f l) = (tt, case (eqb (planned m o) (m .clock)) (λ q. rw q (v .sound .next-from, tt)) (λ q. rw q tt))
 outcome-rises m v (leaves c clock s after l g t) = (
-  ended-rises s,
-  begun-rises 1 (staying s (m .jobs)) after (asc-keep (λ (j : Job). not (picks s j)) 1 (m .jobs) (v .sound .asc)),
+  tickets-rise 1 (keep (ends s) (m .jobs)) (asc-keep (ends s) 1 (m .jobs) (v .sound .asc)),
+  begun-rises 1 (remaining (m .settings) clock s (m .jobs)) after (sound-leave m clock s (v .sound) l .asc),
 )
-  where
-    picked-rise : (s : Select) → Rising 1 (ticketsOf (keep (picks s) (m .jobs)))
-    picked-rise s = tickets-rise 1 (keep (picks s) (m .jobs)) (asc-keep (picks s) 1 (m .jobs) (v .sound .asc))
-
-    ended-rises : (s : Select) → Rising 1 (endedOf s (m .jobs))
-    ended-rises select.Live = picked-rise select.Live
-    ended-rises select.Waiting = picked-rise select.Waiting
-    ended-rises (select.Departing Complete t) = picked-rise (select.Departing Complete t)
-    ended-rises (select.Departing Cancel t) = tt
-    ended-rises (select.EndingAt S t) = picked-rise (select.EndingAt S t)
 
 pub answers-rise : (m : Model) (c : Call) → Valid m → Rising 1 (call m c .reply .ended) × Rising 1 (call m c .reply .started)
 answers-rise m c v = outcome-rises m v (outcome m c v)
@@ -352,8 +413,8 @@ outcome-waited m t (joins o f l) x =
     (λ q. case (eqb t (m .next)) (λ y. inr (eqb-true t (m .next) y)) (λ y. true-false false (rw (q, y) at x) refl))
     (λ q. true-false false (rw q at x) refl)
 outcome-waited m t (leaves c clock s after l g u) e =
-    let w = begun-waited t (staying s (m .jobs)) after e in
-    inl (record { job = w .0; isin = keep-in (λ (j : Job). not (picks s j)) (m .jobs) (w .1) .0; waits = w .2; named = w .3 })
+    let w = begun-waited t (remaining (m .settings) clock s (m .jobs)) after e in
+    inl (record { job = w .0; isin = remained-waits (m .settings) clock s (m .jobs) (w .1) (w .2) .0; waits = w .2; named = w .3 })
 
 pub started-waited : (m : Model) (c : Call) (t : ℕ) → Valid m → elem t (call m c .reply .started) ≡ true → Waited m t ⊎ (t ≡ call m c .reply .ticket)
 started-waited m c t v e = outcome-waited m t (outcome m c v) e
@@ -420,16 +481,21 @@ eight-never m o s =
     (λ q. rw (q, le-ltb maxPoints (length (points (withNew m o s))) (few-points m o s (leb-false limit.slots (length (m .jobs)) q))))
 
 -- Each refusal, with its conditions in document 01's order and no others. 1: "stack nodes 0 or above the rack's"; 2: "estimate ..
--- outside 1 to 10,080"; 4: "64 stacks live"; 5: "ticket 999,999 has been given"; 6: "start + held above 1,000,000"
-pub submit-refusal : (m : Model) (o : Submission) → call m (submit o) .reply .refusal ≡ verdict
+-- outside 1 to 10,080"; 4: "64 stacks live"; 5: "ticket 999,999 has been given"; 6: "start + held above 1,000,000", and the clearing
+pub submit-refusal : (m : Model) (o : Submission) → Valid m → call m (submit o) .reply .refusal ≡ verdict
     ((ltb (o .nodes) 1 || ltb (m .settings .nodes) (o .nodes), refusal.NodesOutOfRange)
     ∷ (ltb (o .estimate) 1 || ltb 10080 (o .estimate), refusal.MinutesOutOfRange)
     ∷ (leb 64 (length (m .jobs)), refusal.Full)
     ∷ (ltb 999999 (m .next), refusal.NoTicketLeft)
-    ∷ (ltb 1000000 (planned m o + wallTime (o .estimate)), refusal.PastHorizon)
+    ∷ (ltb 1000000 (planned m o + (wallTime (o .estimate) + m .settings .cleanup)), refusal.PastHorizon)
     ∷ [])
-unfolding call submitted holdTime
-submit-refusal m o = let s = planned m o in judged-refusal m (submitRefusal m o s) (submitted m o s) refl ∙ eight-never m o s
+unfolding call submitted runTime
+submit-refusal m o v =
+    let s = planned m o in
+    judged-refusal m (submitRefusal m o s) (submitted m o s) refl
+    ∙ eight-never m o s
+    ∙ ap (λ (h : ℕ). verdict (submitTests m o ((ltb (horizon (m .settings)) (s + h), refusal.PastHorizon) ∷ [])))
+    (hold-is (m .settings) (o .estimate) ∙ ap (λ (k : ℕ). wallTime (o .estimate) + k) (cleanup-is (m .settings) (v .sound .cleanup-to)))
 
 -- 7: "the ended ticket is not running: waiting, over or never given"
 pub complete-refusal : (m : Model) (t : ℕ) → call m (complete t) .reply .refusal ≡ verdict

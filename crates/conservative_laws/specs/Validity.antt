@@ -3,22 +3,22 @@
 -- Assumes nothing.
 use Prim.Native.Nat.{ℕ, suc, _+_, _≤_, _<_}
 use native.Mathlib.Omega.{arith}
-use mathlib.Core.Path.{_≡_, refl, sym, ap, _∙_}
-use mathlib.Core.Bool.{Bool, true, false, not}
+use mathlib.Core.Path.{_≡_, refl, sym, ap, subst}
+use mathlib.Core.Bool.{Bool, true, false, not, _&&_}
 use mathlib.Core.List.{List, [], _∷_, _++_, map, map-append}
 use mathlib.Core.Logic.{_⊎_, inl, inr}
 use lib.Dec.{ltb, eqb}
 use lib.ListN.{length}
 use borrow.Author.Tests.{ltb-false, eqb-true, eqb-false, not-false}
-use Rattle.lists.specs.Tests.{case, true-false, le-or}
-use Rattle.lists.specs.Lists.{keep, any, elem, sum, In, here, there, in-nil, in-cons, in-append, keep-in, sum-append, sum-map, sum-keep, sum-le}
+use Rattle.lists.specs.Tests.{case, true-false, both, le-or}
+use Rattle.lists.specs.Lists.{keep, any, sum, In, here, there, in-nil, in-cons, in-append, keep-in, keep-none, sum-append, sum-map, sum-keep, sum-le}
 use Rattle.spans.specs.declared.Span.{Span}
 use Rattle.spans.specs.Spans.{takes, used, free, earliest, Fits, Earliest}
-use Rattle.spans.specs.UsedNodes.{takes-in, takes-before, takes-after}
+use Rattle.spans.specs.UsedNodes.{takes-in, takes-before, takes-after, takes-less}
 use Rattle.spans.specs.EarliestStart.{earliest-is}
 use Rattle.scheduler.specs.declared.Kind.the-variants.{Conservative}
 use Rattle.scheduler.specs.declared.State.{State}
-use Rattle.scheduler.specs.declared.State.the-variants.{Waiting}
+use Rattle.scheduler.specs.declared.State.the-variants.{Waiting, Running}
 use Rattle.scheduler.specs.declared.Job.{Job}
 use Rattle.scheduler.specs.declared.Submission.{Submission}
 use Rattle.scheduler.specs.declared.Refusal.{Refusal}
@@ -28,24 +28,25 @@ use Rattle.scheduler.specs.declared.Departure.{Departure}
 use Rattle.scheduler.specs.declared.Departure.the-variants.{Complete, Cancel}
 use Rattle.scheduler.specs.declared.Select.{Select}
 use Rattle.scheduler.specs.declared.Select.the-variants as select
-use Rattle.scheduler.specs.Jobs.{isWaiting, isRunning, isHolding, waiting?, running?, holding?, live?, held, picks}
+use Rattle.scheduler.specs.States.{live?, waiting?, running?, cleaning?, holding?}
+use Rattle.scheduler.specs.Jobs.{isWaiting, isRunning, isHolding, cleaning, held, picks}
 use Rattle.scheduler.specs.declared.Settings.{Settings}
 use Rattle.scheduler.specs.Settings.{refusedSettings, horizon, holdTime, until}
-use Rattle.scheduler.specs.Times.{hold-pos, until-is, until-at, until-still, until-fresh}
-use Rattle.scheduler.specs.Table.{nodesHeld, ticketsOf, staying}
+use Rattle.scheduler.specs.Times.{run-pos, hold-pos, end-is, until-is, until-end, until-cleaned, until-at, until-still, until-fresh}
+use Rattle.scheduler.specs.Table as table
+use Rattle.scheduler.specs.Table.{nodesHeld, ticketsOf, ends, staying, ceased, remaining}
 use Rattle.scheduler.specs.Model.{Model, ending, empty, without}
 use Rattle.scheduler.specs.Answers.{Result, accepts, refuse, refusing}
 use Rattle.scheduler.specs.Refusals.{notThere, departRefusal, tickRefusal}
 use Rattle.scheduler.specs.Opening.{openingRefusal, opening}
-use Rattle.jobs.specs.Order.{Asc, asc-same, elem-job}
+use Rattle.jobs.specs.Order.{asc-same}
 use Rattle.jobs.specs.Departing.{not-there, departs-alone}
 use Rattle.jobs.specs.Judgement.{judged-by}
 use Rattle.jobs.specs.Soundness.{SoundJob, Sound, Fit, opening-sound, passed, submit-fit, sound-join, Leaving, early, in-time, sound-leave}
-use Rattle.jobs.specs.Soundness.{withdrawn-waits, endsRuns, leaving-runs}
+use Rattle.jobs.specs.Soundness.{running-clean, waiting-clean, ends-runs, ends-by, remaining-in, remained-waits}
 use Rattle.history.specs.Calls.{Call, submit, depart, tick, unchanged}
 use Rattle.history.specs.News.{News, newsOf, clockAfter, nothing, refused-news, unchanged-news}
-use Rattle.history_proof.specs.Obligations.{Queued}
-use Rattle.history_proof.specs.Departures.{lives, ends-lives, withdraw-lives, queued-by}
+use Rattle.history_proof.specs.Departures.{waits-runs, Departs}
 use Rattle.conservative_rules.specs.Conservative.{span, spans, planned, stateAt, newJob, withNew, submitRefusal, submitted, placed}
 use Rattle.conservative_rules.specs.Conservative.{advanced, moved, pass, departed, turned, ticked, call}
 
@@ -119,8 +120,29 @@ module _ (S : Settings) (t : ℕ) where
   pub used-append : (xs ys : List Job) → used t (spans S (xs ++ ys)) ≡ used t (spans S xs) + used t (spans S ys)
   used-append xs ys = rw (map-append (span S) xs ys) (sum-append (takes t) (spans S xs) (spans S ys))
 
-  pub used-staying : (s : Select) (js : List Job) → used t (spans S (staying s js)) ≤ used t (spans S js)
-  used-staying s js = omega (arith, used-jobs js, used-jobs (staying s js), sum-keep taken (picks s) js)
+-- those that remain take no more than all did: a run that ends does so by its time
+pub used-remaining : (m : Model) (c : ℕ) (s : Select) → Sound m → Leaving m c s → (t : ℕ)
+    → used t (spans (m .settings) (remaining (m .settings) c s (m .jobs))) ≤ used t (spans (m .settings) (m .jobs))
+used-remaining m c s v l t =
+    omega (
+      arith,
+      used-jobs S t (m .jobs),
+      used-jobs S t (remaining S c s (m .jobs)),
+      sum-map (taken S t) (ceased c s) (staying S s (m .jobs)),
+      sum-le (λ (j : Job). taken S t (ceased c s j)) (taken S t) (staying S s (m .jobs))
+          (λ j i. one j (v .each j (keep-in (λ (j : Job). not (table.leaves S s j)) (m .jobs) i .0))),
+      sum-keep (taken S t) (table.leaves S s) (m .jobs),
+    )
+  where
+    S : Settings
+    S = m .settings
+
+    one : (j : Job) → SoundJob S (m .clock) j → taken S t (ceased c s j) ≤ taken S t j
+    one j f =
+        case (ends s j)
+        (λ e. rw e (takes-less t (span S (cleaning c j)) (span S j) refl
+        (omega (arith, until-cleaned S c j, ends-by m c s l j f e, until-end S j (running-clean (j .state) (ends-runs s j e)))) refl))
+        (λ e. rw e (omega arith))
 
 -- the nodes that are held now are taken now
 pub held-used : (S : Settings) (clock : ℕ) (js : List Job) → ((j : Job) → In j js → SoundJob S clock j) → nodesHeld js ≤ used clock (spans S js)
@@ -145,8 +167,8 @@ room-with N xs x now n h s a b c E f t l = go (le-or s t) (le-or (s + h) t)
 -- ## What becomes of a job that stays, in a call that leaves the clock at now
 
 pub data Follows (now : ℕ) (j : Job) : Job → Type 0 where
-  -- one that runs is as it was
-  stays : isWaiting j ≡ false → Follows now j j
+  -- one that does not wait for now is as it was
+  stays : (isWaiting j ≡ true → now < j .start) → Follows now j j
   -- one that waits is planned for a minute no later than before, and starts if that is now
   moves : (s : ℕ) → isWaiting j ≡ true → now ≤ s → s ≤ j .start → Follows now j (placed now s j)
 
@@ -157,6 +179,9 @@ state-live now s = case (eqb s now) (λ e. rw e) (λ e. rw e)
 -- one that does not wait starts now
 state-now : (p : State → Bool) → p Waiting ≡ false → (now s : ℕ) → p (stateAt now s) ≡ true → s ≡ now
 state-now p w now s r = case (eqb s now) (λ e. eqb-true s now e) (λ e. true-false (p Waiting) (rw e at r) w)
+
+pub state-clean : (now s : ℕ) → cleaning? (stateAt now s) ≡ false
+state-clean now s = case (eqb s now) (λ e. rw e) (λ e. rw e)
 
 state-waits : (now s : ℕ) → now ≤ s → waiting? (stateAt now s) ≡ true → now < s
 state-waits now s l w = case (eqb s now) (λ e. true-false false (rw e at w) refl) (λ e. omega (arith, eqb-false s now e))
@@ -174,12 +199,12 @@ follows-start now j k (stays e) = omega arith
 follows-start now j k (moves s e a b) = b
 
 pub follows-ahead : (now : ℕ) (j k : Job) → Follows now j k → isWaiting k ≡ true → now < k .start
-follows-ahead now j k (stays e) w = true-false (isWaiting j) w e
+follows-ahead now j k (stays e) w = e w
 follows-ahead now j k (moves s e a b) w = state-waits now s a w
 
 -- a job that waits and comes to run has its start now
 pub follows-begins : (now : ℕ) (j k : Job) → Follows now j k → isWaiting j ≡ true → isRunning k ≡ true → k .start ≡ now
-follows-begins now j k (stays e) w r = true-false (isWaiting j) w e
+follows-begins now j k (stays e) w r = true-false (isRunning j) r (waits-runs (j .state) w)
 follows-begins now j k (moves s e a b) w r = state-now running? refl now s r
 
 follows-sound : (S : Settings) (now : ℕ) (j k : Job) → SoundJob S now j → Follows now j k → SoundJob S now k
@@ -190,8 +215,12 @@ follows-sound S now j k o (moves s e a b) = record {
   nodes-to = o .nodes-to;
   estimate-from = o .estimate-from;
   estimate-to = o .estimate-to;
-  ends = omega (arith, o .ends, until-is S j, until-at S (stateAt now s) s j);
-  holds = λ r. omega (arith, state-now holding? refl now s r, until-at S (stateAt now s) s j, hold-pos S (j .estimate) (o .estimate-from));
+  ends = omega (arith, o .ends, until-is S j (waiting-clean (j .state) e), until-at S (stateAt now s) s j (state-clean now s));
+  holds = λ r.
+      omega (arith, state-now holding? refl now s r, until-at S (stateAt now s) s j (state-clean now s), hold-pos S (j .estimate) (o .estimate-from));
+  runs = λ r. omega (arith, state-now running? refl now s r, end-is S (placed now s j), run-pos S (j .estimate) (o .estimate-from));
+  cleaned = λ r. true-false (cleaning? (stateAt now s)) r (state-clean now s);
+  no-end = λ r. refl;
 }
 
 -- the jobs after a call, beside those that stay
@@ -205,17 +234,15 @@ pub record Moved (S : Settings) (now : ℕ) (js ks : List Job) : Type 0 where
 pub record Says (m : Model) (e : News) (clock : ℕ) (s : Select) : Type 0 where
   pub passes : clockAfter e (m .clock) ≡ clock
   pub none-comes : e .came ≡ []
-  pub live-on : (j : Job) → In j (m .jobs) → lives clock e j ≡ not (picks s j)
-  -- who is withdrawn waited
-  pub waited : (t : ℕ) → elem t (e .withdrew) ≡ true → Queued m t
+  pub departs : Departs m clock s e
 
 pub data CameOut (m : Model) : Call → Result → Type 0 where
   -- refused, or a profile: nothing changes
   idle : (c : Call) (r : Refusal) → newsOf c (refusing r) ≡ nothing → CameOut m c (refuse m r)
   -- a submission is taken
   joins : (o : Submission) → Fit m o → planned m o + holdTime (m .settings) (o .estimate) ≤ horizon (m .settings) → CameOut m (submit o) (submitted m o (planned m o))
-  -- an early end, a withdrawal or a tick: jobs leave, and those that stay come to be `after`
-  leaves : (c : Call) (clock : ℕ) (s : Select) (after : List Job) → Leaving m clock s → Moved (m .settings) clock (staying s (m .jobs)) after
+  -- an early end, a withdrawal or a tick: runs end, jobs leave, and those that remain come to be `after`
+  leaves : (c : Call) (clock : ℕ) (s : Select) (after : List Job) → Leaving m clock s → Moved (m .settings) clock (remaining (m .settings) clock s (m .jobs)) after
       → Says m (newsOf c (advanced m clock s after .reply)) clock s → CameOut m c (advanced m clock s after)
 
 -- ### The pass of an early end or a withdrawal
@@ -224,7 +251,7 @@ module _ (S : Settings) (now : ℕ) where
   pub moved-follows : (others : List Job) (j : Job) → j .nodes ≤ S .nodes → (isWaiting j ≡ true → now < j .start)
       → ((t : ℕ) → now ≤ t → takes t (span S j) + used t (spans S others) ≤ S .nodes)
       → Follows now j (moved S now others j) × ((t : ℕ) → now ≤ t → takes t (span S (moved S now others j)) + used t (spans S others) ≤ S .nodes)
-  moved-follows others j l w f = case (isWaiting j) (λ q. rw q (at q)) (λ q. rw q (stays q, f))
+  moved-follows others j l w f = case (isWaiting j) (λ q. rw q (at q)) (λ q. rw q (stays (λ w. true-false (isWaiting j) w q), f))
     where
       h : ℕ
       h = holdTime S (j .estimate)
@@ -236,14 +263,14 @@ module _ (S : Settings) (now : ℕ) where
       E = earliest-is (S .nodes) (spans S others) now (j .nodes) h l
 
       -- where it was it fits still
-      old : now < j .start → Fits (free (S .nodes) (spans S others)) (j .nodes) h (j .start)
-      old b t p q = omega (arith, f t (omega arith), takes-in t (span S j) p (omega (arith, until-is S j)))
+      old : isWaiting j ≡ true → now < j .start → Fits (free (S .nodes) (spans S others)) (j .nodes) h (j .start)
+      old u b t p q = omega (arith, f t (omega arith), takes-in t (span S j) p (omega (arith, until-is S j (waiting-clean (j .state) u))))
 
       at : isWaiting j ≡ true
           → Follows now j (placed now s j) × ((t : ℕ) → now ≤ t → takes t (span S (placed now s j)) + used t (spans S others) ≤ S .nodes)
       at q = (
-        moves s q (E .later) (E .smallest (j .start) (omega (arith, w q)) (old (w q))),
-        room-with (S .nodes) (spans S others) (span S (placed now s j)) now (j .nodes) h s refl (until-at S (stateAt now s) s j) refl E (λ t a. omega (arith, f t a)),
+        moves s q (E .later) (E .smallest (j .start) (omega (arith, w q)) (old q (w q))),
+        room-with (S .nodes) (spans S others) (span S (placed now s j)) now (j .nodes) h s refl (until-at S (stateAt now s) s j (state-clean now s)) refl E (λ t a. omega (arith, f t a)),
       )
 
   pass-follows : (done js : List Job) → ((j : Job) → In j js → j .nodes ≤ S .nodes) → ((j : Job) → In j js → isWaiting j ≡ true → now < j .start)
@@ -261,10 +288,18 @@ module _ (S : Settings) (now : ℕ) where
 -- ### The turn of a tick
 
 turned-follows : (now : ℕ) (j : Job) → (isWaiting j ≡ true → now ≤ j .start) → Follows now j (turned now j)
-turned-follows now j w = case (isWaiting j) (λ q. rw q (moves (j .start) q (w q) (omega arith))) (λ q. rw q (stays q))
+turned-follows now j w =
+    case (isWaiting j)
+    (λ q. case (eqb (j .start) now)
+    (λ e. let f : Follows now j (placed now (j .start) j) = moves (j .start) q (w q) (omega arith) in rw (q, e) (rw e at f))
+    (λ e. rw (q, e) (stays (λ u. omega (arith, w q, eqb-false (j .start) now e)))))
+    (λ q. rw q (stays (λ u. true-false (isWaiting j) u q)))
 
 turned-takes : (S : Settings) (now t : ℕ) (j : Job) → takes t (span S (turned now j)) ≡ takes t (span S j)
-turned-takes S now t j = case (isWaiting j) (λ q. rw (q, until-still S (stateAt now (j .start)) j)) (λ q. rw q)
+turned-takes S now t j =
+    case (isWaiting j && eqb (j .start) now)
+    (λ q. rw (q, until-still S Running j refl (waiting-clean (j .state) (both (isWaiting j) (eqb (j .start) now) q .0))))
+    (λ q. rw q)
 
 module _ (S : Settings) (now : ℕ) where
   turns-follow : (js : List Job) → ((j : Job) → In j js → isWaiting j ≡ true → now ≤ j .start) → Zip (Follows now) js (map (turned now) js)
@@ -277,32 +312,9 @@ module _ (S : Settings) (now : ℕ) where
 
 -- ### What the answer says
 
-module _ (m : Model) (a : Asc 1 (m .jobs)) where
-  -- where runs end, and nobody is withdrawn
-  runs-end : (e : News) (clock : ℕ) (s : Select) → endsRuns s ≡ true → clockAfter e (m .clock) ≡ clock → e .came ≡ [] → e .withdrew ≡ []
-      → e .ended ≡ ticketsOf (keep (picks s) (m .jobs)) → Says m e clock s
-  runs-end e clock s r c n w d = record {
-    passes = c;
-    none-comes = n;
-    live-on = ends-lives clock e (picks s) (m .jobs) a w d (leaving-runs s r);
-    waited = λ t q. true-false false (ap (elem t) (sym w) ∙ q) refl;
-  }
-
-  -- where one that waits is withdrawn, and no run ends
-  one-withdrawn : (e : News) (t : ℕ) → any (picks (select.Departing Cancel t)) (m .jobs) ≡ true → clockAfter e (m .clock) ≡ m .clock → e .came ≡ []
-      → e .ended ≡ [] → e .withdrew ≡ t ∷ [] → Says m e (m .clock) (select.Departing Cancel t)
-  one-withdrawn e t f c n d w =
-      let gone = picks (select.Departing Cancel t) in
-      let alone : e .withdrew ≡ ticketsOf (keep gone (m .jobs)) = w ∙ sym (departs-alone Cancel t 1 (m .jobs) a f) in
-      record {
-        passes = c;
-        none-comes = n;
-        live-on = withdraw-lives (m .clock) e gone (m .jobs) a d alone (withdrawn-waits t);
-        waited = λ u q.
-            let j = elem-job u (keep gone (m .jobs)) (ap (elem u) (sym alone) ∙ q) in
-            let k = keep-in gone (m .jobs) (j .1) in
-            queued-by m u (j .0) (k .0) (withdrawn-waits t (j .0) (k .1)) (j .2);
-      }
+-- where nobody is withdrawn
+none-withdrawn : (js : List Job) → [] ≡ ticketsOf (keep (λ (j : Job). false) js)
+none-withdrawn js = sym (ap ticketsOf (keep-none (λ (j : Job). false) js (λ j i. refl)))
 
 -- ### Every call comes out in one of these ways
 
@@ -329,20 +341,28 @@ outcome m (depart h t) v =
     u = select.Departing h t
 
     js : List Job
-    js = staying u (m .jobs)
+    js = remaining S (m .clock) u (m .jobs)
 
-    in-all : (j : Job) → In j js → In j (m .jobs)
-    in-all j i = keep-in (λ (j : Job). not (picks u j)) (m .jobs) i .0
+    each : (j : Job) → In j js → SoundJob S (m .clock) j
+    each = sound-leave m (m .clock) u (v .sound) (early h t) .each
 
     says : (h : Departure) (after : List Job) → any (picks (select.Departing h t)) (m .jobs) ≡ true
         → Says m (newsOf (depart h t) (advanced m (m .clock) (select.Departing h t) after .reply)) (m .clock) (select.Departing h t)
-    says Complete after f = runs-end m (v .sound .asc) _ (m .clock) (select.Departing Complete t) refl refl refl refl refl
-    says Cancel after f = one-withdrawn m (v .sound .asc) _ t f refl refl refl refl
+    says Complete after f = record {
+      passes = refl;
+      none-comes = refl;
+      departs = record { leaving = early Complete t; ended-are = refl; withdrew-are = none-withdrawn (m .jobs) };
+    }
+    says Cancel after f = record {
+      passes = refl;
+      none-comes = refl;
+      departs = record { leaving = early Cancel t; ended-are = refl; withdrew-are = sym (departs-alone Cancel t 1 (m .jobs) (v .sound .asc) f) };
+    }
 
     taken : accepts (departRefusal m h t) ≡ true → CameOut m (depart h t) (departed m h t)
     taken a =
-        let p = pass-follows S (m .clock) [] js (λ j i. v .sound .each j (in-all j i) .nodes-to) (λ j i. v .ahead j (in-all j i))
-        (λ r a. omega (arith, v .room r a, used-staying S r u (m .jobs))) in
+        let p = pass-follows S (m .clock) [] js (λ j i. each j i .nodes-to) (λ j i w. v .ahead j (remained-waits S (m .clock) u (m .jobs) i w .0) w)
+        (λ r a. omega (arith, v .room r a, used-remaining m (m .clock) u (v .sound) (early h t) r)) in
         let b = passed (not (any (picks u) (m .jobs))) (notThere h) [] (not-there h) a in
         leaves (depart h t) (m .clock) u (pass S (m .clock) [] js) (early h t) (record { follow = p .0; room = λ r a. omega (arith, p .1 r a) })
         (says h _ (not-false (any (picks u) (m .jobs)) (b .0)))
@@ -359,20 +379,22 @@ outcome m tick v =
     u = ending m
 
     js : List Job
-    js = staying u (m .jobs)
-
-    in-all : (j : Job) → In j js → In j (m .jobs)
-    in-all j i = keep-in (λ (j : Job). not (picks u j)) (m .jobs) i .0
+    js = remaining S now u (m .jobs)
 
     taken : accepts (tickRefusal m) ≡ true → CameOut m tick (ticked m)
     taken a =
         let b = passed (ltb (horizon S) now) refusal.PastHorizon [] refl a in
-        leaves tick now u (map (turned now) js) (in-time (ltb-false (horizon S) now (b .0)))
+        let l = in-time (ltb-false (horizon S) now (b .0)) in
+        leaves tick now u (map (turned now) js) l
         (record {
-          follow = turns-follow S now js (λ j i w. v .ahead j (in-all j i) w);
-          room = λ t l. omega (arith, v .room t (omega arith), used-staying S t u (m .jobs), turns-used S now t js);
+          follow = turns-follow S now js (λ j i w. v .ahead j (remained-waits S now u (m .jobs) i w .0) w);
+          room = λ t k. omega (arith, v .room t (omega arith), used-remaining m now u (v .sound) l t, turns-used S now t js);
         })
-        (runs-end m (v .sound .asc) _ now u refl refl refl refl refl)
+        (record {
+          passes = refl;
+          none-comes = refl;
+          departs = record { leaving = l; ended-are = refl; withdrew-are = none-withdrawn (m .jobs) };
+        })
 outcome m (unchanged r) v = idle (unchanged r) r (unchanged-news r r)
 
 -- ## Every model handed back is valid
@@ -418,7 +440,7 @@ joins-valid m o v f l = record {
     j = newJob m o s
 
     until-new : until S j ≡ s + holdTime S (o .estimate)
-    until-new = until-fresh S (m .next) o (stateAt now s) s s
+    until-new = until-fresh S (m .next) o (stateAt now s) s s (state-clean now s)
 
     E : Earliest (free (S .nodes) (spans S (m .jobs))) now (o .nodes) (holdTime S (o .estimate)) s
     E = earliest-is (S .nodes) (spans S (m .jobs)) now (o .nodes) (holdTime S (o .estimate)) (f .nodes-to)
@@ -439,6 +461,9 @@ joins-valid m o v f l = record {
       estimate-to = f .estimate-to;
       ends = omega (arith, l, until-new);
       holds = λ r. omega (arith, state-now holding? refl now s r, until-new, hold-pos S (o .estimate) (f .estimate-from));
+      runs = λ r. omega (arith, state-now running? refl now s r, end-is S j, run-pos S (o .estimate) (f .estimate-from));
+      cleaned = λ r. true-false (cleaning? (stateAt now s)) r (state-clean now s);
+      no-end = λ r. refl;
     }
 
     by-place : (P : Job → Type 0) → ((k : Job) → In k (m .jobs) → P k) → P j → (k : Job) → In k (m .jobs ++ (j ∷ [])) → P k
@@ -455,13 +480,14 @@ joins-valid m o v f l = record {
     each : (k : Job) → In k (m .jobs ++ (j ∷ [])) → SoundJob S now k
     each k i = by-place (SoundJob S now) (v .sound .each) one k i
 
-leaves-valid : (m : Model) (c : ℕ) (s : Select) (ks : List Job) → Valid m → Leaving m c s → Moved (m .settings) c (staying s (m .jobs)) ks
+leaves-valid : (m : Model) (c : ℕ) (s : Select) (ks : List Job) → Valid m → Leaving m c s → Moved (m .settings) c (remaining (m .settings) c s (m .jobs)) ks
     → Valid (record { settings = m .settings; clock = c; next = m .next; jobs = ks })
 leaves-valid m c s ks v l g = record {
   kind = v .kind;
   sound = record {
     nodes-from = old .nodes-from;
     nodes-to = old .nodes-to;
+    cleanup-to = old .cleanup-to;
     clock-to = old .clock-to;
     next-from = old .next-from;
     next-to = old .next-to;
@@ -476,7 +502,7 @@ leaves-valid m c s ks v l g = record {
       let b = beside k i in
       omega (
         arith,
-        v .promised (b .0) (keep-in (λ (j : Job). not (picks s j)) (m .jobs) (b .1) .0),
+        kept (b .0) (b .1),
         follows-start c (b .0) k (b .2),
         follows-promise c (b .0) k (b .2),
       );
@@ -484,7 +510,14 @@ leaves-valid m c s ks v l g = record {
 }
   where
     js : List Job
-    js = staying s (m .jobs)
+    js = remaining (m .settings) c s (m .jobs)
+
+    kept : (j : Job) → In j js → j .start ≤ j .promise
+    kept j i = go (remaining-in (m .settings) c s (m .jobs) i)
+      where
+        go : (k : Job) × In k (m .jobs) × (table.leaves (m .settings) s k ≡ false) × (j ≡ ceased c s k) → j .start ≤ j .promise
+        go (k, a, n, e) =
+            subst (λ (x : Job). x .start ≤ x .promise) (sym e) (case (ends s k) (λ q. rw q (v .promised k a)) (λ q. rw q (v .promised k a)))
 
     old : Sound (without m c s)
     old = sound-leave m c s (v .sound) l

@@ -22,6 +22,7 @@ use Rattle.scheduler.specs.Settings.{holdTime}
 use Rattle.scheduler.specs.Times.{hold-pos}
 use Rattle.scheduler.specs.Table.{withJobs}
 use Rattle.scheduler.specs.Model.{Model, store, view, withModelJobs}
+use Rattle.jobs.specs.Soundness.{waiting-clean}
 use Rattle.jobs.specs.Premise.{Holds}
 use Rattle.conservative_table.specs.Table.{Table}
 use Rattle.conservative_rules.specs.Conservative.{spans, moved, pass}
@@ -40,18 +41,29 @@ pub record SlotJob (S : Settings) (now : ℕ) (j : Job) : Type 0 where
   pub nodes-to : j .nodes ≤ S .nodes
   pub ahead : isWaiting j ≡ true → now < j .start
   pub hold-from : isWaiting j ≡ true → 1 ≤ holdTime S (j .estimate)
+  pub no-end : isWaiting j ≡ true → j .end ≡ 0
 
 slot-jobs : (m : Model) → Replannable m → All (SlotJob (m .settings) (m .clock)) (store m .jobs)
 unfolding store
 slot-jobs m r = all-pad slots unused (SlotJob (m .settings) (m .clock)) (m .jobs) none (all-of _ (m .jobs) one)
   where
     none : SlotJob (m .settings) (m .clock) unused
-    none = record { nodes-to = omega arith; ahead = λ e. true-false false e refl; hold-from = λ e. true-false false e refl }
+    none = record {
+      nodes-to = omega arith;
+      ahead = λ e. true-false false e refl;
+      hold-from = λ e. true-false false e refl;
+      no-end = λ e. refl;
+    }
 
     one : (j : Job) → In j (m .jobs) → SlotJob (m .settings) (m .clock) j
     one j i =
         let s = r .planned .sound .each j i in
-        record { nodes-to = s .nodes-to; ahead = λ e. r .ahead j i e; hold-from = λ e. hold-pos (m .settings) (j .estimate) (s .estimate-from) }
+        record {
+          nodes-to = s .nodes-to;
+          ahead = λ e. r .ahead j i e;
+          hold-from = λ e. hold-pos (m .settings) (j .estimate) (s .estimate-from);
+          no-end = λ e. s .no-end (waiting-clean (j .state) e);
+        }
 
 -- the slots from which a pass begins
 pub record Before (S : Settings) (now : ℕ) (js : List Job) : Type 0 where
@@ -112,6 +124,7 @@ module _ {S : Settings} {now : ℕ} {js₀ js : List Job} {i n : ℕ} {ms fs : L
         ahead = s .ahead w;
         nodes-to = s .nodes-to;
         hold-from = s .hold-from w;
+        no-end = s .no-end w;
       }
 
   hold-is : {hs : List ℕ} → HoldsTo S js₀ slots hs → isWaiting j ≡ true → getD hs i 0 ≡ holdTime S (j .estimate)

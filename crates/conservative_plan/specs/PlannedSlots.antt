@@ -20,14 +20,16 @@ use Rattle.scheduler.specs.declared.Job.{Job}
 use Rattle.scheduler.specs.declared.Scheduler.{Scheduler}
 use Rattle.scheduler.specs.Limits.{maxNodes, slots}
 use Rattle.scheduler.specs.declared.State.{State}
-use Rattle.scheduler.specs.declared.State.the-variants.{Unused, Waiting, Running}
-use Rattle.scheduler.specs.Jobs.{unused, isLive, isWaiting, live?, waiting?}
+use Rattle.scheduler.specs.declared.State.the-variants.{Unused, Waiting, Running, Cleanup}
+use Rattle.scheduler.specs.States.{live?, waiting?}
+use Rattle.scheduler.specs.Jobs.{unused, isLive, isWaiting, isCleaning}
 use Rattle.scheduler.specs.declared.Settings.{Settings}
 use Rattle.scheduler.specs.Settings.{horizon, holdTime, until}
-use Rattle.scheduler.specs.Times.{hold-le, until-is, until-from}
+use Rattle.scheduler.specs.Times.{hold-le, until-is}
 use Rattle.scheduler.specs.Model.{Model, store, view}
 use Rattle.jobs.specs.Soundness.{Sound}
 use Rattle.jobs.specs.Premise.{Holds}
+use Rattle.jobs.specs.Slots.{Low, sound-low}
 use Rattle.conservative_profile.specs.declared.Profile.{Profile}
 use Rattle.conservative_profile.specs.StoredProfile.{stored}
 use Rattle.conservative_profile.specs.TablePoints.{Tabled}
@@ -39,8 +41,8 @@ use Rattle.conservative_laws.specs.Validity.{Valid}
 abbrev pub spanAt : ℕ → ℕ → ℕ → Span
 spanAt nodes from hold = record { from = from; until = from + hold; nodes = nodes }
 
-pub span-at : (S : Settings) (j : Job) → span S j ≡ spanAt (j .nodes) (j .start) (holdTime S (j .estimate))
-span-at S j = rw (until-is S j)
+pub span-at : (S : Settings) (j : Job) → isCleaning j ≡ false → span S j ≡ spanAt (j .nodes) (j .start) (holdTime S (j .estimate))
+span-at S j n = rw (until-is S j n)
 
 -- a model whose jobs fit the machine in every minute from now on
 pub record Planned (m : Model) : Type 0 where
@@ -56,6 +58,7 @@ pub record Slots (S : Settings) (now : ℕ) (js : List Job) : Type 0 where
   pub clock-to : now ≤ horizon S
   pub all : length js ≡ slots
   pub ends : All (λ (j : Job). until S j ≤ horizon S) js
+  pub low : All Low js
   -- an unused slot has no nodes
   pub idle : All (λ (j : Job). isLive j ≡ false → j .nodes ≡ 0) js
   pub room : (t : ℕ) → now ≤ t → used t (spans S js) ≤ S .nodes
@@ -76,7 +79,8 @@ planned-slots m p = record {
   clock-to = p .sound .clock-to;
   all = length-pad slots unused (m .jobs) (p .sound .few);
   ends = all-pad slots unused (λ (j : Job). until (m .settings) j ≤ horizon (m .settings)) (m .jobs)
-      (omega (arith, until-is (m .settings) unused, hold-le (m .settings) 0)) (all-of _ (m .jobs) (λ j i. p .sound .each j i .ends));
+      (omega (arith, until-is (m .settings) unused refl, hold-le (m .settings) 0)) (all-of _ (m .jobs) (λ j i. p .sound .each j i .ends));
+  low = all-pad slots unused Low (m .jobs) (omega arith) (all-of Low (m .jobs) (λ j i. sound-low m (p .sound) j i));
   idle = all-pad slots unused (λ (j : Job). isLive j ≡ false → j .nodes ≡ 0) (m .jobs) (λ e. refl)
       (all-of _ (m .jobs) (λ j i e. true-false (isLive j) (p .sound .each j i .is-live) e));
   room = λ t l. omega (arith, used-slots (m .settings) t (m .jobs), p .room t l);
@@ -86,10 +90,9 @@ pub held-slots : (d : Scheduler) → Holds Planned d → Slots (view d .settings
 unfolding view
 held-slots d h = subst (λ (e : Scheduler). Slots (view d .settings) (d .clock) (e .jobs)) (sym (h .stored)) (planned-slots (view d) (h .holds))
 
--- every start is a minute of the clock
-pub start-low : {S : Settings} {now : ℕ} {js : List Job} → Slots S now js → (i : ℕ) → i < slots → getD js i unused .start ≤ horizon S
-start-low {S} {js = js} s i h =
-    omega (arith, all-at (λ (k : Job). until S k ≤ horizon S) js i unused (s .ends) (omega (arith, s .all)), until-from S (getD js i unused))
+-- every start and every end is a minute of the clock
+pub slot-low : {S : Settings} {now : ℕ} {js : List Job} → Slots S now js → (i : ℕ) → i < slots → Low (getD js i unused)
+slot-low {js = js} s i h = all-at Low js i unused (s .low) (omega (arith, s .all))
 
 -- ## The profile of the slots
 
@@ -190,6 +193,7 @@ waiting-live j e = go (j .state) e
     go Unused q = true-false false q refl
     go Waiting q = refl
     go Running q = refl
+    go Cleanup q = refl
 
 -- all slots: the free nodes of the scheduler
 pub record Tabulated (d : Scheduler) (n : ℕ) (ms fs : List ℕ) : Type 0 where

@@ -13,20 +13,21 @@ use Rattle.lists.specs.Lists.{All, here, all-in, in-right}
 use Rattle.spans.specs.Spans.{takes, used, free, earliest}
 use Rattle.spans.specs.UsedNodes.{used-among, takes-before, takes-in, free-less, free-more}
 use Rattle.scheduler.specs.declared.Job.{Job}
-use Rattle.scheduler.specs.Jobs.{isWaiting, isLive}
+use Rattle.scheduler.specs.Jobs.{isWaiting, isCleaning, isLive}
 use Rattle.scheduler.specs.declared.Settings.{Settings}
 use Rattle.scheduler.specs.Settings.{horizon, holdTime, until}
-use Rattle.scheduler.specs.Times.{hold-le, until-is, until-at, until-from}
+use Rattle.scheduler.specs.Times.{hold-le, until-is, until-at}
+use Rattle.jobs.specs.Slots.{Low}
+use Rattle.jobs.specs.Soundness.{waiting-is, waiting-clean}
 use Rattle.conservative_table.specs.declared.Row.{Row}
 use Rattle.conservative_table.specs.ListChanges.{rows}
 use Rattle.conservative_table.specs.Table.{Table, Ascends, Split}
 use Rattle.conservative_table.specs.LaidSpans.{LaysAt, Shifts, Shifted}
 use Rattle.conservative_table.specs.Search.{Seeks, Found}
 use Rattle.conservative_rules.specs.Conservative.{span, spans, stateAt, placed, moved}
-use Rattle.conservative_laws.specs.Validity.{Follows, follows-start, moved-follows}
+use Rattle.conservative_laws.specs.Validity.{state-clean, Follows, follows-start, moved-follows}
 use Rattle.conservative_plan.specs.declared.Replanned.{Replanned}
 use Rattle.conservative_plan.specs.PlannedSlots.{spanAt, span-at, Slots}
-use Rattle.conservative_laws.specs.TickedJob.{turned-other}
 
 -- the lists are a table of the slots xs, j and ys, and j waits
 pub record Replans (ms fs : List ℕ) (n : ℕ) (j : Job) (now : ℕ) : Type 0 where
@@ -40,6 +41,7 @@ pub record Replans (ms fs : List ℕ) (n : ℕ) (j : Job) (now : ℕ) : Type 0 w
   pub ahead : now < j .start
   pub nodes-to : j .nodes ≤ settings .nodes
   pub hold-from : 1 ≤ holdTime settings (j .estimate)
+  pub no-end : j .end ≡ 0
 
 -- another element in the place of one
 all-instead : {A : Type 0} (P : A → Type 0) (xs : List A) (x y : A) (ys : List A) → All P (xs ++ x ∷ ys) → P y → All P (xs ++ y ∷ ys)
@@ -47,7 +49,22 @@ all-instead P [] x y ys a h = (h, a .1)
 all-instead P (z ∷ xs) x y ys a h = (a .0, all-instead P xs x y ys (a .1) h)
 
 placed-span : (S : Settings) (now s : ℕ) (j : Job) → span S (placed now s j) ≡ spanAt (j .nodes) s (holdTime S (j .estimate))
-placed-span S now s j = rw (until-at S (stateAt now s) s j)
+placed-span S now s j = rw (until-at S (stateAt now s) s j (state-clean now s))
+
+-- one that waits is as it is where it is planned
+placed-still : (now : ℕ) (j : Job) → isWaiting j ≡ true → now < j .start → j .end ≡ 0 → placed now (j .start) j ≡ j
+placed-still now j w l n = λ i. record {
+  ticket = j .ticket;
+  nodes = j .nodes;
+  estimate = j .estimate;
+  state = state-is i;
+  start = j .start;
+  promise = j .promise;
+  end = sym n i;
+}
+  where
+    state-is : stateAt now (j .start) ≡ j .state
+    state-is = rw (ne-eqb (j .start) now (λ z. omega arith)) (sym (waiting-is (j .state) w))
 
 module _ {ms fs : List ℕ} {n : ℕ} {j : Job} {now : ℕ} (q : Replans ms fs n j now) where
   abbrev S : Settings
@@ -85,11 +102,14 @@ module _ {ms fs : List ℕ} {n : ℕ} {j : Job} {now : ℕ} (q : Replans ms fs n
   pub room-after : (t : ℕ) → now ≤ t → takes t (span S movedTo) + used t (spans S others) ≤ S .nodes
   room-after = moved-follows S now others j (q .nodes-to) (λ w. q .ahead) room .1
 
+  clean : isCleaning j ≡ false
+  clean = waiting-clean (j .state) (q .waits)
+
   end-of : until S j ≤ horizon S
   end-of = all-in (λ (k : Job). until S k ≤ horizon S) (q .fits .ends) (in-right (q .xs) (here refl))
 
   pub start-of : j .start ≤ horizon S
-  start-of = omega (arith, end-of, until-from S j)
+  start-of = omega (arith, end-of, until-is S j clean)
 
   -- where it is put in again
   abbrev pub startAt : ℕ
@@ -122,7 +142,7 @@ module _ {ms fs : List ℕ} {n : ℕ} {j : Job} {now : ℕ} (q : Replans ms fs n
       enough = q .nodes-to;
       some = q .hold-from;
       early = λ t l b. omega (arith, among t j, takes-before t (span S j) (omega (arith, s .minute)));
-      late = λ t l b. omega (arith, room t (omega (arith, q .ahead, s .minute)), takes-in t (span S j) (omega (arith, s .minute)) (omega (arith, s .minute, until-is S j)));
+      late = λ t l b. omega (arith, room t (omega (arith, q .ahead, s .minute)), takes-in t (span S j) (omega (arith, s .minute)) (omega (arith, s .minute, until-is S j clean)));
       hold-to = hold-le S (j .estimate);
     }
 
@@ -131,10 +151,7 @@ module _ {ms fs : List ℕ} {n : ℕ} {j : Job} {now : ℕ} (q : Replans ms fs n
 
   -- it stays where it is
   pub stays-put : startAt ≡ j .start → j ≡ movedTo
-  stays-put e =
-      sym (rw (q .waits) at (turned-other now j (rw (q .waits) (ne-eqb (j .start) now (λ z. omega (arith, q .ahead))))))
-      ∙ ap (λ (s : ℕ). placed now s j) (sym e)
-      ∙ sym moved-is
+  stays-put e = sym (placed-still now j (q .waits) (q .ahead) (q .no-end)) ∙ ap (λ (s : ℕ). placed now s j) (sym e) ∙ sym moved-is
 
   -- or moves
   start-low : movedTo .start ≤ j .start
@@ -144,13 +161,13 @@ module _ {ms fs : List ℕ} {n : ℕ} {j : Job} {now : ℕ} (q : Replans ms fs n
   moved-low = omega (arith, start-low, start-of, ap (λ (k : Job). k .start) moved-is)
 
   moved-until : until S movedTo ≡ startAt + holdTime S (j .estimate)
-  moved-until = ap (until S) moved-is ∙ until-at S (stateAt now startAt) startAt j
+  moved-until = ap (until S) moved-is ∙ until-at S (stateAt now startAt) startAt j (state-clean now startAt)
 
   moved-start : movedTo .start ≡ startAt
   moved-start = ap (λ (k : Job). k .start) moved-is
 
   end-after : until S movedTo ≤ horizon S
-  end-after = omega (arith, start-low, end-of, moved-until, moved-start, until-is S j)
+  end-after = omega (arith, start-low, end-of, moved-until, moved-start, until-is S j clean)
 
   -- taken out, from the place of its start
   pub take-out : {r : Row} {ms₁ fs₁ : List ℕ} → Split ms fs n (j .start) r ms₁ fs₁ → LaysAt ms₁ fs₁ r (span S j) true
@@ -164,7 +181,7 @@ module _ {ms fs : List ℕ} {n : ℕ} {j : Job} {now : ℕ} (q : Replans ms fs n
     until = end-of;
     inside = s .inside;
     begins = omega (arith, s .minute, q .ahead);
-    some = omega (arith, s .minute, q .hold-from, until-is S j);
+    some = omega (arith, s .minute, q .hold-from, until-is S j clean);
     fits = omega (arith, q .room-left, s .most);
   }
 
@@ -184,6 +201,7 @@ module _ {ms fs : List ℕ} {n : ℕ} {j : Job} {now : ℕ} (q : Replans ms fs n
     clock-to = q .fits .clock-to;
     all = length-append (q .xs) (movedTo ∷ q .ys) ∙ sym (length-append (q .xs) (j ∷ q .ys)) ∙ q .fits .all;
     ends = all-instead _ (q .xs) j movedTo (q .ys) (q .fits .ends) end-after;
+    low = all-instead Low (q .xs) j movedTo (q .ys) (q .fits .low) (subst Low (sym moved-is) (moved-low, omega arith));
     idle = all-instead _ (q .xs) j movedTo (q .ys) (q .fits .idle) (λ e. true-false (isLive movedTo) (ap isLive moved-is ∙ state-live) e);
     room = λ t l. omega (arith, among t movedTo, room-after t l);
   }
@@ -255,11 +273,11 @@ module _ {ms₁ fs₁ : List ℕ} {r : Row} {k : ℕ} {j : Job} {hold now : ℕ}
   Shift = Shifts ms₁ fs₁ r (spanAt (j .nodes) (j .start) hold) k (spanAt (j .nodes) (getD ms₁ k 0) hold)
 
   pub shifts : Shift
-  shifts = rw (m .hold-is, start-is, ← moved-span q, ← span-at (q .settings) j) from-own
+  shifts = rw (m .hold-is, start-is, ← moved-span q, ← span-at (q .settings) j (clean q)) from-own
 
   pub turned-moves : {n₂ : ℕ} {ms₂ fs₂ : List ℕ} → ((l : Shift) → Shifted l n₂ ms₂ fs₂)
       → TurnDone q (record { job = placed now (getD ms₁ k 0) j; count = n₂ }) ms₂ fs₂
   unfolding from-own take-out
   turned-moves g =
-      let u = (rw (m .hold-is, start-is, ← moved-span q, ← span-at (q .settings) j) at g) from-own in
+      let u = (rw (m .hold-is, start-is, ← moved-span q, ← span-at (q .settings) j (clean q)) at g) from-own in
       record { job-is = ap (λ (i : ℕ). placed now i j) start-is ∙ sym (moved-is q); table = u .table; most = omega (arith, u .most, m .split .most) }

@@ -5,10 +5,11 @@ ghost use mathlib.Core.List.{[]};
 ghost use Prim.Native.Nat.{_≤_};
 ghost use lib.ListN.{length};
 ghost use Rattle.scheduler.specs.Limits.{horizon, longestHold, slots};
-ghost use Rattle.scheduler.specs.Settings.{holdTime};
+ghost use Rattle.scheduler.specs.Settings.{holdTime, until};
 ghost use Rattle.scheduler.specs.Table.{withJobs};
 ghost use Rattle.scheduler.specs.Model.{view};
 ghost use Rattle.jobs.specs.Premise.{Holds};
+ghost use Rattle.jobs.specs.Slots.{Low};
 ghost use Rattle.conservative_rules.specs.Conservative.{placed, points, pass};
 ghost use Rattle.conservative_table.specs.ListChanges.{rows};
 ghost use Rattle.conservative_profile.specs.StoredProfile.{stored};
@@ -19,6 +20,7 @@ ghost use Rattle.conservative_plan.specs.Pass.{Replannable};
 use conservative_profile::Profile;
 use scheduler::Job;
 use scheduler::Scheduler;
+use scheduler::Settings;
 use scheduler::State;
 
 // `nodes` nodes, from the minute `from` on, for `hold` minutes.
@@ -31,6 +33,17 @@ fn span(nodes: u32, from: u32, hold: u32) -> spans::Span
         until: from + hold,
         nodes: nodes,
     }
+}
+
+// The minute from which the job's nodes are free again.
+fn held_until(job: Job, settings: Settings, hold: u32) -> u32
+    requires { ⌜ Low job × (hold ≡ holdTime settings (job .estimate)) ⌝ }
+    ensures { λ r. ⌜ r ≡ until settings job ⌝ }
+{
+    if job.is_cleaning() {
+        return job.end + settings.cleanup();
+    }
+    job.start + hold
 }
 
 // The free nodes from now on, as a table: each live job's span is laid over the idle machine's. Their hold times are kept for later.
@@ -52,13 +65,12 @@ fn tabulate(
         if j.is_live() {
             let hold = settings.hold_time(j.estimate as u32);
             holds[i] = hold;
-            count = conservative_table::lay(
-                minutes,
-                free,
-                count,
-                span(j.nodes as u32, j.start, hold),
-                false,
-            );
+            let taken = spans::Span {
+                from: j.start,
+                until: held_until(j, settings, hold),
+                nodes: j.nodes as u32,
+            };
+            count = conservative_table::lay(minutes, free, count, taken, false);
         }
         i += 1;
     }

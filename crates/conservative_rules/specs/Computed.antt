@@ -7,6 +7,8 @@ use lib.ListN.{replicate}
 use Rattle.lists.specs.Lists.{keep}
 use Rattle.spans.specs.Spans as spans
 use Rattle.scheduler.specs.declared.Kind.the-variants.{Conservative}
+use Rattle.scheduler.specs.declared.State.{State}
+use Rattle.scheduler.specs.declared.State.the-variants.{Waiting, Cleanup}
 use Rattle.scheduler.specs.declared.Job.{Job}
 use Rattle.scheduler.specs.declared.Refusal.{Refusal}
 use Rattle.scheduler.specs.declared.Refusal.the-variants as refusal
@@ -14,7 +16,7 @@ use Rattle.scheduler.specs.declared.Departure.the-variants.{Complete}
 use Rattle.scheduler.specs.declared.Select.the-variants as select
 use Rattle.scheduler.specs.Jobs.{isRunning}
 use Rattle.scheduler.specs.declared.Settings.{Settings}
-use Rattle.scheduler.specs.Table.{ticketsOf, staying}
+use Rattle.scheduler.specs.Table.{ticketsOf, remaining}
 use Rattle.scheduler.specs.Model.{Model}
 use Rattle.scheduler.specs.Answers.{Reply, verdict}
 use Rattle.scheduler.specs.Settings as times
@@ -29,9 +31,18 @@ startOf j = j .start
 abbrev pub promiseOf : Job → ℕ
 promiseOf j = j .promise
 
--- a machine of 2 nodes
+abbrev stateOf : Job → State
+stateOf j = j .state
+
+abbrev endOf : Job → ℕ
+endOf j = j .end
+
+-- a machine of 2 nodes, whose nodes are cleared for so many minutes
+abbrev cleared : ℕ → ℕ → Model
+cleared k minute = opening (record { settings = record { kind = Conservative; nodes = 2; cleanup = k }; minute = minute; ticket = 1 })
+
 abbrev fresh : ℕ → Model
-fresh minute = opening (record { settings = record { kind = Conservative; nodes = 2 }; minute = minute; ticket = 1 })
+fresh minute = cleared 0 minute
 
 -- Document 001, figure 2: two jobs run, one until 5, one until 15. The first queued job needs both nodes and is promised 15, the second
 -- needs one and is promised 5.
@@ -45,11 +56,28 @@ replan S now done [] = []
 replan S now done (j ∷ js) = let k : Job = moved S now (done ++ keep isRunning js) j in k ∷ replan S now (k ∷ done) js
 
 abbrev pub replanned : Model → ℕ → List Job
-replanned m t = replan (m .settings) (m .clock) [] (staying (select.Departing Complete t) (m .jobs))
+replanned m t = replan (m .settings) (m .clock) [] (remaining (m .settings) (m .clock) (select.Departing Complete t) (m .jobs))
 
 -- the answer to the first job of such a machine, submitted at that minute
 abbrev alone : ℕ → ℕ → ℕ → Refusal
 alone minute n e = call (fresh minute) (submit (order n e)) .reply .refusal
+
+abbrev alone-cleared : ℕ → ℕ → ℕ → Refusal
+alone-cleared minute n e = call (cleared 30 minute) (submit (order n e)) .reply .refusal
+
+-- two jobs on both nodes, one after another, with 7 minutes of clearing: at 0, at 5 and at 12, where the second starts; and the first ended
+-- in the minute of its start
+abbrev pair : Model
+pair = after call (cleared 7 0) (submit (order 2 5) ∷ submit (order 2 10) ∷ [])
+
+abbrev over : Model
+over = after call pair (replicate 5 tick)
+
+abbrev second : Reply
+second = call (after call over (replicate 6 tick)) tick .reply
+
+abbrev at-once : Model
+at-once = call pair (complete 1) .model
 
 abbrev fifth-tick : Reply
 fifth-tick = call (after call figure2 (replicate 4 tick)) tick .reply
@@ -87,11 +115,28 @@ pub examples : (ticketsOf (figure2 .jobs) ≡ 1 ∷ 2 ∷ 3 ∷ 4 ∷ [])
     × (call queued (cancel 2) .reply .ended ≡ [])
     × (call queued (cancel 1) .reply .refusal ≡ refusal.NotWaiting)
     × (call withdrawn (cancel 2) .reply .refusal ≡ refusal.NotWaiting)
+    -- document 02, No. 3: what must fit the plan and the last minute is the held time and the clearing; the end is kept, nodes are taken
+    -- until the clearing ends, and serve a start in that same minute; "An end of a clearing stack is refused by 7"
+    × (alone-cleared 999960 1 10 ≡ refusal.None)
+    × (alone-cleared 999960 1 11 ≡ refusal.PastHorizon)
+    × (map startOf (pair .jobs) ≡ 0 ∷ 12 ∷ [])
+    × (points pair ≡ record { minute = 0; free = 0 } ∷ record { minute = 29; free = 2 } ∷ [])
+    × (map stateOf (over .jobs) ≡ Cleanup ∷ Waiting ∷ [])
+    × (map endOf (over .jobs) ≡ 5 ∷ 0 ∷ [])
+    × (points over ≡ record { minute = 5; free = 0 } ∷ record { minute = 29; free = 2 } ∷ [])
+    × (second .ended ≡ [])
+    × (second .started ≡ 2 ∷ [])
+    × (map endOf (at-once .jobs) ≡ 0 ∷ 0 ∷ [])
+    × (map startOf (at-once .jobs) ≡ 0 ∷ 7 ∷ [])
+    × (call over (complete 1) .reply .refusal ≡ refusal.NotRunning)
 unfolding
     opening
     openingRefusal
     verdict
+    times.cleanup
+    times.runTime
     times.holdTime
+    times.endOf
     times.until
     refusals.departRefusal
     refusals.tickRefusal
@@ -111,4 +156,4 @@ unfolding
     ticked
     call
     replan
-examples = (refl, refl, refl, refl, refl, refl, refl, refl, refl, refl, refl, refl, refl, refl, refl, refl, refl, refl)
+examples = (refl, refl, refl, refl, refl, refl, refl, refl, refl, refl, refl, refl, refl, refl, refl, refl, refl, refl, refl, refl, refl, refl, refl, refl, refl, refl, refl, refl, refl, refl)

@@ -21,13 +21,13 @@ use Rattle.scheduler.specs.declared.Select.the-variants as select
 use Rattle.scheduler.specs.Jobs.{isWaiting, isRunning, fresh, jobAt}
 use Rattle.scheduler.specs.declared.Settings.{Settings}
 use Rattle.scheduler.specs.Settings.{horizon, holdTime, until}
-use Rattle.scheduler.specs.Table.{endedOf, staying}
+use Rattle.scheduler.specs.Table.{endedOf, remaining}
 use Rattle.scheduler.specs.Model.{Model, ending, joined}
 use Rattle.scheduler.specs.Answers.{Result, verdict, refuse}
 use Rattle.scheduler.specs.Refusals.{judged, submitTests, departRefusal, tickRefusal}
 use Rattle.history.specs.Calls.{Rules, submit, depart, tick, unchanged}
 
--- a running job holds its nodes from its start, a waiting one from its planned start on, until they are free again
+-- a job holds its nodes from its start, or planned start, on, until they are free again
 abbrev pub span : Settings → Job → Span
 span S j = record { from = j .start; until = until S j; nodes = j .nodes }
 
@@ -37,6 +37,7 @@ spans S js = map (span S) js
 -- ## Submission (document 01: "Intake")
 
 -- "The planned start is the smallest minute, now or later, such that the stack's nodes are free in every minute of its held time."
+-- Document 02, No. 3: "Held time plus clearing is what must fit the profile"
 unfoldable pub planned : Model → Submission → ℕ
 planned m o = earliest (m .settings .nodes) (spans (m .settings) (m .jobs)) (m .clock) (o .nodes) (holdTime (m .settings) (o .estimate))
 
@@ -92,7 +93,7 @@ begun [] ks = []
 begun (j ∷ js) [] = []
 begun (j ∷ js) (k ∷ ks) = cond (isWaiting j && isRunning k) (j .ticket ∷ begun js ks) (begun js ks)
 
--- those that a test picks leave, and the others become `after`
+-- where those that a test picks leave: who remains becomes `after`
 unfoldable pub advanced : Model → ℕ → Select → List Job → Result
 advanced m clock s after = record {
   reply = record {
@@ -100,7 +101,7 @@ advanced m clock s after = record {
     ticket = 0;
     promise = 0;
     ended = endedOf s (m .jobs);
-    started = begun (staying s (m .jobs)) after;
+    started = begun (remaining (m .settings) clock s (m .jobs)) after;
     head = none;
   };
   model = record { settings = m .settings; clock = clock; next = m .next; jobs = after };
@@ -123,19 +124,19 @@ pass S now done (j ∷ js) = let k : Job = moved S now (done ++ js) j in k ∷ p
 unfoldable pub departed : Model → Departure → ℕ → Result
 departed m h t =
     advanced m (m .clock) (select.Departing h t)
-    (pass (m .settings) (m .clock) [] (staying (select.Departing h t) (m .jobs)))
+    (pass (m .settings) (m .clock) [] (remaining (m .settings) (m .clock) (select.Departing h t) (m .jobs)))
 
 -- ## Tick (document 01: "Minute step")
 
 -- "waiting stacks whose planned start is now start. Nothing else moves."
 abbrev pub turned : ℕ → Job → Job
-turned now j = cond (isWaiting j) (placed now (j .start) j) j
+turned now j = cond (isWaiting j && eqb (j .start) now) (jobAt Running (j .start) j) j
 
 -- "The clock rises by one, stacks whose end is now leave"
 unfoldable pub ticked : Model → Result
 ticked m =
     advanced m (suc (m .clock)) (ending m)
-    (map (turned (suc (m .clock))) (staying (ending m) (m .jobs)))
+    (map (turned (suc (m .clock))) (remaining (m .settings) (suc (m .clock)) (ending m) (m .jobs)))
 
 -- ## Profile
 

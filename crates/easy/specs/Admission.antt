@@ -53,7 +53,7 @@ module _ (d : Scheduler) (s : Submission) (h : Holds Valid d) where
   job = newJob (d .next) s
 
   -- early on, the last of a full queue ends in time
-  early-latest : d .clock ≤ 334720 → latestEnd m (s .estimate) ≤ horizon
+  early-latest : d .clock ≤ 332740 → latestEnd m (s .estimate) ≤ horizon
   unfolding view
   early-latest l = omega (
     arith,
@@ -67,7 +67,7 @@ module _ (d : Scheduler) (s : Submission) (h : Holds Valid d) where
   judged-by low latest e l = rw (e, l)
 
   -- the latest end counts only where it is past the last minute
-  pub judged-early : (low : ℕ) → low ≡ length (m .jobs) → d .clock ≤ 334720 → lateRefusal (d .settings) low (d .next) 0 s ≡ submitRefusal m s
+  pub judged-early : (low : ℕ) → low ≡ length (m .jobs) → d .clock ≤ 332740 → lateRefusal (d .settings) low (d .next) 0 s ≡ submitRefusal m s
   judged-early low e l = judged-by low 0 e (sym (le-ltb horizon (latestEnd m (s .estimate)) (early-latest l)))
 
   pub judged-latest : (low latest : ℕ) → low ≡ length (m .jobs) → latest ≡ latestEnd m (s .estimate)

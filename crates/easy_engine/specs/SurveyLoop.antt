@@ -15,22 +15,22 @@ use Rattle.lists.specs.Loops.{keep-take-yes, keep-take-no}
 use Rattle.lists.specs.Pads.{pad, keep-pad, sum-pad, pad-push, pad-set}
 use Rattle.scheduler.specs.declared.Settings.{Settings}
 use Rattle.scheduler.specs.declared.Job.{Job}
-use Rattle.scheduler.specs.Settings.{until}
-use Rattle.scheduler.specs.Times.{until-from}
+use Rattle.scheduler.specs.Settings.{runTime, holdTime, until}
+use Rattle.scheduler.specs.Times.{hold-is, until-is, until-cleaning}
 use Rattle.scheduler.specs.declared.Scheduler.{Scheduler}
-use Rattle.scheduler.specs.Limits.{slots}
-use Rattle.scheduler.specs.Jobs.{unused, isWaiting, isHolding, held}
+use Rattle.scheduler.specs.Limits.{slots, horizon}
+use Rattle.scheduler.specs.Jobs.{unused, isWaiting, isCleaning, isHolding, held}
 use Rattle.scheduler.specs.Table.{ticketOf, nodesHeld}
-use Rattle.scheduler.specs.Model.{store, view}
+use Rattle.scheduler.specs.Model.{Model, store, view}
 use Rattle.scheduler.specs.TableLaws.{nodesHeld-stored}
 use Rattle.jobs.specs.Order.{asc-keep}
 use Rattle.jobs.specs.Soundness.{Sound}
 use Rattle.jobs.specs.Premise.{Holds}
-use Rattle.jobs.specs.Slots.{slots-are}
+use Rattle.jobs.specs.Slots.{sound-low, slots-are}
 use Rattle.easy_rules.specs.Easy.{queue, free}
 use Rattle.easy_laws.specs.Settling.{idle}
 use Rattle.easy_laws.specs.Validity.{Ready}
-use Rattle.easy_engine.specs.Survey.{Column, Blank, nodesOf, startOf, estimateOf, asks, running, WaitingColumns, Surveyed}
+use Rattle.easy_engine.specs.Survey.{Column, Blank, nodesOf, fromOf, termOf, estimateOf, asks, running, WaitingColumns, Surveyed}
 use Rattle.easy_engine.specs.Survey.{SlotColumn, Passed, StartsInTime}
 use Rattle.easy_engine.specs.Columns.{column-push}
 
@@ -83,8 +83,8 @@ module _ {d : Scheduler} {r w spare : ℕ} {heldₗ starts terms asked estimates
         record {
           running-is = ap length k ∙ v .running-is;
           held-is = subst (λ (js : List Job). Column nodesOf js heldₗ) (sym k) (v .held-is);
-          starts-are = subst (λ (js : List Job). Column startOf js starts) (sym k) (v .starts-are);
-          terms-are = subst (λ (js : List Job). Column estimateOf js terms) (sym k) (v .terms-are);
+          starts-are = subst (λ (js : List Job). Column fromOf js starts) (sym k) (v .starts-are);
+          terms-are = subst (λ (js : List Job). Column termOf js terms) (sym k) (v .terms-are);
           spare-is = omega (arith, v .spare-is, sum-first held xs i inside);
           waiting-is = ap length q ∙ length-append (queue (take i xs)) (x ∷ []) ∙ ap (λ (n : ℕ). n + 1) (v .waiting-is);
           asked-is = subst (λ (js : List Job). Column nodesOf js (set asked w (x .nodes))) (sym q)
@@ -114,7 +114,7 @@ module _ {d : Scheduler} {r w spare : ℕ} {heldₗ starts terms asked estimates
               jobs-at = map-append (λ (k : ℕ). getD xs k unused) (s .at) (i ∷ []) ∙ ap (λ (js : List Job). js ++ (x ∷ [])) (s .jobs-at);
             }
 
-  -- it runs
+  -- it holds nodes
   module _ (h : Holds Sound d) (e : isHolding x ≡ true) (f : isWaiting x ≡ false) where
     pub room-for : x .nodes ≤ spare
     unfolding view
@@ -123,9 +123,9 @@ module _ {d : Scheduler} {r w spare : ℕ} {heldₗ starts terms asked estimates
         let a : nodesHeld xs ≡ nodesHeld (view d .jobs) = ap nodesHeld (slots-are d h) ∙ nodesHeld-stored (view d) in
         omega (arith, v .spare-is, sum-first held xs i inside, sum-within held xs (i + 1), h .holds .capacity)
 
-    pub runs-next : Passed d (take (i + 1) xs) (r + 1) w (spare - x .nodes) (set heldₗ r (x .nodes)) (set starts r (x .start))
-        (set terms r (x .estimate)) asked estimates tickets places
-    runs-next =
+    holds-next : (from term : ℕ) → from ≡ fromOf x → term ≡ termOf x
+        → Passed d (take (i + 1) xs) (r + 1) w (spare - x .nodes) (set heldₗ r (x .nodes)) (set starts r from) (set terms r term) asked estimates tickets places
+    holds-next from term a b =
         let k : running (take (i + 1) xs) ≡ running (take i xs) ++ (x ∷ []) = keep-take-yes unused isHolding xs i inside e in
         let q : queue (take (i + 1) xs) ≡ queue (take i xs) = keep-take-no unused isWaiting xs i inside f in
         let z : held x ≡ x .nodes = rw e in
@@ -134,10 +134,10 @@ module _ {d : Scheduler} {r w spare : ℕ} {heldₗ starts terms asked estimates
           running-is = ap length k ∙ length-append (running (take i xs)) (x ∷ []) ∙ ap (λ (n : ℕ). n + 1) (v .running-is);
           held-is = subst (λ (js : List Job). Column nodesOf js (set heldₗ r (x .nodes))) (sym k)
               (column-push nodesOf (running (take i xs)) heldₗ (v .held-is) x r (x .nodes) (v .running-is) r′ refl);
-          starts-are = subst (λ (js : List Job). Column startOf js (set starts r (x .start))) (sym k)
-              (column-push startOf (running (take i xs)) starts (v .starts-are) x r (x .start) (v .running-is) r′ refl);
-          terms-are = subst (λ (js : List Job). Column estimateOf js (set terms r (x .estimate))) (sym k)
-              (column-push estimateOf (running (take i xs)) terms (v .terms-are) x r (x .estimate) (v .running-is) r′ refl);
+          starts-are = subst (λ (js : List Job). Column fromOf js (set starts r from)) (sym k)
+              (column-push fromOf (running (take i xs)) starts (v .starts-are) x r from (v .running-is) r′ a);
+          terms-are = subst (λ (js : List Job). Column termOf js (set terms r term)) (sym k)
+              (column-push termOf (running (take i xs)) terms (v .terms-are) x r term (v .running-is) r′ b);
           spare-is = omega (arith, v .spare-is, sum-first held xs i inside, room-for);
           waiting-is = ap length q ∙ v .waiting-is;
           asked-is = subst (λ (js : List Job). Column nodesOf js asked) (sym q) (v .asked-is);
@@ -145,6 +145,18 @@ module _ {d : Scheduler} {r w spare : ℕ} {heldₗ starts terms asked estimates
           tickets-are = subst (λ (js : List Job). Column ticketOf js tickets) (sym q) (v .tickets-are);
           slots-are = subst (λ (js : List Job). SlotColumn xs js places) (sym q) (v .slots-are);
         }
+
+    -- it runs
+    pub runs-next : isCleaning x ≡ false
+        → Passed d (take (i + 1) xs) (r + 1) w (spare - x .nodes) (set heldₗ r (x .nodes)) (set starts r (x .start)) (set terms r (x .estimate)) asked estimates
+        tickets places
+    runs-next n = holds-next (x .start) (x .estimate) (rw n) (rw n)
+
+    -- it is in cleanup
+    pub cleans-next : isCleaning x ≡ true
+        → Passed d (take (i + 1) xs) (r + 1) w (spare - x .nodes) (set heldₗ r (x .nodes)) (set starts r (x .end)) (set terms r 0) asked estimates
+        tickets places
+    cleans-next c = holds-next (x .end) 0 (rw c) (rw c)
 
 -- ## The end
 
@@ -178,8 +190,8 @@ module _ (d : Scheduler) (h : Holds Sound d) (i : ℕ) (b : i ≤ 64) where
         record {
           running-is = sym (ap length k) ∙ v .running-is;
           held-is = subst (λ (js : List Job). Column nodesOf js heldₗ) k (v .held-is);
-          starts-are = subst (λ (js : List Job). Column startOf js starts) k (v .starts-are);
-          terms-are = subst (λ (js : List Job). Column estimateOf js terms) k (v .terms-are);
+          starts-are = subst (λ (js : List Job). Column fromOf js starts) k (v .starts-are);
+          terms-are = subst (λ (js : List Job). Column termOf js terms) k (v .terms-are);
           spare-is = omega (arith, v .spare-is);
           waiting-is = sym (ap length q) ∙ v .waiting-is;
           asked-is = subst (λ (js : List Job). Column nodesOf js asked) q (v .asked-is);
@@ -194,6 +206,9 @@ asks-those : (js : List Job) → map asks (queue js) ≡ map nodesOf (queue js)
 asks-those [] = refl
 asks-those (j ∷ js) = case (isWaiting j) (λ e. rw (e, e, asks-those js)) (λ e. rw (e, asks-those js))
 
+pub from-low : (m : Model) → Sound m → (j : Job) → In j (m .jobs) → fromOf j ≤ horizon
+from-low m s j i = let l = sound-low m s j i in case (isCleaning j) (λ c. rw c (l .1)) (λ c. rw c (l .0))
+
 module _ (d : Scheduler) (h : Holds Ready d) {r w spare : ℕ} {heldₗ starts terms asked estimates tickets places : List ℕ}
     (v : Passed d (view d .jobs) r w spare heldₗ starts terms asked estimates tickets places) where
   abbrev js : List Job
@@ -206,7 +221,7 @@ module _ (d : Scheduler) (h : Holds Ready d) {r w spare : ℕ} {heldₗ starts t
     terms-are = v .terms-are;
     count-is = v .running-is;
     few = omega (arith, v .running-is, length-keep-le isHolding js, h .holds .sound .few);
-    ends = λ j i. omega (arith, h .holds .sound .each j (keep-in isHolding js i .0) .ends, until-from (view d .settings) j);
+    low = λ j i. from-low (view d) (h .holds .sound) j (keep-in isHolding js i .0);
   }
 
   pub spare-free : spare ≡ free (view d)
@@ -251,39 +266,50 @@ module _ (d : Scheduler) (h : Holds Ready d) {r w spare : ℕ} {heldₗ starts t
     waits = waits-of;
   }
 
--- ## Starts become ends
+-- ## From when nodes are held, until when
+
+-- an estimate of 0 has no wall time, so that its hold is the clearing alone
+none-runs : (S : Settings) → runTime S 0 ≡ 0
+unfolding runTime
+none-runs S = refl
+
+pub until-from : (S : Settings) (j : Job) → until S j ≡ fromOf j + holdTime S (termOf j)
+until-from S j =
+    case (isCleaning j)
+    (λ c. rw c (omega (arith, until-cleaning S j c, hold-is S 0, none-runs S)))
+    (λ c. rw c (until-is S j c))
 
 module _ (S : Settings) (ys : List Job) where
   abbrev pub filled : ℕ → List ℕ
-  filled i = map (until S) (take i ys) ++ map startOf (drop i ys)
+  filled i = map (until S) (take i ys) ++ map fromOf (drop i ys)
 
   module _ (i : ℕ) (l : i < length ys) where
     abbrev y : Job
     y = getD ys i unused
 
-    mid : map startOf (drop i ys) ≡ y .start ∷ map startOf (drop (i + 1) ys)
+    mid : map fromOf (drop i ys) ≡ fromOf y ∷ map fromOf (drop (i + 1) ys)
     mid = rw (add-one, drop-cons ys i unused l)
 
     len : length (map (until S) (take i ys)) ≡ i
     len = length-map (take i ys) (until S) ∙ length-take-le i ys (omega arith)
 
     long : i < length (filled i)
-    long = rw mid (omega (arith, length-append (map (until S) (take i ys)) (y .start ∷ map startOf (drop (i + 1) ys)), len))
+    long = rw mid (omega (arith, length-append (map (until S) (take i ys)) (fromOf y ∷ map fromOf (drop (i + 1) ys)), len))
 
-    pub start-there : getD (pad slots 0 (filled i)) i 0 ≡ y .start
+    pub from-there : getD (pad slots 0 (filled i)) i 0 ≡ fromOf y
     unfolding pad
-    start-there =
+    from-there =
         List·getD-append (filled i) (replicate (slots - length (filled i)) 0) 0 i long
         ∙ ap (λ (ns : List ℕ). getD (map (until S) (take i ys) ++ ns) i 0) mid
-        ∙ getD-at (map (until S) (take i ys)) (y .start) (map startOf (drop (i + 1) ys)) 0 i len
+        ∙ getD-at (map (until S) (take i ys)) (fromOf y) (map fromOf (drop (i + 1) ys)) 0 i len
 
     pub fill-next : set (pad slots 0 (filled i)) i (until S y) ≡ pad slots 0 (filled (i + 1))
     fill-next =
         pad-set slots 0 (filled i) i (until S y) long
         ∙ ap (λ (ns : List ℕ). pad slots 0 (set (map (until S) (take i ys) ++ ns) i (until S y))) mid
-        ∙ ap (pad slots 0) (set-at (map (until S) (take i ys)) (y .start) (map startOf (drop (i + 1) ys)) (until S y) i len ∙ more)
+        ∙ ap (pad slots 0) (set-at (map (until S) (take i ys)) (fromOf y) (map fromOf (drop (i + 1) ys)) (until S y) i len ∙ more)
       where
-        more : map (until S) (take i ys) ++ (until S y ∷ map startOf (drop (i + 1) ys)) ≡ filled (i + 1)
+        more : map (until S) (take i ys) ++ (until S y ∷ map fromOf (drop (i + 1) ys)) ≡ filled (i + 1)
         more = rw (add-one, take-suc ys i unused l, map-append (until S) (take i ys) (y ∷ []), append-assoc)
 
   pub fill-done : (i : ℕ) → length ys ≤ i → filled i ≡ map (until S) ys

@@ -16,8 +16,9 @@ use Rattle.scheduler.specs.declared.Job.{Job}
 use Rattle.scheduler.specs.declared.Scheduler.{Scheduler}
 use Rattle.scheduler.specs.Limits.{slots}
 use Rattle.scheduler.specs.declared.State.{State}
-use Rattle.scheduler.specs.declared.State.the-variants.{Unused, Waiting, Running}
-use Rattle.scheduler.specs.Jobs.{unused, live?, waiting?, isLive, isWaiting}
+use Rattle.scheduler.specs.declared.State.the-variants.{Unused, Waiting, Running, Cleanup}
+use Rattle.scheduler.specs.States.{live?, waiting?}
+use Rattle.scheduler.specs.Jobs.{unused, isLive, isWaiting}
 use Rattle.scheduler.specs.Table.{withJobs, ticketOf, ticketsOf}
 use Rattle.scheduler.specs.Model.{Model, store, view}
 use Rattle.jobs.specs.Soundness.{Sound}
@@ -136,6 +137,7 @@ waiting-live j w = by (j .state) w
     by Unused w = w
     by Waiting w = refl
     by Running w = refl
+    by Cleanup w = refl
 
 module _ (d : Scheduler) (h : Holds Ready d) where
   abbrev js : List Job

@@ -1,5 +1,6 @@
 // EASY backfilling (document 01: "Loose Desk") over lent lists of numbers: which of the waiting jobs start, one after another. Of the jobs
-// that run the lists have nodes and ends, in any order; of the jobs that wait, in ticket order, nodes and estimates.
+// that hold nodes the lists have these and the minutes in which they are free again, in any order; of the jobs that wait, in ticket order,
+// nodes and estimates.
 use scheduler::Scheduler;
 use scheduler::Settings;
 ghost use mathlib.Core.Path.{_≡_};
@@ -33,7 +34,7 @@ fn given(nodes: u32, end: u32, minute: u32) -> u32
     0
 }
 
-// The nodes free now and those that running jobs have given back by this minute.
+// The nodes free now and those that are given back by this minute.
 fn avail_at(held: &[u32; 64], ends: &[u32; 64], running: usize, spare: u32, minute: u32) -> u32
     requires { ⌜ Held (now held) (now ends) running spare ⌝ }
     ensures { λ r. ⌜ ((h : Held (now (held .entry)) (now (ends .entry)) running spare) → r ≡ avail (h .model) minute) ⌝ }
@@ -285,7 +286,7 @@ fn settle(
     )
 }
 
-// Each start becomes the end.
+// From each minute from which nodes are held, the minute until which they are. (The hold time of 0, for a job in cleanup, is the clearing alone.)
 fn fill_ends(ends: &mut [u32; 64], terms: &[u32; 64], running: usize, settings: Settings)
     requires { ⌜ StartsInTime (now ends) (now terms) running ⌝ }
     ensures { λ _. ⌜ ((s : StartsInTime (now (ends .entry)) (now (terms .entry)) running) → Column (until settings) (s .jobs) (now (ends .exit))) ⌝ }
@@ -383,8 +384,8 @@ pub struct Answered {
     pub forecast: u32,
 }
 
-// Settles after a call that found this head. The lists are filled by the survey, `ends` with the starts of the running jobs; the
-// places of those who start are noted in order.
+// Settles after a call that found this head. The lists are filled by the survey, `ends` with the minutes from which nodes are held, `terms`
+// with the estimates for which they are; the places of those who start are noted in order.
 pub fn settle_all(
     before: u32,
     held: &mut [u32; 64],

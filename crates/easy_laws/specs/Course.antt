@@ -11,10 +11,10 @@ use mathlib.Core.List.{List, [], _∷_, _++_, append-nil}
 use mathlib.Core.Logic.{⊎-elim}
 use lib.Dec.{leb, ltb, eqb}
 use lib.ListN.{length}
-use borrow.Author.Tests.{leb-true, leb-false, lt-ltb, le-ltb, eqb-true, eq-eqb, ne-eqb}
+use borrow.Author.Tests.{leb-true, leb-false, le-leb, lt-ltb, le-ltb, eqb-true, eq-eqb, ne-eqb}
 use Rattle.lists.specs.Tests.{case, true-false, on, on-le, both, either}
 use Rattle.lists.specs.Lists.{keep, first, elem, sum, In, here, in-nil, in-cons, in-map, in-left, in-right, keep-in, in-keep, first-in}
-use Rattle.lists.specs.Lists.{keep-append, keep-cong, keep-keep, sum-append, sum-keep, sum-le, sum-zero, sum-in, length-keep}
+use Rattle.lists.specs.Lists.{keep-append, keep-cong, keep-all, sum-append, sum-map, sum-cong, sum-keep, sum-le, sum-zero, sum-in, length-keep}
 use Rattle.lists.specs.Least.{least}
 use Rattle.scheduler.specs.declared.Submission.{Submission}
 use Rattle.scheduler.specs.declared.State.the-variants.{Running}
@@ -22,17 +22,18 @@ use Rattle.scheduler.specs.declared.Job.{Job}
 use Rattle.scheduler.specs.declared.Departure.the-variants.{Complete, Cancel}
 use Rattle.scheduler.specs.declared.Select.{Select}
 use Rattle.scheduler.specs.declared.Select.the-variants as select
-use Rattle.scheduler.specs.Jobs.{isWaiting, isRunning, isHolding, held, picks}
+use Rattle.scheduler.specs.Jobs.{isWaiting, isHolding, held, cleaning}
 use Rattle.scheduler.specs.declared.Settings.{Settings}
 use Rattle.scheduler.specs.Settings.{holdTime, unit, until}
-use Rattle.scheduler.specs.Times.{until-at}
-use Rattle.scheduler.specs.Table.{ticketOf, staying}
+use Rattle.scheduler.specs.Times.{until-at, until-end, until-cleaned}
+use Rattle.scheduler.specs.Table.{ticketOf, nodesHeld, ends, withdraws, leaves, staying, ceased, remaining}
 use Rattle.scheduler.specs.Model.{Model, joined, without}
 use Rattle.jobs.specs.Order.{Asc, asc-in, asc-keep}
-use Rattle.jobs.specs.Soundness.{Sound, Leaving, early, in-time, endsRuns, leaving-runs, leaving-clock}
+use Rattle.jobs.specs.Soundness.{Sound, running-holds, running-clean, Leaving, early, in-time, leaving-clock, ends-runs, ends-by, ceased-held}
 use Rattle.easy_rules.specs.Easy.{queue, free, freed, avail, shadow, extra, qualifies, pick, choice, begun, mark, begin, newJob, rank}
 use Rattle.easy_laws.specs.Settling.{shadow-from, shadow-to, shadow-min, shadow-holds, avail-now, none-starts, How, as-head, passing}
-use Rattle.easy_laws.specs.Settling.{Chosen, chosen, each-begin, Settles, rest, start, idle, not-running, mark-same, sum-mark, queue-mark}
+use Rattle.easy_laws.specs.Settling.{Chosen, chosen, each-begin, Settles, rest, start, idle, mark-same, sum-mark, queue-mark}
+use Rattle.easy_laws.specs.Remaining.{waiting-remains, queue-remaining}
 
 -- the job with ticket u waits
 pub record Waits (m : Model) (u : ℕ) : Type 0 where
@@ -162,7 +163,7 @@ module _ (m : Model) (j : Job) (s : Sound m) (c : Chosen m j) where
       let z : held j ≡ 0 = rw (idle j (c .waits)) in
       let y : freed (m .settings) t j ≡ 0 = rw (idle j (c .waits)) in
       let u : freed (m .settings) t (begun (m .clock) j) ≡ on (leb (m .clock + holdTime (m .settings) (j .estimate)) t) (j .nodes) =
-      rw (until-at (m .settings) Running (m .clock) j) in
+      rw (until-at (m .settings) Running (m .clock) j refl) in
       omega arith
 
   -- by either rule, a job passed forward leaves the head its nodes at the shadow
@@ -259,29 +260,63 @@ eased m m′ u b s r x o =
           ));
     }
 
--- running jobs leave
-module _ (m : Model) (c : ℕ) (p : Select) (s : Sound m) (l : Leaving m c p) (ends : endsRuns p ≡ true) where
-  pub waits-stay : (j : Job) → isWaiting j ≡ true → picks p j ≡ false
-  waits-stay j w = case (picks p j) (λ e. true-false (isRunning j) (leaving-runs p ends j e) (not-running j w)) (λ e. e)
+-- runs end and nodes are released, and nobody is withdrawn
+module _ (m : Model) (c : ℕ) (p : Select) (s : Sound m) (l : Leaving m c p) (none-withdrawn : (j : Job) → withdraws p j ≡ false) where
+  abbrev S : Settings
+  S = m .settings
 
-  pub queue-leave : queue (staying p (m .jobs)) ≡ queue (m .jobs)
+  abbrev stayers : List Job
+  stayers = staying S p (m .jobs)
+
+  pub queue-leave : queue (remaining S c p (m .jobs)) ≡ queue (m .jobs)
   queue-leave =
-      keep-keep isWaiting (λ (j : Job). not (picks p j)) (m .jobs)
-      ∙ keep-cong (λ (j : Job). not (picks p j) && isWaiting j) isWaiting (m .jobs)
-      (λ j i. case (isWaiting j) (λ w. rw (waits-stay j w, w)) (λ w. rw w (case (picks p j) (λ e. rw e) (λ e. rw e))))
+      queue-remaining S c p (m .jobs) ∙ keep-all (λ (j : Job). not (withdraws p j)) (queue (m .jobs)) (λ j i. rw (none-withdrawn j))
+
+  -- whose run ends gives its nodes back no later
+  freed-ceased : (t : ℕ) (j : Job) → In j (m .jobs) → freed S t j ≤ freed S t (ceased c p j)
+  freed-ceased t j i = case (ends p j) (λ e. rw (e, running-holds (j .state) (ends-runs p j e)) (ending e)) (λ e. rw e (omega arith))
+    where
+      ending : ends p j ≡ true → on (leb (until S j) t) (j .nodes) ≤ on (leb (until S (cleaning c j)) t) (j .nodes)
+      ending e =
+          case (leb (until S j) t)
+          (λ q. rw (
+            q,
+            le-leb (until S (cleaning c j)) t
+                (omega (
+                  arith,
+                  until-cleaned S c j,
+                  ends-by m c p l j (s .each j i) e,
+                  until-end S j (running-clean (j .state) (ends-runs p j e)),
+                  leb-true (until S j) t q,
+                )),
+          ) (omega arith))
+          (λ q. rw q (omega arith))
 
   avail-leave : (t : ℕ) → avail m t ≤ avail (without m c p) t
   avail-leave t =
-      let a = sum-keep held (picks p) (m .jobs) in
-      let b = sum-keep (freed (m .settings) t) (picks p) (m .jobs) in
-      let d = sum-le (λ (j : Job). on (picks p j) (freed (m .settings) t j)) (λ (j : Job). on (picks p j) (held j)) (m .jobs) (λ j i. less j) in
-      omega (arith, s .capacity)
+      let a = sum-keep held (leaves S p) (m .jobs) in
+      let b = sum-keep (freed S t) (leaves S p) (m .jobs) in
+      let d = sum-le (λ (j : Job). on (leaves S p j) (freed S t j)) (λ (j : Job). on (leaves S p j) (held j)) (m .jobs) (λ j i. less j) in
+      let h : nodesHeld (remaining S c p (m .jobs)) ≡ nodesHeld stayers =
+      sum-map held (ceased c p) stayers ∙ sum-cong (λ (j : Job). held (ceased c p j)) held stayers (λ j i. ceased-held c p j) in
+      let f = sum-le (freed S t) (λ (j : Job). freed S t (ceased c p j)) stayers
+      (λ j i. freed-ceased t j (keep-in (λ (j : Job). not (leaves S p j)) (m .jobs) i .0)) in
+      omega (arith, s .capacity, sum-map (freed S t) (ceased c p) stayers)
     where
-      less : (j : Job) → on (picks p j) (freed (m .settings) t j) ≤ on (picks p j) (held j)
+      less : (j : Job) → on (leaves S p j) (freed S t j) ≤ on (leaves S p j) (held j)
       less j =
-          case (picks p j)
-          (λ e. rw e (case (isHolding j) (λ r. rw r (on-le (leb (until (m .settings) j) t) (j .nodes))) (λ r. rw r (omega arith))))
+          case (leaves S p j)
+          (λ e. rw e (case (isHolding j) (λ r. rw r (on-le (leb (until S j) t) (j .nodes))) (λ r. rw r (omega arith))))
           (λ e. rw e (omega arith))
+
+  fewer-leave : (u : ℕ) → ahead u (remaining S c p (m .jobs)) ≤ ahead u (m .jobs)
+  fewer-leave u =
+      omega (
+        arith,
+        sum-map (before u) (ceased c p) stayers,
+        sum-le (λ (j : Job). before u (ceased c p j)) (before u) stayers (λ j i. case (ends p j) (λ e. rw e (omega arith)) (λ e. rw e (omega arith))),
+        sum-keep (before u) (leaves S p) (m .jobs),
+      )
 
   pub leave-eases : Eases m (without m c p)
   leave-eases = record {
@@ -290,31 +325,39 @@ module _ (m : Model) (c : ℕ) (p : Select) (s : Sound m) (l : Leaving m c p) (e
     last = [];
     queued = queue-leave ∙ sym (append-nil (queue (m .jobs)));
     nodes = avail-leave;
-    fewer = λ u k. omega (arith, sum-keep (before u) (picks p) (m .jobs));
-    stay = λ j i w. in-keep (λ (j : Job). not (picks p j)) i (rw (waits-stay j w));
+    fewer = λ u k. fewer-leave u;
+    stay = λ j i w. waiting-remains S c p (m .jobs) i w (none-withdrawn j);
   }
 
 -- a waiting job is withdrawn: the head's shadow stays, or another is head and one job fewer waits before u
 module _ (m : Model) (t : ℕ) (s : Sound m) where
+  abbrev withdrawal : Select
+  withdrawal = select.Departing Cancel t
+
   abbrev gone : Job → Bool
-  gone = picks (select.Departing Cancel t)
+  gone = leaves (m .settings) withdrawal
 
   abbrev pub left : Model
-  left = without m (m .clock) (select.Departing Cancel t)
+  left = without m (m .clock) withdrawal
+
+  abbrev rest-of : List Job
+  rest-of = staying (m .settings) withdrawal (m .jobs)
 
   pub queue-left : queue (left .jobs) ≡ keep (λ (j : Job). not (eqb (j .ticket) t)) (queue (m .jobs))
   queue-left =
-      keep-keep isWaiting (λ (j : Job). not (gone j)) (m .jobs)
-      ∙ keep-cong (λ (j : Job). not (gone j) && isWaiting j) (λ (j : Job). isWaiting j && not (eqb (j .ticket) t)) (m .jobs)
-      (λ j i. case (isWaiting j) (λ w. rw w (case (eqb (j .ticket) t) (λ e. rw e) (λ e. rw e))) (λ w. rw w))
-      ∙ sym (keep-keep (λ (j : Job). not (eqb (j .ticket) t)) isWaiting (m .jobs))
+      queue-remaining (m .settings) (m .clock) withdrawal (m .jobs)
+      ∙ keep-cong (λ (j : Job). not (withdraws withdrawal j)) (λ (j : Job). not (eqb (j .ticket) t)) (queue (m .jobs))
+      (λ j i. rw (keep-in isWaiting (m .jobs) i .1))
+
+  -- no run ends, so that each is as it was
+  sum-left : (f : Job → ℕ) → sum f (left .jobs) + sum (λ (j : Job). on (gone j) (f j)) (m .jobs) ≡ sum f (m .jobs)
+  sum-left f = omega (arith, sum-map f (ceased (m .clock) withdrawal) rest-of, sum-keep f gone (m .jobs))
 
   -- one that waits holds no nodes, and frees none
   none-of : (f : Job → ℕ) → ((j : Job) → isHolding j ≡ false → f j ≡ 0) → sum f (left .jobs) ≡ sum f (m .jobs)
   none-of f n =
-      let a = sum-keep f gone (m .jobs) in
       let b = sum-zero (λ (j : Job). on (gone j) (f j)) (m .jobs) (λ j i. zero-of j) in
-      omega arith
+      omega (arith, sum-left f)
     where
       zero-of : (j : Job) → on (gone j) (f j) ≡ 0
       zero-of j = case (isWaiting j) (λ w. rw (w, n j (idle j w)) (case (eqb (j .ticket) t) (λ e. rw e) (λ e. rw e))) (λ w. rw w)
@@ -330,16 +373,15 @@ module _ (m : Model) (t : ℕ) (s : Sound m) where
   unfolding shadow
   shadow-left n = ap (λ (p : ℕ → Bool). least p (unit (m .settings)) (m .clock)) (λ i r. leb n (avail-left r i))
 
-  fewer-left : (u : ℕ) → ahead u (left .jobs) + sum (λ (j : Job). on (gone j) (before u j)) (m .jobs) ≡ ahead u (m .jobs)
-  fewer-left u = sum-keep (before u) gone (m .jobs)
-
   pub withdraw-keeps : (u b : ℕ) → (u ≡ t → ⊥) → OnCourse m u b → OnCourse left u b
   withdraw-keeps u b n o =
       let w = o .waits in
       record {
         waits = record {
           job = w .job;
-          isin = in-keep (λ (j : Job). not (gone j)) (w .isin) (rw (w .waits, ne-eqb (w .job .ticket) t (λ e. n (sym (w .named) ∙ e))));
+          isin =
+              waiting-remains (m .settings) (m .clock) withdrawal (m .jobs) (w .isin) (w .waits)
+              (rw (w .waits) (ne-eqb (w .job .ticket) t (λ e. n (sym (w .named) ∙ e))));
           waits = w .waits;
           named = w .named;
         };
@@ -354,7 +396,7 @@ module _ (m : Model) (t : ℕ) (s : Sound m) where
           let l : k .ticket < u = head-before m k later f u (s .asc) (o .waits) (λ z. n (sym z ∙ y)) in
           let i = head-in m k later f in
           let z : on (gone k) (before u k) ≡ 1 = rw (i .1, x, lt-ltb (k .ticket) u l) in
-          let c : suc (ahead u (left .jobs)) ≤ ahead u (m .jobs) = omega (arith, fewer-left u, sum-in (λ (j : Job). on (gone j) (before u j)) (i .0)) in
+          let c : suc (ahead u (left .jobs)) ≤ ahead u (m .jobs) = omega (arith, sum-left (before u), sum-in (λ (j : Job). on (gone j) (before u j)) (i .0)) in
           omega (
             arith,
             mul-le-mul-right {m = suc (ahead u (left .jobs))} {n = ahead u (m .jobs)} (unit (m .settings)) c,
@@ -367,20 +409,20 @@ module _ (m : Model) (t : ℕ) (s : Sound m) where
           rw (← z) (omega (
             arith,
             shadow-left (k .nodes),
-            mul-le-mul-right {m = ahead u (left .jobs)} {n = ahead u (m .jobs)} (unit (m .settings)) (omega (arith, fewer-left u)),
+            mul-le-mul-right {m = ahead u (left .jobs)} {n = ahead u (m .jobs)} (unit (m .settings)) (omega (arith, sum-left (before u))),
             o .by k later f,
           )))
 
--- jobs leave, and one that waits and stays is on course still
+-- runs end and jobs leave, and one that waits and is not withdrawn is on course still
 pub leave-keeps : (m : Model) (c : ℕ) (p : Select) → Sound m → choice m ≡ none → Leaving m c p → (u b : ℕ)
-    → ((j : Job) → In j (m .jobs) → isWaiting j ≡ true → j .ticket ≡ u → picks p j ≡ false) → OnCourse m u b → OnCourse (without m c p) u b
-leave-keeps m c p s r (early Complete t) u b n o = eased m _ u b s r (leave-eases m _ _ s (early Complete t) refl) o
+    → ((j : Job) → In j (m .jobs) → isWaiting j ≡ true → j .ticket ≡ u → withdraws p j ≡ false) → OnCourse m u b → OnCourse (without m c p) u b
+leave-keeps m c p s r (early Complete t) u b n o = eased m _ u b s r (leave-eases m _ _ s (early Complete t) (λ j. refl)) o
 leave-keeps m c p s r (early Cancel t) u b n o =
     withdraw-keeps m t s u b
     (λ e. let w = o .waits in
     true-false (eqb (w .job .ticket) t) (eq-eqb (w .job .ticket) t (w .named ∙ e)) (rw (w .waits) at (n (w .job) (w .isin) (w .waits) (w .named))))
     o
-leave-keeps m c p s r (in-time l) u b n o = eased m _ u b s r (leave-eases m _ _ s (in-time l) refl) o
+leave-keeps m c p s r (in-time l) u b n o = eased m _ u b s r (leave-eases m _ _ s (in-time l) (λ j. refl)) o
 
 -- a job joins at the end of the queue
 module _ (m : Model) (o : Submission) where
@@ -396,7 +438,7 @@ module _ (m : Model) (o : Submission) where
     stay = λ j i w. in-left (newJob (m .next) o ∷ []) i;
   }
 
-  -- and is on course for its bound: "the clock at intake + r × 10,080"
+  -- and is on course for its bound: "the clock at intake + r × 10,080", by document 02, No. 3, "r × (10,080 + clearing)"
   pub join-course : OnCourse (joined m (newJob (m .next) o)) (m .next) (m .clock + rank m * unit (m .settings))
   join-course = record {
     waits = record { job = newJob (m .next) o; isin = in-right (m .jobs) (here refl); waits = refl; named = refl };

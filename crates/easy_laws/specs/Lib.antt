@@ -1,4 +1,5 @@
 pub mod Settling
+pub mod Remaining
 pub mod Course
 pub mod Validity
 pub mod Obligations

@@ -1,45 +1,47 @@
 -- Every call of this kind owes what `Lawful` asks of it.
 -- Assumes nothing.
-use Prim.Native.Nat.{ℕ, _<_, min}
+use Prim.Native.Nat.{ℕ, suc, _≤_, _<_, min}
 use native.Mathlib.Omega.{arith}
-use mathlib.Core.Path.{_≡_, refl, sym, ap, subst, _∙_}
+use mathlib.Core.Path.{_≡_, refl, sym, ap, ap₂, subst, _∙_}
 use mathlib.Core.Bool.{true, false, not, cond}
 use mathlib.Core.Option.{none, some}
 use mathlib.Core.List.{List, [], _∷_, _++_, map, foldr, map-map, map-append}
 use mathlib.Core.Logic.{_⊎_, inl, inr, ⊎-elim}
 use lib.Dec.{eqb}
-use borrow.Author.Tests.{eqb-true}
+use borrow.Author.Tests.{eqb-true, not-true}
 use Rattle.lists.specs.Tests.{case, true-false}
-use Rattle.lists.specs.Lists.{keep, any, elem, In, here, there, in-nil, in-cons, keep-in, keep-all, map-cong}
+use Rattle.lists.specs.Lists.{keep, any, elem, In, here, there, in-nil, in-cons, in-append, in-map, keep-in, keep-all, keep-none, map-cong, map-same}
 use Rattle.scheduler.specs.declared.Kind.the-variants.{Easy}
 use Rattle.scheduler.specs.declared.State.{State}
-use Rattle.scheduler.specs.declared.State.the-variants.{Unused, Waiting, Running}
+use Rattle.scheduler.specs.declared.State.the-variants.{Unused, Waiting, Running, Cleanup}
 use Rattle.scheduler.specs.declared.Job.{Job}
 use Rattle.scheduler.specs.declared.Refusal.the-variants as refusal
 use Rattle.scheduler.specs.declared.Submission.{Submission}
 use Rattle.scheduler.specs.declared.Departure.{Departure}
 use Rattle.scheduler.specs.declared.Departure.the-variants.{Complete, Cancel}
+use Rattle.scheduler.specs.declared.Select.{Select}
 use Rattle.scheduler.specs.declared.Select.the-variants as select
-use Rattle.scheduler.specs.Jobs.{waiting?, isWaiting, picks}
-use Rattle.scheduler.specs.Settings.{cleanup}
-use Rattle.scheduler.specs.Table.{ticketsOf, endedOf}
+use Rattle.scheduler.specs.States.{waiting?}
+use Rattle.scheduler.specs.Jobs.{isWaiting, picks}
+use Rattle.scheduler.specs.Settings.{horizon, cleanup}
+use Rattle.scheduler.specs.Table.{ticketsOf, endedOf, leaves, staying, ceased}
 use Rattle.scheduler.specs.Model.{Model, ending, joined}
 use Rattle.scheduler.specs.Answers.{Reply, Result, Forecast, refusing}
 use Rattle.jobs.specs.Order.{Asc, asc-one}
 use Rattle.jobs.specs.Departing.{departs-alone}
-use Rattle.jobs.specs.Soundness.{Sound, withdrawn-waits, leaving-runs, all-live}
+use Rattle.jobs.specs.Soundness.{Sound, early, in-time, ceased-ticket, ceased-waits, all-live}
 use Rattle.history.specs.Calls.{Call}
 use Rattle.history.specs.News.{Newcomer, News, newsOf, clockAfter, came-stays}
 use Rattle.history.specs.Book.{waiting}
 use Rattle.history_proof.specs.Obligations.{JobShown, shown, fateBy, isLive, remark, shownAfter, newly, comers, Tells, boundAt}
 use Rattle.history_proof.specs.Obligations.{lowestWaiting, Queued, Comes, by, Kept, For, Lawful}
-use Rattle.history_proof.specs.Departures.{lives, none-leaves, ends-lives, withdraw-lives, remark-same, tells-by, tells-leave, tells-nothing}
+use Rattle.history_proof.specs.Departures.{lives, Departs, departs-live, departs-shown, stay-live, stay-shown, tells-by, tells-leave, tells-nothing}
 use Rattle.history_proof.specs.Departures.{kept-by, queued-by}
 use Rattle.easy_rules.specs.Easy.{queue, head, shadow, headIs, forecast, newJob, call}
 use Rattle.easy_laws.specs.Settling.{marks, settles-clock, settles-settings, settles-jobs}
 use Rattle.easy_laws.specs.Course.{Waits, OnCourse, Head, head-in, head-lowest, head-course, course-rest, settles-waited, join-course}
 use Rattle.easy_laws.specs.Validity.{Valid, OwnPart, submits, departs, ticks, moved-ready, moved-settings, moved-keeps, settles-keeps}
-use Rattle.easy_laws.specs.Validity.{joiner, leaver, Joins, moved-waited, moved-stays, moved-withdraws}
+use Rattle.easy_laws.specs.Validity.{joiner, leaver, in-one, Joins, moved-waited, moved-stays, moved-withdraws}
 use Rattle.easy_laws.specs.Validity.{CallAccepted, taken-came, taken-withdrew, Unchanged, quiet-news, called, call-valid}
 
 -- ## The clock and the settings
@@ -52,90 +54,159 @@ moved-clock (ticks l) r q = rw q
 
 -- ## The answer tells what has changed
 
-fate-waits : (s : State) (b : ℕ) → waiting? s ≡ true → fateBy s b ≡ waiting
-fate-waits Unused b e = refl
-fate-waits Waiting b e = refl
-fate-waits Running b e = true-false false e refl
+fate-waits : (s : State) (b n : ℕ) → waiting? s ≡ true → fateBy s b n ≡ waiting
+fate-waits Unused b n e = refl
+fate-waits Waiting b n e = refl
+fate-waits Running b n e = true-false false e refl
+fate-waits Cleanup b n e = true-false false e refl
 
-module _ (now : ℕ) (e : News) where
-  -- a job that the settling left or started is as the answer says
-  shown-marks : (j : Job) → (elem (j .ticket) (e .started) ≡ true → isWaiting j ≡ true) → lives now e j ≡ true
-      → shown (marks now (e .started) j) ≡ remark 0 now e (shown j)
-  shown-marks j w n =
-      case (elem (j .ticket) (e .started))
-      (λ q. let f = fate-waits (j .state) (j .start) (w q) in
-      case (elem (j .ticket) (e .withdrew)) (λ z. true-false false (rw (f, z) at n) refl) (λ z. rw (q, f, z, q)))
-      (λ q. rw q (sym (remark-same now e j q n)))
+module _ (k now : ℕ) (e : News) where
+  -- what a call's own part leaves of a job that lives on: while it waits, the same; and unless the settling starts it, as the answer says
+  record Left (j r : Job) : Type 0 where
+    pub ticket : r .ticket ≡ j .ticket
+    pub same : isWaiting r ≡ true → r ≡ j
+    pub live : lives k now e j ≡ true
+    pub still : elem (j .ticket) (e .started) ≡ false → remark k now e (shown j) ≡ shown r
 
-  shown-after : (js : List Job) → ((j : Job) → In j js → elem (j .ticket) (e .started) ≡ true → isWaiting j ≡ true)
-      → ((j : Job) → In j js → lives now e j ≡ true)
-      → map shown (map (marks now (e .started)) js) ≡ map (remark 0 now e) (map shown js)
-  shown-after js w n =
-      map-map shown (marks now (e .started)) js
-      ∙ map-cong (λ (j : Job). shown (marks now (e .started) j)) (λ (j : Job). remark 0 now e (shown j)) js (λ j i. shown-marks j (w j i) (n j i))
-      ∙ sym (map-map (remark 0 now e) shown js)
+  -- a job that the settling started is as the answer says, and so is one that it left
+  shown-started : (j : Job) → isWaiting j ≡ true → lives k now e j ≡ true → elem (j .ticket) (e .started) ≡ true
+      → shown (marks now (e .started) j) ≡ remark k now e (shown j)
+  shown-started j w n q =
+      let f = fate-waits (j .state) (j .start) (j .end) w in
+      case (elem (j .ticket) (e .withdrew)) (λ z. true-false false (rw (f, z) at n) refl) (λ z. rw (q, f, z, q))
 
-  module _ (m : Model) (s : Sound m) where
-    -- who leaves is whom the call picks
-    departing-lives : (h : Departure) (t : ℕ) (x : any (picks (select.Departing h t)) (m .jobs) ≡ true) → e .ended ≡ endedOf (select.Departing h t) (m .jobs)
-        → e .withdrew ≡ leaver {m = m} (departs h t x) → (j : Job) → In j (m .jobs) → lives now e j ≡ not (picks (select.Departing h t) j)
-    departing-lives Complete t x d w =
-        ends-lives now e (picks (select.Departing Complete t)) (m .jobs) (s .asc) w d (leaving-runs (select.Departing Complete t) refl)
-    departing-lives Cancel t x d w =
-        withdraw-lives now e (picks (select.Departing Cancel t)) (m .jobs) (s .asc) d (w ∙ sym (departs-alone Cancel t 1 (m .jobs) (s .asc) x)) (withdrawn-waits t)
+  shown-marks : (j r : Job) → Left j r → (elem (r .ticket) (e .started) ≡ true → isWaiting r ≡ true)
+      → shown (marks now (e .started) r) ≡ remark k now e (shown j)
+  shown-marks j r l w =
+      case (elem (r .ticket) (e .started))
+      (λ q. let z : r ≡ j = l .same (w q) in
+      ap (λ (x : Job). shown (marks now (e .started) x)) z
+      ∙ shown-started j (ap isWaiting (sym z) ∙ w q) (l .live) (ap (λ (x : Job). elem (x .ticket) (e .started)) (sym z) ∙ q))
+      (λ q. rw q (sym (l .still (ap (λ (t : ℕ). elem t (e .started)) (sym (l .ticket)) ∙ q))))
 
-    ending-lives : e .ended ≡ endedOf (ending m) (m .jobs) → e .withdrew ≡ [] → (j : Job) → In j (m .jobs) → lives now e j ≡ not (picks (ending m) j)
-    ending-lives d w = ends-lives now e (picks (ending m)) (m .jobs) (s .asc) w d (leaving-runs (ending m) refl)
+  shown-after : (f : Job → Job) (js : List Job) → ((j : Job) → In j js → Left j (f j))
+      → ((j : Job) → In j js → elem (f j .ticket) (e .started) ≡ true → isWaiting (f j) ≡ true)
+      → map shown (map (marks now (e .started)) (map f js)) ≡ map (remark k now e) (map shown js)
+  shown-after f js l w =
+      ap (map shown) (map-map (marks now (e .started)) f js)
+      ∙ map-map shown (λ (j : Job). marks now (e .started) (f j)) js
+      ∙ map-cong (λ (j : Job). shown (marks now (e .started) (f j))) (λ (j : Job). remark k now e (shown j)) js (λ j i. shown-marks j (f j) (l j i) (w j i))
+      ∙ sym (map-map (remark k now e) shown js)
 
-    -- who is there before the settling is live after it
-    moved-lives : {c : Call} {mid : Model} {t : ℕ} {ts : List ℕ} (x : OwnPart m c mid t ts) → e .ended ≡ ts → e .withdrew ≡ leaver x
-        → (j : Job) → In j (mid .jobs) → lives now e j ≡ true
-    moved-lives (submits y f room) d w j i = none-leaves now e d w j
-    moved-lives (departs h t x) d w j i =
-        let k = keep-in (λ (j : Job). not (picks (select.Departing h t) j)) (m .jobs) i in departing-lives h t x d w j (k .0) ∙ k .1
-    moved-lives (ticks l) d w j i = let k = keep-in (λ (j : Job). not (picks (ending m) j)) (m .jobs) i in ending-lives d w j (k .0) ∙ k .1
+-- the jobs that a call's own part leaves, and who comes, as they were before it
+abbrev kept : {m : Model} {c : Call} {mid : Model} {t : ℕ} {ts : List ℕ} → OwnPart m c mid t ts → List Job
+kept {m} (submits o f room) = m .jobs ++ newJob (m .next) o ∷ []
+kept {m} (departs h t a) = staying (m .settings) (select.Departing h t) (m .jobs)
+kept {m} (ticks l) = staying (m .settings) (ending m) (m .jobs)
 
-    -- who comes is live
-    shown-new : (y : Submission) → e .withdrew ≡ []
-        → map (remark 0 now e) (shown (newJob (m .next) y) ∷ []) ≡ keep isLive (map (remark 0 now e) (shown (newJob (m .next) y) ∷ []))
-    shown-new y w = case (elem (m .next) (e .withdrew)) (λ z. true-false false (ap (elem (m .next)) (sym w) ∙ z) refl)
-        (λ z. case (elem (m .next) (e .started)) (λ k. rw (z, k)) (λ k. rw (z, k)))
+-- and what it leaves of each
+abbrev leftAs : {m : Model} {c : Call} {mid : Model} {t : ℕ} {ts : List ℕ} → OwnPart m c mid t ts → Job → Job
+leftAs (submits o f room) j = j
+leftAs {m} (departs h t a) j = ceased (m .clock) (select.Departing h t) j
+leftAs {m} (ticks l) j = ceased (suc (m .clock)) (ending m) j
 
-    -- what the call did before it settled
-    moved-tells : {c : Call} {mid : Model} {t : ℕ} {ts : List ℕ} (x : OwnPart m c mid t ts) → e .ended ≡ ts → e .withdrew ≡ leaver x → e .came ≡ joiner x
-        → (after : List Job) → map shown after ≡ map (remark 0 now e) (map shown (mid .jobs))
-        → map shown after ≡ shownAfter 0 now e (map shown (m .jobs) ++ comers e)
-    moved-tells (submits y f room) d w q after h =
-        let js = m .jobs in
-        let new : Job = newJob (m .next) y in
-        let one : map (remark 0 now e) (shown new ∷ []) ≡ keep isLive (map (remark 0 now e) (shown new ∷ [])) =
-        shown-new y w in
-        tells-by now e (λ (j : Job). false) js after (λ j i. none-leaves now e d w j)
-        (h ∙ rw (keep-all (λ (j : Job). true) js (λ j i. refl), map-append shown js (new ∷ []), map-append (remark 0 now e) (map shown js) (shown new ∷ []))
-        (ap (λ (l : List JobShown). map (remark 0 now e) (map shown js) ++ l)
-        (one ∙ ap (λ (os : List Newcomer). keep isLive (map (remark 0 now e) (map newly os))) (sym q))))
-    moved-tells (departs h t x) d w q after r = tells-leave now e (picks (select.Departing h t)) (m .jobs) after (departing-lives h t x d w) q r
-    moved-tells (ticks l) d w q after h = tells-leave now e (picks (ending m)) (m .jobs) after (ending-lives d w) q h
+moved-jobs : {m : Model} {c : Call} {mid : Model} {t : ℕ} {ts : List ℕ} (x : OwnPart m c mid t ts) → mid .jobs ≡ map (leftAs x) (kept x)
+moved-jobs {m} (submits o f room) = sym (map-same (λ (j : Job). j) (m .jobs ++ newJob (m .next) o ∷ []) (λ j i. refl))
+moved-jobs (departs h t a) = refl
+moved-jobs (ticks l) = refl
+
+module _ (m : Model) (e : News) (s : Sound m) where
+  abbrev lasts : ℕ
+  lasts = cleanup (m .settings)
+
+  none-withdrawn : [] ≡ ticketsOf (keep (λ (j : Job). false) (m .jobs))
+  none-withdrawn = sym (ap ticketsOf (keep-none (λ (j : Job). false) (m .jobs) (λ j i. refl)))
+
+  -- whose runs end and who leaves is as the answer says
+  departing : (h : Departure) (t : ℕ) (a : any (picks (select.Departing h t)) (m .jobs) ≡ true) → e .ended ≡ endedOf (select.Departing h t) (m .jobs)
+      → e .withdrew ≡ leaver {m = m} (departs h t a) → Departs m (m .clock) (select.Departing h t) e
+  departing Complete t a d w = record { leaving = early Complete t; ended-are = d; withdrew-are = w ∙ none-withdrawn }
+  departing Cancel t a d w = record {
+    leaving = early Cancel t;
+    ended-are = d;
+    withdrew-are = w ∙ sym (departs-alone Cancel t 1 (m .jobs) (s .asc) a);
+  }
+
+  ticking : suc (m .clock) ≤ horizon (m .settings) → e .ended ≡ endedOf (ending m) (m .jobs) → e .withdrew ≡ [] → Departs m (suc (m .clock)) (ending m) e
+  ticking l d w = record { leaving = in-time l; ended-are = d; withdrew-are = w ∙ none-withdrawn }
+
+  departs-left : (c : ℕ) (p : Select) → Departs m c p e → (j : Job) → In j (staying (m .settings) p (m .jobs)) → Left lasts c e j (ceased c p j)
+  departs-left c p d j i =
+      let k = keep-in (λ (j : Job). not (leaves (m .settings) p j)) (m .jobs) i in
+      record {
+        ticket = ceased-ticket c p j;
+        same = ceased-waits c p j;
+        live = departs-live m c p e s d j (k .0) ∙ k .1;
+        still = departs-shown m c p e s d j (k .0) (not-true (leaves (m .settings) p j) (k .1));
+      }
+
+  -- who comes is live, and waits
+  comes-left : (o : Submission) → e .withdrew ≡ [] → Left lasts (m .clock) e (newJob (m .next) o) (newJob (m .next) o)
+  comes-left o w = record {
+    ticket = refl;
+    same = λ q. refl;
+    live = rw w (case (elem (m .next) (e .started)) (λ q. rw q) (λ q. rw q));
+    still = λ q. rw (w, q);
+  }
+
+  moved-left : {c : Call} {mid : Model} {t : ℕ} {ts : List ℕ} (x : OwnPart m c mid t ts) → e .ended ≡ ts → e .withdrew ≡ leaver x
+      → (j : Job) → In j (kept x) → Left lasts (mid .clock) e j (leftAs x j)
+  moved-left (submits o f room) d w j i = by (in-append (m .jobs) i)
+    where
+      by : In j (m .jobs) ⊎ In j (newJob (m .next) o ∷ []) → Left lasts (m .clock) e j j
+      by (inl i) = record { ticket = refl; same = λ q. refl; live = stay-live m e s d w j i; still = stay-shown m e s d w j i }
+      by (inr i) = subst (λ (x : Job). Left lasts (m .clock) e x x) (sym (in-one i)) (comes-left o w)
+  moved-left (departs h t a) d w j i = departs-left (m .clock) (select.Departing h t) (departing h t a d w) j i
+  moved-left (ticks l) d w j i = departs-left (suc (m .clock)) (ending m) (ticking l d w) j i
+
+  -- what the call did before it settled
+  moved-tells : {c : Call} {mid : Model} {t : ℕ} {ts : List ℕ} (x : OwnPart m c mid t ts) → e .ended ≡ ts → e .withdrew ≡ leaver x → e .came ≡ joiner x
+      → (after : List Job) → map shown after ≡ map (remark lasts (mid .clock) e) (map shown (kept x))
+      → map shown after ≡ shownAfter lasts (mid .clock) e (map shown (m .jobs) ++ comers e)
+  moved-tells (submits o f room) d w q after h =
+      let js = m .jobs in
+      let now = m .clock in
+      let new : Job = newJob (m .next) o in
+      let one : map (remark lasts now e) (shown new ∷ []) ≡ keep isLive (map (remark lasts now e) (shown new ∷ [])) =
+      rw (comes-left o w .live) in
+      tells-by lasts now e (λ (j : Job). false) js after (stay-live m e s d w)
+      (h ∙ rw (keep-all (λ (j : Job). true) js (λ j i. refl), map-append shown js (new ∷ []), map-append (remark lasts now e) (map shown js) (shown new ∷ []))
+      (ap (λ (l : List JobShown). map (remark lasts now e) (map shown js) ++ l)
+      (one ∙ ap (λ (os : List Newcomer). keep isLive (map (remark lasts now e) (map newly os))) (sym q))))
+  moved-tells (departs h t a) d w q after r =
+      let p = select.Departing h t in
+      tells-leave lasts (m .clock) e (leaves (m .settings) p) (m .jobs) after (departs-live m (m .clock) p e s (departing h t a d w)) q r
+  moved-tells (ticks l) d w q after r =
+      let c = suc (m .clock) in
+      tells-leave lasts c e (leaves (m .settings) (ending m)) (m .jobs) after (departs-live m c (ending m) e s (ticking l d w)) q r
 
 module _ (m : Model) (c : Call) (o : Result) (v : Valid m) where
   taken-tells : CallAccepted m c o → Tells m (newsOf c (o .reply)) (o .model)
-  unfolding cleanup
   taken-tells t =
-      let now = o .model .clock in
       let e = newsOf c (o .reply) in
       let s = v .ready .sound in
-      let r = moved-ready (t .moved) v in
-      let q : o .model .jobs ≡ map (marks now (o .reply .started)) (t .mid .jobs) =
-      settles-jobs (t .trace) ∙ ap (λ (x : ℕ). map (marks x (o .reply .started)) (t .mid .jobs)) (sym (settles-clock (t .trace))) in
-      moved-tells now e m s (t .moved) refl (taken-withdrew m c o t) (taken-came m c o t) (o .model .jobs)
+      let w = taken-withdrew m c o t in
+      let q : o .model .jobs ≡ map (marks (t .mid .clock) (o .reply .started)) (map (leftAs (t .moved)) (kept (t .moved))) =
+      settles-jobs (t .trace) ∙ ap (map (marks (t .mid .clock) (o .reply .started))) (moved-jobs (t .moved)) in
+      moved-tells m e s (t .moved) refl w (taken-came m c o t) (o .model .jobs)
       (ap (map shown) q
-      ∙ shown-after now e (t .mid .jobs)
-      (λ j i x. let w = settles-waited (j .ticket) (t .trace) x in
-      ap isWaiting (asc-one 1 (t .mid .jobs) j (w .job) (r .sound .asc) i (w .isin) (sym (w .named))) ∙ w .waits)
-      (moved-lives now e m s (t .moved) refl (taken-withdrew m c o t)))
+      ∙ shown-after (cleanup (m .settings)) (t .mid .clock) e (leftAs (t .moved)) (kept (t .moved)) (moved-left m e s (t .moved) refl w) starters)
+      ∙ ap₂ (λ (k now : ℕ). shownAfter k now e (map shown (m .jobs) ++ comers e))
+      (ap cleanup (sym (settles-settings (t .trace) ∙ moved-settings (t .moved))))
+      (sym (settles-clock (t .trace)))
+    where
+      -- who starts waits before the settling
+      starters : (j : Job) → In j (kept (t .moved)) → elem (leftAs (t .moved) j .ticket) (o .reply .started) ≡ true → isWaiting (leftAs (t .moved) j) ≡ true
+      starters j i z =
+          let r : Job = leftAs (t .moved) j in
+          let w = settles-waited (r .ticket) (t .trace) z in
+          let k : In r (t .mid .jobs) = subst (λ (js : List Job). In r js) (sym (moved-jobs (t .moved))) (in-map (leftAs (t .moved)) i) in
+          ap isWaiting (asc-one 1 (t .mid .jobs) r (w .job) (moved-ready (t .moved) v .sound .asc) k (w .isin) (sym (w .named))) ∙ w .waits
 
   quiet-tells : Unchanged m c o → Tells m (newsOf c (o .reply)) (o .model)
-  quiet-tells q = subst (λ (x : Result). Tells m (newsOf c (x .reply)) (x .model)) (sym (q .same)) (tells-nothing m (newsOf c (refusing (q .why))) (q .silent))
+  quiet-tells q =
+      subst (λ (x : Result). Tells m (newsOf c (x .reply)) (x .model)) (sym (q .same))
+      (tells-nothing m (newsOf c (refusing (q .why))) (v .ready .sound) (q .silent))
 
 -- ## Bounds
 
@@ -211,7 +282,7 @@ module _ (m : Model) (c : Call) (o : Result) (v : Valid m) where
   settled-keeps : (u b : ℕ) (t : CallAccepted m c o) → elem u (newsOf c (o .reply) .withdrew) ≡ false → OnCourse (t .mid) u b
       → Kept (by b) (For OnCourse b) u (newsOf c (o .reply)) (o .model)
   settled-keeps u b t n x =
-      kept-by (m .clock) (newsOf c (o .reply)) (by b) (For OnCourse b) (o .model) u n
+      kept-by (newsOf c (o .reply)) (by b) (For OnCourse b) (o .model) u n
       (settles-keeps u b (t .trace) (moved-ready (t .moved) v) x)
 
   taken-keeps : (u b : ℕ) → CallAccepted m c o → OnCourse m u b → elem u (newsOf c (o .reply) .withdrew) ≡ false

@@ -1,25 +1,25 @@
--- A tick at which no job ends: nothing can start, and only the clock moves.
+-- A tick at which no run ends and no nodes are released: nothing can start, and only the clock moves.
 -- Assumes nothing.
 use Prim.Native.Nat.{ℕ, suc, _+_, _≤_, _<_}
 use native.Mathlib.Omega.{arith}
 use mathlib.Core.Path.{_≡_, refl, sym, ap, subst, _∙_}
-use mathlib.Core.Bool.{Bool, true, false, not}
+use mathlib.Core.Bool.{Bool, true, false}
 use mathlib.Core.Option.{Option, none, some}
 use mathlib.Core.List.{List, [], _∷_}
 use mathlib.Core.Logic.{⊎-elim}
 use lib.Dec.{leb}
 use borrow.Author.Tests.{leb-true, leb-false, le-leb, lt-leb, le-ltb, eq-eqb}
-use Rattle.lists.specs.Tests.{case, true-false, both, either, neither}
-use Rattle.lists.specs.Lists.{keep, first, any, In, here, there, in-nil, keep-all, keep-none}
+use Rattle.lists.specs.Tests.{case, true-false, both, either}
+use Rattle.lists.specs.Lists.{first, In, here, there, keep-none}
 use Rattle.scheduler.specs.declared.Job.{Job}
-use Rattle.scheduler.specs.Jobs.{picks}
+use Rattle.scheduler.specs.Jobs.{endsAt, releasedAt}
 use Rattle.scheduler.specs.Settings.{horizon, holdTime}
-use Rattle.scheduler.specs.Table.{ticketsOf}
+use Rattle.scheduler.specs.Table.{ticketsOf, endedOf}
 use Rattle.scheduler.specs.Model.{Model, ending, without}
 use Rattle.scheduler.specs.Answers.{Reply, Forecast, verdict, refusing}
 use Rattle.scheduler.specs.Refusals.{tickRefusal}
 use Rattle.scheduler.specs.declared.Refusal.the-variants as refusal
-use Rattle.jobs.specs.Soundness.{Sound}
+use Rattle.jobs.specs.Soundness.{Sound, all-remain}
 use Rattle.history.specs.Calls.{tick}
 use Rattle.easy_rules.specs.Easy.{queue, head, free, avail, shadow, extra, qualifies, pick, choice, Settling, forecast, finished, advanced, call}
 use Rattle.easy_laws.specs.Settling.{shadow-min, shadow-holds, none-starts}
@@ -31,11 +31,6 @@ use Rattle.easy_laws.specs.EngineLaws.{shadow-is, settle-rests}
 abbrev pub later : Model → Model
 later m = record { settings = m .settings; clock = suc (m .clock); next = m .next; jobs = m .jobs }
 
-none-passes : {A : Type 0} (p : A → Bool) (xs : List A) → any p xs ≡ false → (a : A) → In a xs → p a ≡ false
-none-passes p [] e a i = in-nil i
-none-passes p (x ∷ xs) e a (here q) = ap p q ∙ neither (p x) (any p xs) e .0
-none-passes p (x ∷ xs) e a (there i) = none-passes p xs (neither (p x) (any p xs) e .1) a i
-
 none-first : {A : Type 0} (p : A → Bool) (xs : List A) → ((a : A) → In a xs → p a ≡ false) → first p xs ≡ none
 none-first p [] f = refl
 none-first p (x ∷ xs) f = rw (f x (here refl)) (none-first p xs (λ a i. f a (there i)))
@@ -43,16 +38,15 @@ none-first p (x ∷ xs) f = rw (f x (here refl)) (none-first p xs (λ a i. f a (
 abbrev replied : List ℕ → Option Forecast → Reply
 replied ts o = record { refusal = refusal.None; ticket = 0; promise = 0; ended = []; started = ts; head = o }
 
-module _ (m : Model) (v : Valid m) (l : suc (m .clock) ≤ horizon (m .settings)) (e : any (picks (ending m)) (m .jobs) ≡ false) where
-  stays : (j : Job) → In j (m .jobs) → picks (ending m) j ≡ false
-  stays j i = none-passes (picks (ending m)) (m .jobs) e j i
-
+module _ (m : Model) (v : Valid m) (l : suc (m .clock) ≤ horizon (m .settings))
+    (none-ends : (j : Job) → In j (m .jobs) → endsAt (m .settings) (suc (m .clock)) j ≡ false)
+    (none-released : (j : Job) → In j (m .jobs) → releasedAt (m .settings) (suc (m .clock)) j ≡ false) where
   nobody-leaves : without m (suc (m .clock)) (ending m) ≡ later m
   nobody-leaves = λ i. record {
     settings = m .settings;
     clock = suc (m .clock);
     next = m .next;
-    jobs = keep-all (λ (j : Job). not (picks (ending m) j)) (m .jobs) (λ j k. ap not (stays j k)) i;
+    jobs = all-remain (m .settings) (suc (m .clock)) (ending m) (m .jobs) none-ends (λ j k. rw (none-ends j k, none-released j k)) i;
   }
 
   later-sound : Sound (later m)
@@ -123,6 +117,6 @@ module _ (m : Model) (v : Valid m) (l : suc (m .clock) ≤ horizon (m .settings)
   unfolding call tickRefusal verdict advanced
   quiet-tick =
       rw (le-ltb (horizon (m .settings)) (suc (m .clock)) l)
-      (ap (λ (x : Model). finished m x 0 (ticketsOf (keep (picks (ending m)) (m .jobs)))) nobody-leaves
-      ∙ ap (λ (js : List Job). finished m (later m) 0 (ticketsOf js)) (keep-none (picks (ending m)) (m .jobs) stays)
+      (ap (λ (x : Model). finished m x 0 (endedOf (ending m) (m .jobs))) nobody-leaves
+      ∙ ap (λ (js : List Job). finished m (later m) 0 (ticketsOf js)) (keep-none (endsAt (m .settings) (suc (m .clock))) (m .jobs) none-ends)
       ∙ quiet-finish)

@@ -4,15 +4,15 @@
 use Prim.Native.Nat.{ℕ, zero, suc, _+_, _*_, _≤_, _<_}
 use native.Mathlib.Omega.{arith}
 use mathlib.Core.Path.{_≡_, refl, sym, ap, ap₂, subst, _∙_}
-use mathlib.Core.Bool.{true, false, _&&_, _||_, cond}
+use mathlib.Core.Bool.{Bool, true, false, _&&_, _||_, cond}
 use mathlib.Core.Option.{Option, none, some}
 use mathlib.Core.List.{List, [], _∷_, _++_}
 use mathlib.Core.Logic.{_⊎_, inl, inr, ⊎-elim}
 use lib.Dec.{leb, ltb, eqb}
 use lib.ListN.{length}
 use borrow.Author.Tests.{leb-true, leb-false, le-leb, lt-leb, ltb-true, ltb-false, le-ltb, lt-ltb, eq-eqb, ne-eqb}
-use Rattle.lists.specs.Tests.{case, true-false, either, neither}
-use Rattle.lists.specs.Lists.{keep, first, any, elem, In, map-in, first-in}
+use Rattle.lists.specs.Tests.{case, true-false, on, both, either, neither}
+use Rattle.lists.specs.Lists.{keep, first, any, elem, In, map-in, keep-in, keep-none, first-in}
 use Rattle.walltime.specs.WallTime.{wallTime}
 use Rattle.scheduler.specs.declared.Job.{Job}
 use Rattle.scheduler.specs.declared.Submission.{Submission}
@@ -23,20 +23,22 @@ use Rattle.scheduler.specs.declared.Departure.the-variants.{Complete, Cancel}
 use Rattle.scheduler.specs.declared.Select.{Select}
 use Rattle.scheduler.specs.declared.Select.the-variants as select
 use Rattle.scheduler.specs.Limits.{lastTicket, outside}
-use Rattle.scheduler.specs.Jobs.{isWaiting, isRunning, departsAs, held}
-use Rattle.scheduler.specs.Settings.{horizon, slots, longest, holdTime, unit, until}
+use Rattle.scheduler.specs.Jobs.{isWaiting, isRunning, isCleaning, departsAs, held}
+use Rattle.scheduler.specs.declared.Settings.{Settings}
+use Rattle.scheduler.specs.Settings.{horizon, slots, longest, cleanup, runTime, holdTime, unit, endOf}
+use Rattle.scheduler.specs.Times.{until-is, until-cleaning}
 use Rattle.scheduler.specs.Table.{ticketOf, ticketsOf, endedOf}
 use Rattle.scheduler.specs.Model.{Model, ending, joined}
 use Rattle.scheduler.specs.Answers.{Result, Forecast, verdict, accepts, refuse}
 use Rattle.scheduler.specs.Refusals.{notThere, departRefusal, tickRefusal}
 use Rattle.jobs.specs.Judgement.{judged-by, judged-accepted, judged-refusal, judged-refused}
-use Rattle.jobs.specs.Order.{Asc}
+use Rattle.jobs.specs.Order.{Asc, asc-one, elem-job}
 use Rattle.jobs.specs.Departing.{departs-alone}
-use Rattle.jobs.specs.Soundness.{Sound, Fit}
+use Rattle.jobs.specs.Soundness.{Sound, Fit, running-holds, cleaning-holds, running-clean}
 use Rattle.history.specs.Calls.{Call, submit, depart, complete, cancel, tick, unchanged}
 use Rattle.history.specs.News.{Newcomer, News, newsOf}
 use Rattle.history.specs.Tickets.{nextAfter}
-use Rattle.easy_rules.specs.Easy.{queue, head, free, avail, shadow, extra, qualifies, pick, choice, begin, Settling, onChoice, settled}
+use Rattle.easy_rules.specs.Easy.{queue, head, free, freed, avail, shadow, extra, qualifies, pick, choice, begin, Settling, onChoice, settled}
 use Rattle.easy_rules.specs.Easy.{headIs, forecast, finished, newJob, submitRefusal, advanced, call}
 use Rattle.easy_laws.specs.Settling.{shadow-from, shadow-min, shadow-holds, none-starts, How, how, Chosen, chosen, sum-mark}
 use Rattle.easy_laws.specs.Settling.{queue-mark, one-fewer, asc-begin, each-begin, idle, marks, Settles, rest, start, settles}
@@ -46,6 +48,17 @@ use Rattle.easy_laws.specs.Validity.{Valid, latestEnd, OwnPart, submits,
 use Rattle.easy_laws.specs.Validity.{Unchanged, quiet-news, called, call-valid, Joins, joins-ticket, moved-waited}
 
 -- ## The shadow
+
+-- Document 02, No. 3: "nodes stay taken for clearing minutes", "and for those minutes shadow, extra and demand 3 count them as held by a stack
+-- running until these end": those of a job that runs come free its held time and the clearing after its start, those of one whose run has
+-- ended the clearing after its end.
+module _ (S : Settings) (t : ℕ) (j : Job) where
+  pub running-frees : isRunning j ≡ true → freed S t j ≡ on (leb (j .start + (wallTime (j .estimate) + cleanup S)) t) (j .nodes)
+  unfolding holdTime runTime
+  running-frees r = rw (running-holds (j .state) r, until-is S j (running-clean (j .state) r))
+
+  pub cleaning-frees : isCleaning j ≡ true → freed S t j ≡ on (leb (j .end + cleanup S) t) (j .nodes)
+  cleaning-frees c = rw (cleaning-holds (j .state) c, until-cleaning S j c)
 
 -- It is the smallest of all minutes from now on at which the nodes suffice.
 pub shadow-smallest : (m : Model) (n : ℕ) → Sound m → n ≤ m .settings .nodes
@@ -244,15 +257,18 @@ refused-same m (unchanged r) a = refl
 
 -- Each refusal of a submission, with its conditions in document 01's order and no others. 1: "stack nodes 0 or above the rack's"; 2:
 -- "estimate .. outside 1 to 10,080"; 4: "64 stacks live"; 5: "ticket 999,999 has been given"; 6: "now + r × 10,080 + held above it, r
--- being the number waiting before plus one"
+-- being the number waiting before plus one", and by document 02, No. 3, with the clearing in both
 pub submit-refusal : (m : Model) (o : Submission) → call m (submit o) .reply .refusal ≡ verdict
     ((ltb (o .nodes) 1 || ltb (m .settings .nodes) (o .nodes), refusal.NodesOutOfRange)
     ∷ (ltb (o .estimate) 1 || ltb 10080 (o .estimate), refusal.MinutesOutOfRange)
     ∷ (leb 64 (length (m .jobs)), refusal.Full)
     ∷ (ltb 999999 (m .next), refusal.NoTicketLeft)
-    ∷ (ltb 1000000 (m .clock + suc (length (keep isWaiting (m .jobs))) * 10080 + wallTime (o .estimate)), refusal.PastHorizon)
+    ∷ (
+      ltb 1000000 (m .clock + suc (length (keep isWaiting (m .jobs))) * (10080 + cleanup (m .settings)) + (wallTime (o .estimate) + cleanup (m .settings))),
+      refusal.PastHorizon,
+    )
     ∷ [])
-unfolding submitRefusal holdTime unit
+unfolding submitRefusal runTime holdTime unit
 submit-refusal m o = refusal-is m (submit o)
 
 -- Nothing is refused but on its condition, and what no condition holds of is accepted.
@@ -269,6 +285,7 @@ Because m o refusal.ProfileTooLong = ⊥
 Because m o refusal.Malformed = ⊥
 Because m o refusal.TooShort = ⊥
 Because m o refusal.NotWaiting = ⊥
+Because m o refusal.CleanupOutOfRange = ⊥
 
 pub submit-because : (m : Model) (o : Submission) → Because m o (submitRefusal m o)
 unfolding submitRefusal verdict
@@ -315,6 +332,26 @@ depart-because m h t = case (any (departsAs h t) (m .jobs)) (λ e. rw e) (λ e. 
 pub complete-because : (m : Model) (t : ℕ)
     → departRefusal m Complete t ≡ cond (any (λ (j : Job). isRunning j && eqb (j .ticket) t) (m .jobs)) refusal.None refusal.NotRunning
 complete-because m t = depart-because m Complete t
+
+-- Document 02, No. 3: "An end of a clearing stack is refused by 7."
+pub cleaning-refused : (m : Model) (j : Job) → Sound m → In j (m .jobs) → isCleaning j ≡ true
+    → call m (complete (j .ticket)) .reply .refusal ≡ refusal.NotRunning
+cleaning-refused m j s i c = refusal-is m (complete t) ∙ complete-because m t ∙ case (any p (m .jobs)) (λ a. absurd (ran a)) (λ a. rw a)
+  where
+    t : ℕ
+    t = j .ticket
+
+    p : Job → Bool
+    p = departsAs Complete t
+
+    -- whoever ended would be the one job with this ticket, and would run
+    ran : any p (m .jobs) ≡ true → ⊥
+    ran a =
+        let k = elem-job t (keep p (m .jobs)) (ap (elem t) (departs-alone Complete t 1 (m .jobs) (s .asc) a) ∙ rw (eq-eqb t t refl)) in
+        let q = keep-in p (m .jobs) (k .1) in
+        let z : k .0 ≡ j = asc-one 1 (m .jobs) (k .0) j (s .asc) (q .0) i (k .2) in
+        let r : isRunning j ≡ true = ap isRunning (sym z) ∙ both (isRunning (k .0)) (eqb (k .0 .ticket) t) (q .1) .0 in
+        true-false (isCleaning j) c (running-clean (j .state) r)
 
 -- 11, document 02, No. 1: "the withdrawn ticket is not waiting"
 pub cancel-because : (m : Model) (t : ℕ)
@@ -381,10 +418,10 @@ advanced-ended : (m : Model) (c : ℕ) (s : Select) → advanced m c s .reply .e
 unfolding advanced finished
 advanced-ended m c s = refl
 
--- A tick ends the jobs whose end is the minute that it comes to, and no others.
+-- A tick ends the jobs whose end, "s + held", is the minute that it comes to, and no others: none whose nodes are released then.
 pub tick-ends : (m : Model) → accepts (call m tick .reply .refusal) ≡ true
-    → call m tick .reply .ended ≡ ticketsOf (keep (λ (j : Job). isRunning j && eqb (until (m .settings) j) (suc (m .clock))) (m .jobs))
-unfolding call
+    → call m tick .reply .ended ≡ ticketsOf (keep (λ (j : Job). isRunning j && eqb (j .start + wallTime (j .estimate)) (suc (m .clock))) (m .jobs))
+unfolding call runTime endOf
 tick-ends m a =
     ap (λ (o : Result). o .reply .ended) (judged-accepted m (tickRefusal m) (advanced m (suc (m .clock)) (ending m)) a .1)
     ∙ advanced-ended m (suc (m .clock)) (ending m)
@@ -403,7 +440,7 @@ pub cancel-ends : (m : Model) (t : ℕ) → call m (cancel t) .reply .ended ≡ 
 unfolding call
 cancel-ends m t =
     judged-by (λ (o : Result). o .reply .ended ≡ []) m (departRefusal m Cancel t) (advanced m (m .clock) (select.Departing Cancel t))
-    (λ a. advanced-ended m (m .clock) (select.Departing Cancel t)) (λ a. refl)
+    (λ a. advanced-ended m (m .clock) (select.Departing Cancel t) ∙ ap ticketsOf (keep-none (λ (j : Job). false) (m .jobs) (λ j i. refl))) (λ a. refl)
 
 -- ## Starts
 

@@ -13,12 +13,13 @@ use Rattle.lists.specs.Tests.{case, true-false, on, both}
 use Rattle.lists.specs.Lists.{keep, first, elem, sum, In, here, there, map-in, keep-in, first-in, map-same, sum-cong, sum-zero, length-keep}
 use Rattle.lists.specs.Least.{least-from, least-to, least-holds, least-min}
 use Rattle.scheduler.specs.declared.State.{State}
-use Rattle.scheduler.specs.declared.State.the-variants.{Unused, Waiting, Running}
+use Rattle.scheduler.specs.declared.State.the-variants.{Unused, Waiting, Running, Cleanup}
 use Rattle.scheduler.specs.declared.Job.{Job}
-use Rattle.scheduler.specs.Jobs.{waiting?, running?, holding?, isWaiting, isRunning, isHolding, held}
+use Rattle.scheduler.specs.States.{waiting?, running?, holding?}
+use Rattle.scheduler.specs.Jobs.{isWaiting, isRunning, isHolding, held}
 use Rattle.scheduler.specs.declared.Settings.{Settings}
 use Rattle.scheduler.specs.Settings.{horizon, holdTime, unit, until}
-use Rattle.scheduler.specs.Times.{hold-pos, until-at}
+use Rattle.scheduler.specs.Times.{run-pos, hold-pos, end-is, until-at}
 use Rattle.scheduler.specs.Table.{ticketOf, ticketsOf}
 use Rattle.scheduler.specs.Model.{Model}
 use Rattle.jobs.specs.Order.{Asc, asc-in, asc-same, asc-one}
@@ -41,7 +42,7 @@ module _ (m : Model) (n : ℕ) where
   unfolding shadow
   shadow-min t h l = least-min (λ (t : ℕ). leb n (avail m t)) (unit (m .settings)) (m .clock) t (le-leb n (avail m t) h) l
 
--- a running job has ended by its end, and not before
+-- the nodes of a job are free again by then, and not before
 pub ended-by : (S : Settings) (t : ℕ) (j : Job) → isHolding j ≡ true → until S j ≤ t → overBy S t j ≡ true
 ended-by S t j r l = rw r (le-leb _ t (omega arith))
 
@@ -71,7 +72,7 @@ shadow-holds m n s l =
     (least-holds (λ (t : ℕ). leb n (avail m t)) (unit (m .settings)) (m .clock)
     (le-leb n (avail m (m .clock + unit (m .settings))) (omega (arith, avail-all m s))))
 
--- no running job has ended by now, so that nothing but the free nodes is there now
+-- no nodes that are held come free by now, so that nothing but the free nodes is there now
 pub avail-now : (m : Model) (t : ℕ) → Sound m → t ≤ m .clock → avail m t ≡ free m
 avail-now m t s l = omega (arith, sum-zero (freed (m .settings) t) (m .jobs) (λ j i. later j (s .each j i)))
   where
@@ -135,6 +136,7 @@ waits-by p j e = by (j .state) e
     by Unused e = true-false false e refl
     by Waiting e = refl
     by Running e = true-false false e refl
+    by Cleanup e = true-false false e refl
 
 -- it holds no nodes, and does not run
 pub idle : (j : Job) → isWaiting j ≡ true → isHolding j ≡ false
@@ -202,6 +204,7 @@ pub sound-begin : (m : Model) (j : Job) → Sound m → Chosen m j → m .clock 
 sound-begin m j s c room = record {
   nodes-from = s .nodes-from;
   nodes-to = s .nodes-to;
+  cleanup-to = s .cleanup-to;
   clock-to = s .clock-to;
   next-from = s .next-from;
   next-to = s .next-to;
@@ -225,8 +228,11 @@ sound-begin m j s c room = record {
           nodes-to = f .nodes-to;
           estimate-from = f .estimate-from;
           estimate-to = f .estimate-to;
-          ends = rw (until-at (m .settings) Running (m .clock) k, e) room;
-          holds = λ r. omega (arith, until-at (m .settings) Running (m .clock) k, hold-pos (m .settings) (k .estimate) (f .estimate-from));
+          ends = rw (until-at (m .settings) Running (m .clock) k refl, e) room;
+          holds = λ r. omega (arith, until-at (m .settings) Running (m .clock) k refl, hold-pos (m .settings) (k .estimate) (f .estimate-from));
+          runs = λ r. omega (arith, end-is (m .settings) (begun (m .clock) k), run-pos (m .settings) (k .estimate) (f .estimate-from));
+          cleaned = λ r. true-false false r refl;
+          no-end = λ r. refl;
         }
 
 -- ## The settling, as it goes

@@ -8,7 +8,7 @@ use mathlib.Core.Option.{none}
 use mathlib.Core.List.{List, [], _∷_}
 use mathlib.Core.Logic.{_⊎_, inl, inr, ⊎-elim}
 use lib.Dec.{ltb, eqb}
-use borrow.Author.Tests.{ltb-false, eqb-true, eq-eqb, eqb-false, not-true, not-false}
+use borrow.Author.Tests.{ltb-false, eqb-true, eq-eqb, eqb-false, not-false}
 use Rattle.lists.specs.Tests.{case, true-false}
 use Rattle.lists.specs.Lists.{keep, any, elem, In, here, in-nil, in-cons, in-append, keep-in}
 use Rattle.scheduler.specs.declared.Kind.the-variants.{Easy}
@@ -26,18 +26,20 @@ use Rattle.scheduler.specs.Jobs.{isWaiting, picks}
 use Rattle.scheduler.specs.declared.Settings.{Settings}
 use Rattle.scheduler.specs.Settings.{refusedSettings, horizon, holdTime, unit}
 use Rattle.scheduler.specs.Times.{until-fresh}
-use Rattle.scheduler.specs.Table.{ticketOf, endedOf}
+use Rattle.scheduler.specs.Table.{ticketOf, ends, endedOf, withdraws, ceased, remaining}
 use Rattle.scheduler.specs.Model.{Model, ending, empty, joined, without}
 use Rattle.scheduler.specs.Answers.{Result, accepts, refusing, refuse}
 use Rattle.scheduler.specs.Refusals.{judged, notThere, departRefusal, tickRefusal}
 use Rattle.scheduler.specs.Opening.{openingRefusal, opening}
 use Rattle.jobs.specs.Order.{asc-one, elem-job}
 use Rattle.jobs.specs.Departing.{not-there, departs-alone}
-use Rattle.jobs.specs.Soundness.{Sound, SoundJob, opening-sound, Fit, passed, submit-fit, sound-join, Leaving, early, in-time, withdrawn-waits, sound-leave}
+use Rattle.jobs.specs.Soundness.{Sound, SoundJob, opening-sound, Fit, passed, submit-fit, sound-join, Leaving, early, in-time, withdraws-waits}
+use Rattle.jobs.specs.Soundness.{remaining-in, sound-leave}
 use Rattle.history.specs.Calls.{Call, submit, depart, tick, unchanged}
 use Rattle.history.specs.News.{Newcomer, newsOf, nothing, refused-news, unchanged-news}
 use Rattle.easy_rules.specs.Easy.{pick, choice, begin, forecast, finished, newJob, rank, submitRefusal, advanced, call}
-use Rattle.easy_laws.specs.Settling.{Chosen, chosen, each-begin, not-running, sound-begin, Settles, rest, start, settles, settles-rest, settles-clock}
+use Rattle.easy_laws.specs.Settling.{Chosen, chosen, each-begin, sound-begin, Settles, rest, start, settles, settles-rest, settles-clock}
+use Rattle.easy_laws.specs.Remaining.{remaining-waited}
 use Rattle.easy_laws.specs.Course.{Waits, OnCourse, course-clock, begin-keeps, eased, withdraw-keeps, leave-keeps, join-eases, join-course}
 
 -- however late the job starts, its hold does not pass the last minute
@@ -120,19 +122,25 @@ module _ (m : Model) (v : Valid m) where
   leave-ready c p l = record {
     kind = v .ready .kind;
     sound = sound-leave m c p (v .ready .sound) l;
-    promises = λ j i. v .ready .promises j (old j i);
-    starts = λ j i. v .ready .starts j (old j i);
-    room = λ j i w. let x = v .ready .room j (old j i) w in
-        (x .0, leave-keeps m c p (v .ready .sound) (v .rests) l (j .ticket) (x .0) (stays j i) (x .1), x .2);
+    promises = λ j i.
+        let k = remaining-in (m .settings) c p (m .jobs) i in
+        ap (λ (x : Job). x .promise) (k .3) ∙ ceased-promise (k .0) ∙ v .ready .promises (k .0) (k .1);
+    starts = λ j i w. v .ready .starts j (waited j i w .0) w;
+    room = λ j i w.
+        let old = waited j i w in
+        let x = v .ready .room j (old .0) w in
+        (x .0, leave-keeps m c p (v .ready .sound) (v .rests) l (j .ticket) (x .0) (stays j old) (x .1), x .2);
   }
     where
-      old : (j : Job) → In j (without m c p .jobs) → In j (m .jobs)
-      old j i = keep-in (λ (j : Job). not (picks p j)) (m .jobs) i .0
+      ceased-promise : (j : Job) → ceased c p j .promise ≡ j .promise
+      ceased-promise j = case (ends p j) (λ e. rw e) (λ e. rw e)
 
-      stays : (j : Job) → In j (without m c p .jobs) → (k : Job) → In k (m .jobs) → isWaiting k ≡ true → k .ticket ≡ j .ticket → picks p k ≡ false
-      stays j i k l w e =
-          ap (picks p) (asc-one 1 (m .jobs) k j (v .ready .sound .asc) l (old j i) e)
-          ∙ not-true (picks p j) (keep-in (λ (j : Job). not (picks p j)) (m .jobs) i .1)
+      waited : (j : Job) → In j (without m c p .jobs) → isWaiting j ≡ true → In j (m .jobs) × (withdraws p j ≡ false)
+      waited j i w = remaining-waited (m .settings) c p (m .jobs) i w
+
+      stays : (j : Job) → In j (m .jobs) × (withdraws p j ≡ false) → (k : Job) → In k (m .jobs) → isWaiting k ≡ true → k .ticket ≡ j .ticket
+          → withdraws p k ≡ false
+      stays j (i, n) k l w e = ap (withdraws p) (asc-one 1 (m .jobs) k j (v .ready .sound .asc) l i e) ∙ n
 
   join-ready : (o : Submission) → Fit m o → latestEnd m (o .estimate) ≤ horizon (m .settings) → Ready (joined m (newJob (m .next) o))
   join-ready o f room = record {
@@ -165,8 +173,11 @@ module _ (m : Model) (v : Valid m) where
         nodes-to = f .nodes-to;
         estimate-from = f .estimate-from;
         estimate-to = f .estimate-to;
-        ends = omega (arith, room, until-fresh (m .settings) (m .next) o Waiting 0 0);
+        ends = omega (arith, room, until-fresh (m .settings) (m .next) o Waiting 0 0 refl);
         holds = λ r. true-false false r refl;
+        runs = λ r. true-false false r refl;
+        cleaned = λ r. true-false false r refl;
+        no-end = λ r. refl;
       }
 
 pub moved-ready : {m : Model} {c : Call} {mid : Model} {t : ℕ} {ts : List ℕ} → OwnPart m c mid t ts → Valid m → Ready mid
@@ -194,7 +205,7 @@ leaver (ticks l) = []
 
 -- ## Who waits before the settling
 
-in-one : {A : Type 0} {a x : A} → In a (x ∷ []) → a ≡ x
+pub in-one : {A : Type 0} {a x : A} → In a (x ∷ []) → a ≡ x
 in-one i = ⊎-elim (λ e. e) (λ k. in-nil k) (in-cons i)
 
 abbrev pub Joins : {m : Model} {c : Call} {mid : Model} {t : ℕ} {ts : List ℕ} → OwnPart m c mid t ts → ℕ → Type 0
@@ -209,8 +220,8 @@ joins-ticket (ticks l) o i = in-nil i
 pub moved-waited : {m : Model} {c : Call} {mid : Model} {t : ℕ} {ts : List ℕ} (x : OwnPart m c mid t ts) (u : ℕ) → Waits mid u → Waits m u ⊎ Joins x u
 moved-waited {m} x u w = go x (w .job) (w .isin) (w .waits) (w .named)
   where
-    stays : (p : Select) (j : Job) → In j (keep (λ (j : Job). not (picks p j)) (m .jobs)) → isWaiting j ≡ true → j .ticket ≡ u → Waits m u
-    stays p j i q n = record { job = j; isin = keep-in (λ (j : Job). not (picks p j)) (m .jobs) i .0; waits = q; named = n }
+    stays : (c : ℕ) (p : Select) (j : Job) → In j (remaining (m .settings) c p (m .jobs)) → isWaiting j ≡ true → j .ticket ≡ u → Waits m u
+    stays c p j i q n = record { job = j; isin = remaining-waited (m .settings) c p (m .jobs) i q .0; waits = q; named = n }
 
     go : {c : Call} {mid : Model} {t : ℕ} {ts : List ℕ} (x : OwnPart m c mid t ts) (j : Job) → In j (mid .jobs) → isWaiting j ≡ true → j .ticket ≡ u
         → Waits m u ⊎ Joins x u
@@ -219,17 +230,18 @@ moved-waited {m} x u w = go x (w .job) (w .isin) (w .waits) (w .named)
         either-way : In j (m .jobs) ⊎ In j (newJob (m .next) o ∷ []) → Waits m u ⊎ Joins (submits o f room) u
         either-way (inl i) = inl (record { job = j; isin = i; waits = q; named = z })
         either-way (inr i) = inr (_, here refl, ap ticketOf (sym (in-one i)) ∙ z)
-    go (departs h t a) j i q z = inl (stays (select.Departing h t) j i q z)
-    go (ticks l) j i q z = inl (stays (ending m) j i q z)
+    go (departs h t a) j i q z = inl (stays (m .clock) (select.Departing h t) j i q z)
+    go (ticks l) j i q z = inl (stays (suc (m .clock)) (ending m) j i q z)
 
 -- and is not withdrawn
 pub moved-stays : {m : Model} {c : Call} {mid : Model} {t : ℕ} {ts : List ℕ} (x : OwnPart m c mid t ts) (u : ℕ) → Waits mid u → elem u (leaver x) ≡ false
 moved-stays (submits o f room) u w = refl
 moved-stays (departs Complete t a) u w = refl
 moved-stays {m} (departs Cancel t a) u w =
-    let k = keep-in (λ (j : Job). not (picks (select.Departing Cancel t) j)) (m .jobs) (w .isin) in
+    let p = select.Departing Cancel t in
     case (eqb u t)
-    (λ e. true-false (picks (select.Departing Cancel t) (w .job)) (rw (w .waits) (eq-eqb (w .job .ticket) t (w .named ∙ eqb-true u t e))) (not-true _ (k .1)))
+    (λ e. true-false (withdraws p (w .job)) (rw (w .waits) (eq-eqb (w .job .ticket) t (w .named ∙ eqb-true u t e)))
+    (remaining-waited (m .settings) (m .clock) p (m .jobs) (w .isin) (w .waits) .1))
     (λ e. rw e)
 moved-stays (ticks l) u w = refl
 
@@ -241,7 +253,7 @@ moved-withdraws {m} (departs Cancel t a) s u e =
     let p = picks (select.Departing Cancel t) in
     let j = elem-job u (keep p (m .jobs)) (ap (elem u) (departs-alone Cancel t 1 (m .jobs) (s .asc) a) ∙ e) in
     let k = keep-in p (m .jobs) (j .1) in
-    record { job = j .0; isin = k .0; waits = withdrawn-waits t (j .0) (k .1); named = j .2 }
+    record { job = j .0; isin = k .0; waits = withdraws-waits (select.Departing Cancel t) (j .0) (k .1); named = j .2 }
 moved-withdraws (ticks l) s u e = true-false false e refl
 
 -- ## What is kept
@@ -251,10 +263,10 @@ pub moved-keeps : {m : Model} {c : Call} {mid : Model} {t : ℕ} {ts : List ℕ}
     → OnCourse m u b → OnCourse mid u b
 moved-keeps {m} (submits o f room) v u b n x = eased m _ u b (v .ready .sound) (v .rests) (join-eases m o) x
 moved-keeps {m} (departs Complete t a) v u b n x =
-    leave-keeps m _ _ (v .ready .sound) (v .rests) (early Complete t) u b (λ j i w e. rw (not-running j w)) x
+    leave-keeps m _ _ (v .ready .sound) (v .rests) (early Complete t) u b (λ j i w e. refl) x
 moved-keeps {m} (departs Cancel t a) v u b n x =
     withdraw-keeps m t (v .ready .sound) u b (λ e. true-false true refl (rw (eq-eqb u t e) at n)) x
-moved-keeps {m} (ticks l) v u b n x = leave-keeps m _ _ (v .ready .sound) (v .rests) (in-time l) u b (λ j i w e. rw (not-running j w)) x
+moved-keeps {m} (ticks l) v u b n x = leave-keeps m _ _ (v .ready .sound) (v .rests) (in-time l) u b (λ j i w e. refl) x
 
 -- ## Each call is accepted or refused
 

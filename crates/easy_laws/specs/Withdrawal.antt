@@ -18,12 +18,11 @@ use Rattle.scheduler.specs.declared.Select.the-variants as select
 use Rattle.scheduler.specs.Jobs.{isRunning}
 use Rattle.scheduler.specs.Settings.{holdTime}
 use Rattle.scheduler.specs.Table.{ticketsOf}
-use Rattle.scheduler.specs.Model.{Model}
+use Rattle.scheduler.specs.Model.{Model, ending}
 use Rattle.scheduler.specs.Answers.{Result, accepts}
 use Rattle.scheduler.specs.Refusals.{departRefusal}
 use Rattle.jobs.specs.Judgement.{judged-accepted}
 use Rattle.jobs.specs.Departing.{ended-ran}
-use Rattle.jobs.specs.Soundness.{early, in-time}
 use Rattle.history.specs.Calls.{Call, cancel}
 use Rattle.history_proof.specs.Obligations.{Ticketed}
 use Rattle.easy_rules.specs.Easy.{queue, head, free, avail, shadow, extra, qualifies, pick, choice, Settling, finished, advanced, call}
@@ -94,8 +93,8 @@ module _ (m : Model) (t : ℕ) (v : Valid m) (h : Job) (later : List Job) (e : q
 moved-ran : {m : Model} {c : Call} {mid : Model} {t : ℕ} {ts : List ℕ} → OwnPart m c mid t ts → (u : ℕ) → elem u ts ≡ true
     → elem u (ticketsOf (keep isRunning (m .jobs))) ≡ true
 moved-ran (submits o f room) u e = true-false false e refl
-moved-ran {m} (departs h t a) u e = ended-ran m _ _ (early h t) u e
-moved-ran {m} (ticks l) u e = ended-ran m _ _ (in-time l) u e
+moved-ran {m} (departs h t a) u e = ended-ran (select.Departing h t) (m .jobs) u e
+moved-ran {m} (ticks l) u e = ended-ran (ending m) (m .jobs) u e
 
 pub easy-ticketed : Ticketed call Valid OnCourse
 easy-ticketed = record {

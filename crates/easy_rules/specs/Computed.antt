@@ -1,4 +1,5 @@
--- Document 01's slips of the Loose Desk, and one where two jobs might pass the head in one call, computed from the definitions.
+-- Document 01's slips of the Loose Desk, one where two jobs might pass the head in one call, and document 02's clearing, computed from the
+-- definitions.
 -- Assumes nothing.
 use mathlib.Core.Path.{_≡_, refl}
 use mathlib.Core.List.{List, [], _∷_, map}
@@ -13,19 +14,23 @@ use Rattle.scheduler.specs.Answers.{verdict}
 use Rattle.scheduler.specs.Settings as times
 use Rattle.scheduler.specs.Refusals as refusals
 use Rattle.scheduler.specs.Opening.{openingRefusal, opening}
-use Rattle.history.specs.Calls.{Call, submit, order, complete, cancel, after}
+use Rattle.history.specs.Calls.{Call, submit, order, complete, cancel, tick, after}
 use Rattle.easy_rules.specs.Easy.{rank, shadow, extra, qualifies, pick, settle, forecast, finished, submitRefusal, advanced, call}
 
+abbrev cleared : (cleanup nodes minute : ℕ) → Model
+cleared cleanup nodes minute =
+    opening (record { settings = record { kind = Easy; nodes = nodes; cleanup = cleanup }; minute = minute; ticket = 1 })
+
 abbrev fresh : ℕ → ℕ → Model
-fresh nodes minute = opening (record { settings = record { kind = Easy; nodes = nodes }; minute = minute; ticket = 1 })
+fresh nodes minute = cleared 0 nodes minute
 
 -- "on a rack of 10 at minute 0, after `in 6 20` and `in 8 10`"
 abbrev waited-for : Model
 waited-for = after call (fresh 10 0) (submit (order 6 20) ∷ submit (order 8 10) ∷ [])
 
--- the start and the promise in each record
-abbrev stored : Model → List (ℕ × ℕ)
-stored m = map (λ (j : Job). (j .start, j .promise)) (m .jobs)
+-- the start, the promise and the end in each record
+abbrev stored : Model → List (ℕ × ℕ × ℕ)
+stored m = map (λ (j : Job). (j .start, j .promise, j .end)) (m .jobs)
 
 abbrev started : Model → Call → List ℕ
 started m c = call m c .reply .started
@@ -46,9 +51,25 @@ queued = after call waited-for (submit (order 3 21) ∷ submit (order 5 20) ∷ 
 abbrev alone : ℕ → ℕ → Refusal
 alone minute e = call (fresh 4 minute) (submit (order 1 e)) .reply .refusal
 
+-- document 02, No. 3: the same two jobs as in `waited-for`, for 5 and 10 minutes, where nodes are cleared for 2. The first ends at 5, in
+-- cleanup until 7
+abbrev short : Model
+short = after call (cleared 2 10 0) (submit (order 6 5) ∷ submit (order 8 10) ∷ [])
+
+abbrev over-at-5 : Model
+over-at-5 = after call short (tick ∷ tick ∷ tick ∷ tick ∷ tick ∷ [])
+
+-- it ends at 1, in cleanup until 3
+abbrev over-at-1 : Model
+over-at-1 = after call short (tick ∷ complete 1 ∷ [])
+
+-- the answer to a job of the longest estimate on a machine of 1 node that is cleared for 30 minutes
+abbrev longest : ℕ → Refusal
+longest minute = call (cleared 30 1 minute) (submit (order 1 10080)) .reply .refusal
+
 pub examples : (call (call (fresh 10 0) (submit (order 6 20)) .model) (submit (order 8 10)) .reply .head ≡ some (record { ticket = 2; minute = 20 }))
     -- "on the Loose Desk the promise, and a waiting stack's start, are 0"
-    × (stored (after call (fresh 10 5) (submit (order 6 20) ∷ submit (order 8 10) ∷ [])) ≡ (5, 0) ∷ (0, 0) ∷ [])
+    × (stored (after call (fresh 10 5) (submit (order 6 20) ∷ submit (order 8 10) ∷ [])) ≡ (5, 0, 0) ∷ (0, 0, 0) ∷ [])
     -- "r being the number waiting before plus one"
     × (rank waited-for ≡ 2)
     × (shadow waited-for 8 ≡ 20)
@@ -69,14 +90,38 @@ pub examples : (call (call (fresh 10 0) (submit (order 6 20)) .model) (submit (o
     -- a later one is withdrawn, and the head stays; one that runs cannot be
     × (call queued (cancel 4) .reply .head ≡ none)
     × (call queued (cancel 1) .reply .refusal ≡ refusal.NotWaiting)
+    -- document 02, No. 3: the shadow counts nodes that are cleared as held, and rule (i) asks for held time plus clearing
+    × (shadow short 8 ≡ 7)
+    × (extra short 8 ≡ 2)
+    × (started short (submit (order 4 5)) ≡ 3 ∷ [])
+    × (started short (submit (order 4 6)) ≡ [])
+    -- "after a planned or an early end alike": who is over is in cleanup, "its record, and no other, keeps its end"
+    × (shadow over-at-5 8 ≡ 7)
+    × (stored over-at-5 ≡ (0, 0, 5) ∷ (0, 0, 0) ∷ [])
+    × (shadow over-at-1 8 ≡ 3)
+    × (extra over-at-1 8 ≡ 2)
+    × (stored over-at-1 ≡ (0, 0, 1) ∷ (0, 0, 0) ∷ [])
+    -- "An end of a clearing stack is refused by 7."
+    × (call over-at-1 (complete 1) .reply .refusal ≡ refusal.NotRunning)
+    -- once its nodes are free it leaves without a line, and the head starts in that same minute
+    × (started (after call over-at-1 (tick ∷ [])) tick ≡ 2 ∷ [])
+    × (call (after call over-at-1 (tick ∷ [])) tick .reply .ended ≡ [])
+    × (stored (after call over-at-1 (tick ∷ tick ∷ [])) ≡ (3, 0, 0) ∷ [])
+    -- the last minute: now + r × (10,080 + clearing) + held + clearing. At 979,810 the sum without the last summand is 1,000,000
+    × (longest 979780 ≡ refusal.None)
+    × (longest 979810 ≡ refusal.PastHorizon)
 unfolding
     opening
     openingRefusal
     verdict
+    times.cleanup
+    times.runTime
     times.holdTime
     times.unit
+    times.endOf
     times.until
     refusals.departRefusal
+    refusals.tickRefusal
     shadow
     extra
     qualifies
@@ -87,4 +132,37 @@ unfolding
     submitRefusal
     advanced
     call
-examples = (refl, refl, refl, refl, refl, refl, refl, refl, refl, refl, refl, refl, refl, refl, refl, refl, refl)
+examples = (
+  refl,
+  refl,
+  refl,
+  refl,
+  refl,
+  refl,
+  refl,
+  refl,
+  refl,
+  refl,
+  refl,
+  refl,
+  refl,
+  refl,
+  refl,
+  refl,
+  refl,
+  refl,
+  refl,
+  refl,
+  refl,
+  refl,
+  refl,
+  refl,
+  refl,
+  refl,
+  refl,
+  refl,
+  refl,
+  refl,
+  refl,
+  refl,
+)

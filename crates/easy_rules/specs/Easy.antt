@@ -38,7 +38,8 @@ head m = head? (queue (m .jobs))
 abbrev pub free : Model → ℕ
 free m = m .settings .nodes - nodesHeld (m .jobs)
 
--- "running stacks with end ≤ that minute": those whose nodes are free again by then
+-- "running stacks with end ≤ that minute": those whose nodes are free again by then. Document 02, No. 3: while nodes are cleared, "shadow,
+-- extra and demand 3 count them as held by a stack running until these end"
 abbrev pub overBy : Settings → ℕ → Job → Bool
 overBy S t j = isHolding j && leb (until S j) t
 
@@ -49,7 +50,7 @@ freed S t j = on (overBy S t j) (j .nodes)
 abbrev pub avail : Model → ℕ → ℕ
 avail m t = free m + sum (freed (m .settings) t) (m .jobs)
 
--- "the shadow is the smallest minute at which" these "suffice for it". (By the longest hold time from now on all that run have ended.)
+-- "the shadow is the smallest minute at which" these "suffice for it". (By the longest hold time from now on all nodes are free.)
 unfoldable pub shadow : Model → ℕ → ℕ
 shadow m n = least (λ (t : ℕ). leb n (avail m t)) (unit (m .settings)) (m .clock)
 
@@ -59,7 +60,8 @@ extra m n = avail m (shadow m n) - n
 
 -- ## Settling
 
--- "needs no more than the free nodes and either (i) has now + held ≤ shadow or (ii) needs no more than extra"
+-- "needs no more than the free nodes and either (i) has now + held ≤ shadow or (ii) needs no more than extra"; document 02, No. 3: "Held
+-- time plus clearing is what must fit"
 unfoldable pub qualifies : Model → Job → Job → Bool
 qualifies m h j =
     leb (j .nodes) (free m)
@@ -140,7 +142,8 @@ newJob t o = fresh t o Waiting 0 0
 abbrev pub rank : Model → ℕ
 rank m = suc (length (queue (m .jobs)))
 
--- "intake 1, 2, 4, 5, 6"; 6: "now + r × 10,080 + held above it"
+-- "intake 1, 2, 4, 5, 6"; 6: "now + r × 10,080 + held above it", and by document 02, No. 3, "r × (10,080 + clearing)" and "Held time plus
+-- clearing"
 unfoldable pub submitRefusal : Model → Submission → Refusal
 submitRefusal m o =
     verdict
@@ -148,7 +151,7 @@ submitRefusal m o =
     ((ltb (horizon (m .settings)) (m .clock + rank m * unit (m .settings) + holdTime (m .settings) (o .estimate)), refusal.PastHorizon)
     ∷ []))
 
--- an early end, a withdrawal or a tick: those that a test picks leave, and the others settle
+-- an early end, a withdrawal or a tick: runs end, jobs leave, and those that remain settle
 unfoldable pub advanced : Model → ℕ → Select → Result
 advanced m clock s = finished m (without m clock s) 0 (endedOf s (m .jobs))
 

@@ -7,3 +7,4 @@ pub mod Replies
 pub mod Chain
 pub mod Tickets
 pub mod Withdrawn
+pub mod Cleanup

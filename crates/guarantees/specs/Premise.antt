@@ -82,8 +82,11 @@ sound-by : (k : Kind) (m : Model) → ValidBy k m → Sound m
 sound-by Conservative m v = v .sound
 sound-by Easy m v = v .ready .sound
 
+pub valid-sound : (m : Model) → Valid m → Sound m
+valid-sound m v = sound-by (m .settings .kind) m v
+
 pub premise-sound : (d : Scheduler) → Premise d → Sound (view d)
-premise-sound d h = sound-by (view d .settings .kind) (view d) (h .holds)
+premise-sound d h = valid-sound (view d) (h .holds)
 
 -- a valid model is read back as it was stored
 pub valid-view : (m : Model) → Valid m → view (store m) ≡ m

@@ -3,15 +3,18 @@
 -- Assumes nothing.
 use mathlib.Core.Path.{_≡_, refl, ap, subst}
 use mathlib.Core.List.{List, [], _∷_}
-use Prim.Native.Nat.{ℕ}
+use Prim.Native.Nat.{ℕ, _+_}
+use native.Mathlib.Omega.{arith}
 use lib.ListN.{take}
 use Rattle.lists.specs.Lists.{in-nil}
 use Rattle.scheduler.specs.declared.Kind.{Kind}
 use Rattle.scheduler.specs.declared.Opening.{Opening}
 use Rattle.scheduler.specs.declared.Settings.{Settings}
-use Rattle.scheduler.specs.Settings.{holdTime, cleanup, unit}
+use Rattle.scheduler.specs.Settings.{longest, cleanup, runTime, unit}
+use Rattle.scheduler.specs.Times.{cleanup-is, hold-is}
 use Rattle.scheduler.specs.Model.{Model}
 use Rattle.scheduler.specs.Opening.{opening}
+use Rattle.jobs.specs.Soundness.{opening-sound}
 use Rattle.history.specs.Calls.{Call, Command, Event, events, allCalls}
 use Rattle.history.specs.Book.{Book, enterAll}
 use Rattle.history.specs.Guarantee.{Guarantee}
@@ -30,10 +33,14 @@ bookFrom m b es = enterAll (unit (m .settings)) (cleanup (m .settings)) b es
 abbrev pub bookOf : Model → List Event → Book
 bookOf m es = bookFrom m (blank m) es
 
--- "Its bound is the clock at intake + r × 10,080"
-pub unit-is : (S : Settings) → unit S ≡ 10080
-unfolding unit holdTime
-unit-is S = refl
+-- "Its bound is the clock at intake + r × 10,080": with clearing, "r × (10,080 + clearing)"; and nodes stay taken for clearing minutes after
+-- the end of a run. Of every opening, since one with more than 30 minutes of clearing is refused
+pub unit-is : (o : Opening) → unit (opening o .settings) ≡ 10080 + opening o .settings .cleanup
+unfolding unit runTime
+unit-is o = let S = opening o .settings in omega (arith, hold-is S (longest S), cleanup-is S (opening-sound o .cleanup-to))
+
+pub cleanup-is-set : (o : Opening) → cleanup (opening o .settings) ≡ opening o .settings .cleanup
+cleanup-is-set o = cleanup-is (opening o .settings) (opening-sound o .cleanup-to)
 
 -- For every opening, a refused one too, and every list of calls: with the words by the calls and their answers, promises are kept,
 -- bounds and forecasts are kept, every head hears one, and running jobs never hold more nodes than the machine has. ("After every

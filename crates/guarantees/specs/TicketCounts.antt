@@ -13,11 +13,10 @@ use Rattle.lists.specs.Lists.{keep, length-keep-le}
 use Rattle.scheduler.specs.declared.Kind.{Kind}
 use Rattle.scheduler.specs.declared.Kind.the-variants.{Conservative, Easy}
 use Rattle.scheduler.specs.declared.Job.{Job}
-use Rattle.scheduler.specs.declared.Departure.the-variants.{Complete, Cancel}
 use Rattle.scheduler.specs.declared.Select.{Select}
 use Rattle.scheduler.specs.declared.Select.the-variants as select
-use Rattle.scheduler.specs.Jobs.{picks, isWaiting, isRunning}
-use Rattle.scheduler.specs.Table.{ticketOf, ticketsOf, endedOf, staying}
+use Rattle.scheduler.specs.Jobs.{isWaiting, isRunning}
+use Rattle.scheduler.specs.Table.{ticketOf, ends, endedOf, leaves, staying, ceased}
 use Rattle.scheduler.specs.Model.{Model, ending, joined, without}
 use Rattle.scheduler.specs.declared.Refusal.{Refusal}
 use Rattle.scheduler.specs.Answers.{Result, refuse}
@@ -34,17 +33,15 @@ pub record FitsAnswer (r : Result) : Type 0 where
   pub started : length (r .reply .started) ≤ 64
 
 left-few : (s : Select) (js : List Job) → length js ≤ 64 → length (endedOf s js) ≤ 64
-left-few s js h = by s
-  where
-    picked : (s : Select) → length (ticketsOf (keep (picks s) js)) ≤ 64
-    picked s = omega (arith, length-map (keep (picks s) js) ticketOf, length-keep-le (picks s) js)
+left-few s js h = omega (arith, length-map (keep (ends s) js) ticketOf, length-keep-le (ends s) js)
 
-    by : (s : Select) → length (endedOf s js) ≤ 64
-    by select.Live = picked select.Live
-    by select.Waiting = picked select.Waiting
-    by (select.Departing Complete t) = picked (select.Departing Complete t)
-    by (select.Departing Cancel t) = omega arith
-    by (select.EndingAt S t) = picked (select.EndingAt S t)
+remain-few : (m : Model) (clock : ℕ) (s : Select) → length (without m clock s .jobs) ≤ length (m .jobs)
+remain-few m clock s =
+    omega (
+      arith,
+      length-map (staying (m .settings) s (m .jobs)) (ceased clock s),
+      length-keep-le (λ (j : Job). not (leaves (m .settings) s j)) (m .jobs),
+    )
 
 begun-few : (js ks : List Job) → length (conservative.begun js ks) ≤ length js
 begun-few [] ks = omega arith
@@ -69,13 +66,13 @@ unfolding conservative.advanced
 advanced-fits m clock s after h = record {
   ended = left-few s (m .jobs) h;
   started =
-      omega (arith, begun-few (staying s (m .jobs)) after, length-keep-le (λ (j : Job). not (picks s j)) (m .jobs));
+      omega (arith, begun-few (without m clock s .jobs) after, remain-few m clock s);
 }
 
 leaving-fits : (m : Model) (clock : ℕ) (s : Select) → length (m .jobs) ≤ 64 → FitsAnswer (easy.advanced m clock s)
 unfolding easy.advanced
 leaving-fits m clock s h = finished-fits m (without m clock s) 0 _ (left-few s (m .jobs) h)
-    (omega (arith, length-keep-le (λ (j : Job). not (picks s j)) (m .jobs)))
+    (omega (arith, remain-few m clock s))
 
 refused-fits : (m : Model) (r : Refusal) → FitsAnswer (refuse m r)
 refused-fits m r = record { ended = omega arith; started = omega arith }

@@ -10,11 +10,9 @@ use Rattle.lists.specs.Lists.{keep}
 use Rattle.scheduler.specs.declared.Submission.{Submission}
 use Rattle.scheduler.specs.declared.Kind.{Kind}
 use Rattle.scheduler.specs.declared.Kind.the-variants.{Conservative, Easy}
-use Rattle.scheduler.specs.declared.Departure.the-variants.{Complete, Cancel}
 use Rattle.scheduler.specs.declared.Select.{Select}
 use Rattle.scheduler.specs.declared.Select.the-variants as select
-use Rattle.scheduler.specs.Jobs.{picks}
-use Rattle.scheduler.specs.Table.{ticketsOf}
+use Rattle.scheduler.specs.Table.{ends, endedOf}
 use Rattle.scheduler.specs.Model.{Model, ending}
 use Rattle.scheduler.specs.Answers.{Result, accepts}
 use Rattle.scheduler.specs.Refusals.{departRefusal, tickRefusal}
@@ -69,8 +67,8 @@ tickets-upward m (c ∷ cs) v =
 abbrev Ascends : Result → Type 0
 Ascends r = Rising 1 (r .reply .ended)
 
-leaves : (m : Model) (s : Select) → Sound m → Rising 1 (ticketsOf (keep (picks s) (m .jobs)))
-leaves m s h = tickets-rise 1 (keep (picks s) (m .jobs)) (asc-keep (picks s) 1 (m .jobs) (h .asc))
+ended-ascend : (m : Model) (s : Select) → Sound m → Rising 1 (endedOf s (m .jobs))
+ended-ascend m s h = tickets-rise 1 (keep (ends s) (m .jobs)) (asc-keep (ends s) 1 (m .jobs) (h .asc))
 
 -- "the tickets ended, ascending"
 ended-by : (k : Kind) (m : Model) (c : Call) → ValidBy k m → Rising 1 (rulesOf k m c .reply .ended)
@@ -80,12 +78,10 @@ unfolding
     rules.finished
 ended-by Conservative m c v = conservative.answers-rise m c v .0
 ended-by Easy m (submit o) v = judged-by Ascends m (rules.submitRefusal m o) _ (λ a. tt) (λ a. tt)
-ended-by Easy m (depart Complete t) v = judged-by Ascends m (departRefusal m Complete t) (rules.advanced m (m .clock) (select.Departing Complete t))
-    (λ a. leaves m (select.Departing Complete t) (v .ready .sound)) (λ a. tt)
-ended-by Easy m (depart Cancel t) v = judged-by Ascends m (departRefusal m Cancel t) (rules.advanced m (m .clock) (select.Departing Cancel t))
-    (λ a. tt) (λ a. tt)
+ended-by Easy m (depart h t) v = judged-by Ascends m (departRefusal m h t) (rules.advanced m (m .clock) (select.Departing h t))
+    (λ a. ended-ascend m (select.Departing h t) (v .ready .sound)) (λ a. tt)
 ended-by Easy m tick v = judged-by Ascends m (tickRefusal m) (rules.advanced m (suc (m .clock)) (ending m))
-    (λ a. leaves m (ending m) (v .ready .sound)) (λ a. tt)
+    (λ a. ended-ascend m (ending m) (v .ready .sound)) (λ a. tt)
 ended-by Easy m (unchanged w) v = tt
 
 pub ended-rise : (m : Model) (c : Call) → Valid m → Rising 1 (call m c .reply .ended)

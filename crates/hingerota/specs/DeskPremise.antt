@@ -3,13 +3,13 @@
 -- Assumes nothing.
 use mathlib.Core.Path.{_≡_, sym, ap, subst, _∙_}
 use mathlib.Core.List.{List, [], _∷_, map}
-use Prim.Native.Nat.{ℕ, _≤_}
+use Prim.Native.Nat.{_≤_}
 use native.Mathlib.Omega.{arith}
 use Rattle.lists.specs.Lists.{All}
 use Rattle.scheduler.specs.declared.Kind.{Kind}
 use Rattle.scheduler.specs.declared.Kind.the-variants.{Conservative, Easy}
 use Rattle.scheduler.specs.declared.State.{State}
-use Rattle.scheduler.specs.declared.State.the-variants.{Unused, Waiting, Running}
+use Rattle.scheduler.specs.declared.State.the-variants.{Unused, Waiting, Running, Cleanup}
 use Rattle.scheduler.specs.declared.Job.{Job}
 use Rattle.scheduler.specs.declared.Opening.{Opening}
 use Rattle.scheduler.specs.declared.Scheduler.{Scheduler}
@@ -40,10 +40,10 @@ abbrev pub gives : Desk → Call → Outcome
 gives d c = mirrorOutcome (outcome (call (view (read d)) c))
 
 abbrev pub promiseOpening : host-opening.Opening → Opening
-promiseOpening o = record { settings = record { kind = Conservative; nodes = o .nodes }; minute = o .minute; ticket = o .ticket }
+promiseOpening o = record { settings = record { kind = Conservative; nodes = o .nodes; cleanup = o .cleanup }; minute = o .minute; ticket = o .ticket }
 
 abbrev pub looseOpening : host-opening.Opening → Opening
-looseOpening o = record { settings = record { kind = Easy; nodes = o .nodes }; minute = o .minute; ticket = o .ticket }
+looseOpening o = record { settings = record { kind = Easy; nodes = o .nodes; cleanup = o .cleanup }; minute = o .minute; ticket = o .ticket }
 
 mirror-handed : (s : Scheduler) → Premise s → Handed (mirror s)
 mirror-handed s h = record { mirrored = ap mirror (sym (read-mirror s)); premise = subst Premise (sym (read-mirror s)) h }
@@ -60,12 +60,13 @@ kind-low : (k : Kind) → kindNumber k ≤ 1
 kind-low Conservative = omega arith
 kind-low Easy = omega arith
 
-state-low : (s : State) → stateNumber s ≤ 2
+state-low : (s : State) → stateNumber s ≤ 3
 state-low Unused = omega arith
 state-low Waiting = omega arith
 state-low Running = omega arith
+state-low Cleanup = omega arith
 
-states-low : (js : List Job) → All (λ (r : Record). r .state ≤ 2) (map mirrorJob js)
+states-low : (js : List Job) → All (λ (r : Record). r .state ≤ 3) (map mirrorJob js)
 states-low [] = tt
 states-low (j ∷ js) = (state-low (j .state), states-low js)
 
@@ -73,9 +74,9 @@ pub handed-kind : (d : Desk) → Handed d → d .kind ≤ 1
 unfolding mirror
 handed-kind d h = subst (λ (e : Desk). e .kind ≤ 1) (sym (h .mirrored)) (kind-low (read d .settings .kind))
 
-pub handed-states : (d : Desk) → Handed d → All (λ (r : Record). r .state ≤ 2) (d .jobs)
+pub handed-states : (d : Desk) → Handed d → All (λ (r : Record). r .state ≤ 3) (d .jobs)
 unfolding mirror
-handed-states d h = subst (λ (e : Desk). All (λ (r : Record). r .state ≤ 2) (e .jobs)) (sym (h .mirrored)) (states-low (read d .jobs))
+handed-states d h = subst (λ (e : Desk). All (λ (r : Record). r .state ≤ 3) (e .jobs)) (sym (h .mirrored)) (states-low (read d .jobs))
 
 -- ## As a call has them, from what it read of the desk
 

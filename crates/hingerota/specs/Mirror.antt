@@ -1,5 +1,6 @@
 -- A scheduler, what it answers and what an opening gives, in numbers: what a host program holds. A function that is exported can hold no
--- enum, so a kind, a state and a refusal are numbers there. Document 01: "A record has ticket, nodes, estimate, state, start and promise".
+-- enum, so a kind, a state and a refusal are numbers there. Document 01: "A record has ticket, nodes, estimate, state, start and promise";
+-- document 02, No. 3: a record in cleanup, "and no other, keeps its end".
 -- Assumes nothing.
 use mathlib.Core.Path.{_≡_, refl}
 use mathlib.Core.List.{List, [], _∷_, map}
@@ -9,7 +10,7 @@ use lib.Dec.{eqb}
 use Rattle.scheduler.specs.declared.Kind.{Kind}
 use Rattle.scheduler.specs.declared.Kind.the-variants.{Conservative, Easy}
 use Rattle.scheduler.specs.declared.State.{State}
-use Rattle.scheduler.specs.declared.State.the-variants.{Unused, Waiting, Running}
+use Rattle.scheduler.specs.declared.State.the-variants.{Unused, Waiting, Running, Cleanup}
 use Rattle.scheduler.specs.declared.Job.{Job}
 use Rattle.scheduler.specs.declared.Scheduler.{Scheduler}
 use Rattle.scheduler.specs.declared.Submission.{Submission}
@@ -40,16 +41,32 @@ abbrev pub stateNumber : State → ℕ
 stateNumber Unused = 0
 stateNumber Waiting = 1
 stateNumber Running = 2
+stateNumber Cleanup = 3
 
 abbrev pub mirrorJob : Job → Record
-mirrorJob j = record { ticket = j .ticket; nodes = j .nodes; estimate = j .estimate; state = stateNumber (j .state); start = j .start; promise = j .promise }
+mirrorJob j = record {
+  ticket = j .ticket;
+  nodes = j .nodes;
+  estimate = j .estimate;
+  state = stateNumber (j .state);
+  start = j .start;
+  promise = j .promise;
+  end = j .end;
+}
 
 -- an unused slot is all zero here too
 abbrev pub noRecord : Record
 noRecord = mirrorJob unused
 
 unfoldable pub mirror : Scheduler → Desk
-mirror d = record { kind = kindNumber (d .settings .kind); nodes = d .settings .nodes; clock = d .clock; next = d .next; jobs = map mirrorJob (d .jobs) }
+mirror d = record {
+  kind = kindNumber (d .settings .kind);
+  nodes = d .settings .nodes;
+  cleanup = d .settings .cleanup;
+  clock = d .clock;
+  next = d .next;
+  jobs = map mirrorJob (d .jobs);
+}
 
 -- what a host's order asks
 abbrev pub wanted : Order → Submission
@@ -61,13 +78,26 @@ abbrev pub kindOf : ℕ → Kind
 kindOf n = cond (eqb n 1) Easy Conservative
 
 abbrev pub stateOf : ℕ → State
-stateOf n = cond (eqb n 1) Waiting (cond (eqb n 2) Running Unused)
+stateOf n = cond (eqb n 1) Waiting (cond (eqb n 2) Running (cond (eqb n 3) Cleanup Unused))
 
 abbrev pub readRecord : Record → Job
-readRecord r = record { ticket = r .ticket; nodes = r .nodes; estimate = r .estimate; state = stateOf (r .state); start = r .start; promise = r .promise }
+readRecord r = record {
+  ticket = r .ticket;
+  nodes = r .nodes;
+  estimate = r .estimate;
+  state = stateOf (r .state);
+  start = r .start;
+  promise = r .promise;
+  end = r .end;
+}
 
 unfoldable pub read : Desk → Scheduler
-read d = record { settings = record { kind = kindOf (d .kind); nodes = d .nodes }; clock = d .clock; next = d .next; jobs = map readRecord (d .jobs) }
+read d = record {
+  settings = record { kind = kindOf (d .kind); nodes = d .nodes; cleanup = d .cleanup };
+  clock = d .clock;
+  next = d .next;
+  jobs = map readRecord (d .jobs);
+}
 
 -- ## What is read of a mirror is what was mirrored
 
@@ -79,6 +109,7 @@ state-back : (s : State) → stateOf (stateNumber s) ≡ s
 state-back Unused = refl
 state-back Waiting = refl
 state-back Running = refl
+state-back Cleanup = refl
 
 pub job-back : (j : Job) → readRecord (mirrorJob j) ≡ j
 job-back j = λ i. record {
@@ -87,8 +118,8 @@ job-back j = λ i. record {
   estimate = j .estimate;
   state = state-back (j .state) i;
   start = j .start;
-  promise =
-      j .promise;
+  promise = j .promise;
+  end = j .end;
 }
 
 jobs-back : (js : List Job) → map readRecord (map mirrorJob js) ≡ js
@@ -97,7 +128,12 @@ jobs-back (j ∷ js) = λ i. job-back j i ∷ jobs-back js i
 
 pub read-mirror : (d : Scheduler) → read (mirror d) ≡ d
 unfolding read mirror
-read-mirror d = λ i. record { settings = record { kind = kind-back (d .settings .kind) i; nodes = d .settings .nodes }; clock = d .clock; next = d .next; jobs = jobs-back (d .jobs) i }
+read-mirror d = λ i. record {
+  settings = record { kind = kind-back (d .settings .kind) i; nodes = d .settings .nodes; cleanup = d .settings .cleanup };
+  clock = d .clock;
+  next = d .next;
+  jobs = jobs-back (d .jobs) i;
+}
 
 -- ## What calls give
 
@@ -129,7 +165,8 @@ refusalOf n =
     (cond (eqb n 8) refusal.ProfileTooLong
     (cond (eqb n 9) refusal.Malformed
     (cond (eqb n 10) refusal.TooShort
-    (cond (eqb n 11) refusal.NotWaiting refusal.None))))))))))
+    (cond (eqb n 11) refusal.NotWaiting
+    (cond (eqb n 12) refusal.CleanupOutOfRange refusal.None)))))))))))
 
 abbrev pub readTickets : Tickets → scheduler-tickets.Tickets
 readTickets t = record { count = t .count; list = t .list }
@@ -158,6 +195,7 @@ refusal-back refusal.ProfileTooLong = refl
 refusal-back refusal.Malformed = refl
 refusal-back refusal.TooShort = refl
 refusal-back refusal.NotWaiting = refl
+refusal-back refusal.CleanupOutOfRange = refl
 
 pub read-answer : (a : scheduler-answer.Answer) → readAnswer (mirrorAnswer a) ≡ a
 read-answer a = λ i. record {

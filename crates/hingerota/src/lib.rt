@@ -18,12 +18,13 @@ use scheduler::Settings;
 use scheduler::State;
 use scheduler::Submission;
 
-// What a desk is opened with: the machine's nodes, the first minute, the first ticket.
+// What a desk is opened with: the machine's nodes, the first minute, the first ticket, and for how many minutes nodes stay taken after a run.
 #[repr(C)]
 pub struct Opening {
     pub nodes: u32,
     pub minute: u32,
     pub ticket: u32,
+    pub cleanup: u32,
 }
 
 // What is asked for a job.
@@ -33,7 +34,7 @@ pub struct Order {
     pub estimate: u32,
 }
 
-// A job in numbers: state 0 unused, 1 waiting, 2 running.
+// A job in numbers: state 0 unused, 1 waiting, 2 running, 3 in cleanup.
 #[repr(C)]
 pub struct Record {
     pub ticket: u32,
@@ -42,6 +43,7 @@ pub struct Record {
     pub state: u32,
     pub start: u32,
     pub promise: u32,
+    pub end: u32,
 }
 
 // A scheduler in numbers: kind 0 conservative, 1 EASY.
@@ -49,6 +51,7 @@ pub struct Record {
 pub struct Desk {
     pub kind: u32,
     pub nodes: u32,
+    pub cleanup: u32,
     pub clock: u32,
     pub next: u32,
     pub jobs: [Record; 64],
@@ -130,6 +133,9 @@ fn state_of(n: u32) -> State
     if n == 2 {
         return State::Running;
     }
+    if n == 3 {
+        return State::Cleanup;
+    }
     State::Unused
 }
 
@@ -140,6 +146,7 @@ fn state_number(s: State) -> u32
         State::Unused => 0,
         State::Waiting => 1,
         State::Running => 2,
+        State::Cleanup => 3,
     }
 }
 
@@ -153,6 +160,7 @@ fn read_record(r: Record) -> Job
         state: state_of(r.state),
         start: r.start,
         promise: r.promise,
+        end: r.end,
     }
 }
 
@@ -167,6 +175,7 @@ fn mirror_job(j: Job) -> Record
         state: state_number(s),
         start: j.start,
         promise: j.promise,
+        end: j.end,
     }
 }
 
@@ -186,6 +195,7 @@ fn read(d: Desk) -> Scheduler
         settings: Settings {
             kind: kind,
             nodes: d.nodes,
+            cleanup: d.cleanup,
         },
         clock: d.clock,
         next: d.next,
@@ -209,6 +219,7 @@ fn mirror(s: Scheduler) -> Desk
     Desk {
         kind: kind_number(kind),
         nodes: s.settings.nodes,
+        cleanup: s.settings.cleanup,
         clock: s.clock,
         next: s.next,
         jobs: jobs,
@@ -358,6 +369,7 @@ pub extern "C" fn hingerota_open_promise(opening: Opening) -> Opened
         settings: Settings {
             kind: Kind::Conservative,
             nodes: opening.nodes,
+            cleanup: opening.cleanup,
         },
         minute: opening.minute,
         ticket: opening.ticket,
@@ -373,6 +385,7 @@ pub extern "C" fn hingerota_open_loose(opening: Opening) -> Opened
         settings: Settings {
             kind: Kind::Easy,
             nodes: opening.nodes,
+            cleanup: opening.cleanup,
         },
         minute: opening.minute,
         ticket: opening.ticket,

@@ -1,28 +1,35 @@
 -- A ticket that is over is in no later answer: once a job is withdrawn or its run has ended, no call starts it, ends its run, withdraws it,
 -- forecasts it or gives its ticket again.
 -- Assumes nothing.
-use mathlib.Core.Path.{_≡_, sym, ap, subst, _∙_}
-use mathlib.Core.Bool.{Bool, true, false, not}
+use mathlib.Core.Path.{_≡_, refl, sym, ap, subst, _∙_}
+use mathlib.Core.Bool.{Bool, true, false}
 use mathlib.Core.List.{List, [], _∷_, _++_, map}
 use mathlib.Core.Logic.{_⊎_, inl, inr}
 use mathlib.Core.Option.{some}
-use Prim.Native.Nat.{ℕ, suc, _≤_, _<_}
+use Prim.Native.Nat.{ℕ, suc, _+_, _≤_, _<_}
+use lib.Dec.{ltb}
 use native.Mathlib.Omega.{arith}
 use Rattle.lists.specs.Tests.{case, true-false}
 use Rattle.lists.specs.Lists.{keep, elem, All, In, in-append, in-map, map-in, keep-in}
 use Rattle.scheduler.specs.declared.Kind.{Kind}
 use Rattle.scheduler.specs.declared.Job.{Job}
-use Rattle.scheduler.specs.Jobs.{isWaiting, isRunning}
+use Rattle.scheduler.specs.declared.State.{State}
+use Rattle.scheduler.specs.declared.State.the-variants.{Unused, Waiting, Running, Cleanup}
+use Rattle.scheduler.specs.States.{running?, cleaning?}
+use Rattle.scheduler.specs.Jobs.{isWaiting, isRunning, isCleaning}
 use Rattle.scheduler.specs.Settings.{cleanup}
 use Rattle.scheduler.specs.Table.{ticketsOf}
 use Rattle.scheduler.specs.Model.{Model}
 use Rattle.scheduler.specs.Answers.{Forecast}
 use Rattle.jobs.specs.Order.{asc-one, elem-job}
+use Rattle.jobs.specs.Soundness.{waiting-clean, running-clean}
 use Rattle.history.specs.Calls.{Call, Rules, Event, events}
 use Rattle.history.specs.News.{Newcomer, News, news}
 use Rattle.history.specs.Tickets.{nextAfter}
-use Rattle.history_proof.specs.Obligations.{JobShown, shown, isLive, remark, newly, comers, said, Queued, Comes, Lawful, Ticketed}
-use Rattle.history_proof.specs.Departures.{lives, leavers, lives-by, waits-runs}
+use Rattle.history.specs.Book.{over, fateAfter}
+use Rattle.history_proof.specs.Obligations.{JobShown, fateBy, shown, live, isLive, remark, newly, comers, said, Queued, Comes, Lawful, Ticketed}
+use Rattle.history_proof.specs.Departures.{lives, withdrawn-dies}
+use Rattle.history_proof.specs.Cleaning.{cleans, cleans-job}
 
 -- an event says nothing of this ticket
 pub record Unsaid (t : ℕ) (e : News) : Type 0 where
@@ -36,14 +43,40 @@ pub record Unsaid (t : ℕ) (e : News) : Type 0 where
 abbrev pub Silent : ℕ → List Event → Type 0
 Silent t es = All (λ (e : Event). Unsaid t (news e)) es
 
--- the ticket was given, and no live job has it
+-- the ticket was given, and no job has it but one in cleanup
 pub record Gone (m : Model) (t : ℕ) : Type 0 where
   pub given : t < m .next
-  pub absent : (j : Job) → In j (m .jobs) → j .ticket ≡ t → ⊥
+  pub absent : (j : Job) → In j (m .jobs) → j .ticket ≡ t → isCleaning j ≡ true
 
--- so none that a test picks
-gone-picked : (m : Model) (t : ℕ) (p : Job → Bool) → Gone m t → elem t (ticketsOf (keep p (m .jobs))) ≡ true → ⊥
-gone-picked m t p g e = let j = elem-job t (keep p (m .jobs)) e in g .absent (j .0) (keep-in p (m .jobs) (j .1) .0) (j .2)
+-- so none that waits or runs
+gone-picked : (m : Model) (t : ℕ) (p : Job → Bool) → ((j : Job) → p j ≡ true → isCleaning j ≡ false) → Gone m t
+    → elem t (ticketsOf (keep p (m .jobs))) ≡ true → ⊥
+gone-picked m t p f g e =
+    let j = elem-job t (keep p (m .jobs)) e in
+    let k = keep-in p (m .jobs) (j .1) in
+    true-false (isCleaning (j .0)) (g .absent (j .0) (k .0) (j .2)) (f (j .0) (k .1))
+
+gone-waits : (m : Model) (t : ℕ) → Gone m t → Queued m t → ⊥
+gone-waits m t = gone-picked m t isWaiting (λ j w. waiting-clean (j .state) w)
+
+abbrev ticketShown : JobShown → ℕ
+ticketShown x = x .ticket
+
+-- whose run is over, and who is live, is in cleanup
+over-cleans : (k c s n : ℕ) → live (over k c s n) ≡ true → cleans (over k c s n) ≡ true
+over-cleans k c s n l = case (ltb c (n + k)) (λ q. rw q) (λ q. true-false false (rw q at l) refl)
+
+-- one that is in cleanup stays so, and one whose run ends comes to be so
+cleans-on : (k c : ℕ) (e : News) (t : ℕ) (s : State) (b n : ℕ) → (cleaning? s ≡ true) ⊎ ((running? s ≡ true) × (elem t (e .ended) ≡ true))
+    → live (fateAfter k c e t (fateBy s b n)) ≡ true → cleans (fateAfter k c e t (fateBy s b n)) ≡ true
+cleans-on k c e t Unused b n (inl q) l = true-false false q refl
+cleans-on k c e t Unused b n (inr (r, x)) l = true-false false r refl
+cleans-on k c e t Waiting b n (inl q) l = true-false false q refl
+cleans-on k c e t Waiting b n (inr (r, x)) l = true-false false r refl
+cleans-on k c e t Running b n (inl q) l = true-false false q refl
+cleans-on k c e t Running b n (inr (r, x)) l = rw x (over-cleans k c b c (rw x at l))
+cleans-on k c e t Cleanup b n (inl q) l = over-cleans k c b n l
+cleans-on k c e t Cleanup b n (inr (r, x)) l = true-false false r refl
 
 -- the next ticket never falls
 next-up : (os : List Newcomer) (n : ℕ) → n ≤ nextAfter os n
@@ -58,60 +91,68 @@ module _ {k : Kind} {R : Rules} {Valid : Model → Type 0} {OnCourse : Model →
     abbrev r : News
     r = said R m c
 
+    abbrev lasts : ℕ
+    lasts = cleanup (m′ .settings)
+
     -- a job after the call was there before it and lives on, or has the ticket given now
     data From (j : Job) : Type 0 where
-      before : (i : Job) → In i (m .jobs) → i .ticket ≡ j .ticket → lives (m′ .clock) r i ≡ true → From j
+      before : (i : Job) → In i (m .jobs) → shown j ≡ remark lasts (m′ .clock) r (shown i) → lives lasts (m′ .clock) r i ≡ true → From j
       now : j .ticket ≡ m .next → From j
 
     from : (j : Job) → In j (m′ .jobs) → From j
-    unfolding cleanup
     from j i =
         let xs = map shown (m .jobs) ++ comers r in
-        let k = keep-in isLive (map (remark 0 (m′ .clock) r) xs) (subst (In (shown j)) (L .tells m c v) (in-map shown i)) in
-        let x = map-in (remark 0 (m′ .clock) r) xs (k .0) in
-        go (x .0) (ap ticket (x .2)) (sym (ap isLive (x .2)) ∙ k .1) (in-append (map shown (m .jobs)) (x .1))
+        let k = keep-in isLive (map (remark lasts (m′ .clock) r) xs) (subst (In (shown j)) (L .tells m c v) (in-map shown i)) in
+        let x = map-in (remark lasts (m′ .clock) r) xs (k .0) in
+        go (x .0) (x .2) (sym (ap isLive (x .2)) ∙ k .1) (in-append (map shown (m .jobs)) (x .1))
       where
-        ticket : JobShown → ℕ
-        ticket x = x .ticket
-
-        go : (x : JobShown) → j .ticket ≡ x .ticket → isLive (remark 0 (m′ .clock) r x) ≡ true → In x (map shown (m .jobs)) ⊎ In x (comers r) → From j
+        go : (x : JobShown) → shown j ≡ remark lasts (m′ .clock) r x → isLive (remark lasts (m′ .clock) r x) ≡ true
+            → In x (map shown (m .jobs)) ⊎ In x (comers r) → From j
         go x e l (inl k) =
             let y = map-in shown (m .jobs) k in
-            before (y .0) (y .1) (sym (e ∙ ap ticket (y .2))) (sym (ap (λ (z : JobShown). isLive (remark 0 (m′ .clock) r z)) (y .2)) ∙ l)
-        go x e l (inr k) = let y = map-in newly (r .came) k in now (e ∙ ap ticket (y .2) ∙ T .gives m c (y .0) v (y .1))
+            before (y .0) (y .1) (e ∙ ap (remark lasts (m′ .clock) r) (y .2)) (sym (ap (λ (z : JobShown). isLive (remark lasts (m′ .clock) r z)) (y .2)) ∙ l)
+        go x e l (inr k) = let y = map-in newly (r .came) k in now (ap ticketShown e ∙ ap ticketShown (y .2) ∙ T .gives m c (y .0) v (y .1))
 
-    -- who is gone after the call: a ticket given before it that no job has that lives on
-    gone-after : (t : ℕ) → t < m .next → ((i : Job) → In i (m .jobs) → i .ticket ≡ t → lives (m′ .clock) r i ≡ true → ⊥) → Gone m′ t
+    -- who is gone after the call: a ticket given before it that no job has that lives on, but in cleanup
+    gone-after : (t : ℕ) → t < m .next
+        → ((i : Job) → In i (m .jobs) → i .ticket ≡ t → lives lasts (m′ .clock) r i ≡ true → (isCleaning i ≡ true) ⊎ ((isRunning i ≡ true) × (elem t (r .ended) ≡ true)))
+        → Gone m′ t
     gone-after t l f = record { given = omega (arith, T .next m c v, next-up (r .came) (m .next)); absent = λ j i e. by j e (from j i) }
       where
-        by : (j : Job) → j .ticket ≡ t → From j → ⊥
-        by j e (before i k q y) = f i k (q ∙ e) y
-        by j e (now q) = omega arith
+        by : (j : Job) → j .ticket ≡ t → From j → isCleaning j ≡ true
+        by j e (before i k q y) =
+            let u : i .ticket ≡ t = sym (ap ticketShown q) ∙ e in
+            sym (cleans-job (j .state) (j .start) (j .end))
+            ∙ ap (λ (x : JobShown). cleans (x .fate)) q
+            ∙ cleans-on lasts (m′ .clock) r (i .ticket) (i .state) (i .start) (i .end) (named (sym u) (f i k u y)) y
+          where
+            named : {x y : ℕ} {A : Type 0} → x ≡ y → A ⊎ ((isRunning i ≡ true) × (elem x (r .ended) ≡ true)) → A ⊎ ((isRunning i ≡ true) × (elem y (r .ended) ≡ true))
+            named e (inl a) = inl a
+            named e (inr (b, z)) = inr (b, subst (λ (t : ℕ). elem t (r .ended) ≡ true) e z)
+        by j e (now q) = absurd (omega arith)
 
     gone-stays : (t : ℕ) → Gone m t → Gone m′ t
-    gone-stays t g = gone-after t (g .given) (λ i k e y. g .absent i k e)
+    gone-stays t g = gone-after t (g .given) (λ i k e y. inl (g .absent i k e))
 
-    -- who leaves is gone
-    left-gone : (t : ℕ) (runs : Bool) (j : Job) → In j (m .jobs) → j .ticket ≡ t → isRunning j ≡ runs → elem t (leavers (m′ .clock) r runs) ≡ true → Gone m′ t
-    left-gone t runs j i e s q =
-        gone-after t (omega (arith, T .sound m v .below j i)) (λ x k z y.
-        let o : x ≡ j = asc-one 1 (m .jobs) x j (T .sound m v .asc) k i (z ∙ sym e) in
-        true-false (lives (m′ .clock) r j) (sym (ap (lives (m′ .clock) r) o) ∙ y) (lives-by (m′ .clock) r j ∙ ap not (named j e s)))
-      where
-        named : (j : Job) → j .ticket ≡ t → isRunning j ≡ runs → elem (j .ticket) (leavers (m′ .clock) r (isRunning j)) ≡ true
-        named j e s = rw (e, s) q
+    -- the one job with a ticket
+    alone : (t : ℕ) (i j : Job) → In i (m .jobs) → In j (m .jobs) → i .ticket ≡ t → j .ticket ≡ t → i ≡ j
+    alone t i j k l e q = asc-one 1 (m .jobs) i j (T .sound m v .asc) k l (e ∙ sym q)
 
     pub withdrawn-gone : (t : ℕ) → elem t (r .withdrew) ≡ true → Gone m′ t
     withdrawn-gone t q =
         let j = elem-job t (keep isWaiting (m .jobs)) (L .withdraws m c t v q) in
         let p = keep-in isWaiting (m .jobs) (j .1) in
-        left-gone t false (j .0) (p .0) (j .2) (waits-runs (j .0 .state) (p .1)) q
+        gone-after t (omega (arith, j .2, T .sound m v .below (j .0) (p .0))) (λ i k e y.
+        true-false (lives lasts (m′ .clock) r i) y
+        (withdrawn-dies lasts (m′ .clock) r i (ap isWaiting (alone t i (j .0) k (p .0) e (j .2)) ∙ p .1)
+        (ap (λ (t : ℕ). elem t (r .withdrew)) e ∙ q)))
 
     pub ended-gone : (t : ℕ) → elem t (r .ended) ≡ true → Gone m′ t
     ended-gone t q =
         let j = elem-job t (keep isRunning (m .jobs)) (T .ends m c t v q) in
         let p = keep-in isRunning (m .jobs) (j .1) in
-        left-gone t true (j .0) (p .0) (j .2) (p .1) q
+        gone-after t (omega (arith, j .2, T .sound m v .below (j .0) (p .0)))
+        (λ i k e y. inr (ap isRunning (alone t i (j .0) k (p .0) e (j .2)) ∙ p .1, q))
 
     -- and the call that withdraws does not start
     pub withdrawn-unstarted : (t : ℕ) → elem t (r .withdrew) ≡ true → elem t (r .started) ≡ false
@@ -121,10 +162,10 @@ module _ {k : Kind} {R : Rules} {Valid : Model → Type 0} {OnCourse : Model →
     gone-unsaid : (t : ℕ) → Gone m t → Unsaid t r
     gone-unsaid t g = record {
       came = new;
-      withdrew = never (r .withdrew) (λ e. gone-picked m t isWaiting g (L .withdraws m c t v e));
-      ended = never (r .ended) (λ e. gone-picked m t isRunning g (T .ends m c t v e));
+      withdrew = never (r .withdrew) (λ e. gone-waits m t g (L .withdraws m c t v e));
+      ended = never (r .ended) (λ e. gone-picked m t isRunning (λ j q. running-clean (j .state) q) g (T .ends m c t v e));
       started = never (r .started) (λ e. waited (L .starts m c t v e .1));
-      head = λ f h e. gone-picked m′ t isWaiting (gone-stays t g) (subst (Queued m′) e (T .waits m′ (f .ticket) (f .minute) (L .forecasts m c f v h)));
+      head = λ f h e. gone-waits m′ t (gone-stays t g) (subst (Queued m′) e (T .waits m′ (f .ticket) (f .minute) (L .forecasts m c f v h)));
     }
       where
         never : (ts : List ℕ) → (elem t ts ≡ true → ⊥) → elem t ts ≡ false
@@ -134,7 +175,7 @@ module _ {k : Kind} {R : Rules} {Valid : Model → Type 0} {OnCourse : Model →
         new (o, i, e) = omega (arith, g .given, T .gives m c o v i)
 
         waited : Queued m t ⊎ Comes r t → ⊥
-        waited (inl q) = gone-picked m t isWaiting g q
+        waited (inl q) = gone-waits m t g q
         waited (inr o) = new o
 
   pub gone-silent : (m : Model) (t : ℕ) (cs : List Call) → Valid m → Gone m t → Silent t (events R m cs)

@@ -2,4 +2,5 @@ pub mod Obligations
 pub mod Departures
 pub mod Seen
 pub mod Proof
+pub mod Cleaning
 pub mod Gone

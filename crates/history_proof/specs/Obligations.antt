@@ -12,7 +12,7 @@ use Rattle.lists.specs.Lists.{keep, elem, All, In}
 use Rattle.scheduler.specs.declared.Kind.{Kind}
 use Rattle.scheduler.specs.declared.Kind.the-variants.{Conservative, Easy}
 use Rattle.scheduler.specs.declared.State.{State}
-use Rattle.scheduler.specs.declared.State.the-variants.{Unused, Waiting, Running}
+use Rattle.scheduler.specs.declared.State.the-variants.{Unused, Waiting, Running, Cleanup}
 use Rattle.scheduler.specs.declared.Job.{Job}
 use Rattle.scheduler.specs.Jobs.{isWaiting, isRunning}
 use Rattle.scheduler.specs.Settings.{cleanup, unit}
@@ -33,13 +33,14 @@ pub record JobShown : Type 0 where
   pub promise : ℕ
   pub fate : Fate
 
-abbrev pub fateBy : State → ℕ → Fate
-fateBy Unused s = waiting
-fateBy Waiting s = waiting
-fateBy Running s = running s
+abbrev pub fateBy : State → (start end : ℕ) → Fate
+fateBy Unused s e = waiting
+fateBy Waiting s e = waiting
+fateBy Running s e = running s
+fateBy Cleanup s e = cleaning s e
 
 abbrev pub shown : Job → JobShown
-shown j = record { ticket = j .ticket; nodes = j .nodes; promise = j .promise; fate = fateBy (j .state) (j .start) }
+shown j = record { ticket = j .ticket; nodes = j .nodes; promise = j .promise; fate = fateBy (j .state) (j .start) (j .end) }
 
 abbrev pub live : Fate → Bool
 live waiting = true

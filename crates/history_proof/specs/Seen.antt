@@ -12,10 +12,10 @@ use Rattle.lists.specs.Tests.{case, true-false, both, on}
 use Rattle.lists.specs.Lists.{keep, elem, In, in-nil, in-cons, keep-append, keep-all, sum, sum-kept, sum-map, sum-cong, All, all-in, keep-keep, keep-cong}
 use Rattle.lists.specs.Lists.{keep-map, map-cong}
 use Rattle.scheduler.specs.declared.State.{State}
-use Rattle.scheduler.specs.declared.State.the-variants.{Unused, Waiting, Running}
+use Rattle.scheduler.specs.declared.State.the-variants.{Unused, Waiting, Running, Cleanup}
 use Rattle.scheduler.specs.declared.Job.{Job}
 use Rattle.scheduler.specs.Jobs as jobs
-use Rattle.scheduler.specs.Jobs.{live?, waiting?, holding?}
+use Rattle.scheduler.specs.States.{live?, waiting?, holding?}
 use Rattle.scheduler.specs.Table.{nodesHeld, ticketsOf}
 use Rattle.scheduler.specs.Model.{Live}
 use Rattle.scheduler.specs.Answers.{Forecast}
@@ -119,16 +119,17 @@ queue-live xs =
 pub queue-seen : (xs : List Entry) → map entryTicket (keep isWaiting xs) ≡ queue (map seen xs)
 queue-seen xs = sym (ap (map shown-ticket) (keep-map waits-shown seen xs) ∙ map-map shown-ticket seen (keep isWaiting xs))
 
-waits-job : (s : State) (b : ℕ) → live? s ≡ true → waits (fateBy s b) ≡ waiting? s
-waits-job Unused b e = true-false false e refl
-waits-job Waiting b e = refl
-waits-job Running b e = refl
+waits-job : (s : State) (b n : ℕ) → live? s ≡ true → waits (fateBy s b n) ≡ waiting? s
+waits-job Unused b n e = true-false false e refl
+waits-job Waiting b n e = refl
+waits-job Running b n e = refl
+waits-job Cleanup b n e = refl
 
 queue-shown : (js : List Job) → All Live js → queue (map shown js) ≡ ticketsOf (keep jobs.isWaiting js)
 queue-shown js l =
     ap (map shown-ticket) (keep-map waits-shown shown js)
     ∙ map-map shown-ticket shown (keep (λ (j : Job). waits-shown (shown j)) js)
-    ∙ ap ticketsOf (keep-cong (λ (j : Job). waits-shown (shown j)) jobs.isWaiting js (λ j i. waits-job (j .state) (j .start) (all-in Live l i)))
+    ∙ ap ticketsOf (keep-cong (λ (j : Job). waits-shown (shown j)) jobs.isWaiting js (λ j i. waits-job (j .state) (j .start) (j .end) (all-in Live l i)))
 
 -- the tickets waiting by the book are those waiting by the model
 pub same-queue : (js : List Job) (xs : List Entry) → All Live js → map seen (keep isLiveEntry xs) ≡ map shown js
@@ -147,10 +148,11 @@ holds-live (cleaning s m) e = e
 holds-live (ended s) e = refl
 holds-live (withdrawn w) e = refl
 
-holds-job : (s : State) (t : ℕ) → holds (fateBy s t) ≡ holding? s
-holds-job Unused t = refl
-holds-job Waiting t = refl
-holds-job Running t = refl
+holds-job : (s : State) (b n : ℕ) → holds (fateBy s b n) ≡ holding? s
+holds-job Unused b n = refl
+holds-job Waiting b n = refl
+holds-job Running b n = refl
+holds-job Cleanup b n = refl
 
 -- the nodes held, by the book and by the model
 pub same-nodes : (js : List Job) (xs : List Entry) → map seen (keep isLiveEntry xs) ≡ map shown js → sum held-nodes xs ≡ nodesHeld js
@@ -159,4 +161,4 @@ same-nodes js xs e =
     ∙ sym (sum-map shown-nodes seen (keep isLiveEntry xs))
     ∙ ap (sum shown-nodes) e
     ∙ sum-map shown-nodes shown js
-    ∙ sum-cong (λ (j : Job). shown-nodes (shown j)) jobs.held js (λ j i. ap (λ (t : Bool). on t (j .nodes)) (holds-job (j .state) (j .start)))
+    ∙ sum-cong (λ (j : Job). shown-nodes (shown j)) jobs.held js (λ j i. ap (λ (t : Bool). on t (j .nodes)) (holds-job (j .state) (j .start) (j .end)))

@@ -1,42 +1,57 @@
--- Jobs leave the table: those that stay are written over the first slots one after another, and the slots after them are cleared.
+-- Runs end and jobs leave the table: those that remain are written over the first slots one after another, and the slots after them are
+-- unused.
 -- Assumes nothing.
 use Prim.Native.Nat.{ℕ, suc, _+_, _-_, _≤_, _<_}
 use native.Mathlib.Omega.{arith}
 use native.Mathlib.Numerals.{add-one}
 use mathlib.Core.Path.{_≡_, sym, ap, _∙_}
 use mathlib.Core.Bool.{true, false, not}
-use mathlib.Core.List.{List, [], _∷_, _++_, map-append, append-assoc, append-nil}
+use mathlib.Core.List.{List, [], _∷_, _++_, map, map-append, append-assoc, append-nil}
 use lib.ListN.{length, getD, take, drop, set, replicate, replicate-append-replicate, length-append, length-drop, drop-of-length-le, take-append-drop}
 use lib.Seq.{length-take-le, getD-drop, getD-append-add, drop-cons, set-at, take-all, take-append-seam}
-use Rattle.lists.specs.Lists.{keep}
 use Rattle.lists.specs.Loops.{keep-take-yes, keep-take-no}
-use Rattle.lists.specs.Pads.{pad, pad-push, pad-keep, keep-pad, length-pad}
+use Rattle.lists.specs.Pads.{pad, pad-push, pad-keep, keep-pad, map-pad, length-pad}
+use Rattle.scheduler.specs.declared.Settings.{Settings}
 use Rattle.scheduler.specs.declared.Job.{Job}
 use Rattle.scheduler.specs.declared.Scheduler.{Scheduler}
 use Rattle.scheduler.specs.declared.Select.{Select}
 use Rattle.scheduler.specs.declared.Tickets.{Tickets}
 use Rattle.scheduler.specs.Limits.{slots}
-use Rattle.scheduler.specs.Jobs.{unused, picks}
-use Rattle.scheduler.specs.Table.{withJobs, ticketsOf, tickets, staying}
-use Rattle.scheduler.specs.TableLaws.{picks-unused}
+use Rattle.scheduler.specs.Jobs.{unused, cleaning}
+use Rattle.scheduler.specs.Table.{withJobs, ticketsOf, tickets, ends, endedOf, leaves, staying, ceased, remaining}
+use Rattle.scheduler.specs.TableLaws.{ends-unused, leaves-unused, ceased-unused}
 use Rattle.scheduler.specs.Model.{Model, store, withModelJobs}
 
--- ## What leaves and what stays
+-- ## What leaves and what remains
 
 pub record Removed : Type 0 where
   pub tickets : Tickets
   pub scheduler : Scheduler
 
--- "The place of a finished stack is used again": those that stay move up, and the slots after them are unused
-unfoldable pub removed : Scheduler → Select → Removed
-removed d s = record { tickets = tickets (ticketsOf (keep (picks s) (d .jobs))); scheduler = withJobs d (pad slots unused (staying s (d .jobs))) }
+-- "The place of a finished stack is used again": those that remain move up, and the slots after them are unused
+unfoldable pub removed : Scheduler → (now : ℕ) → Select → Removed
+removed d now s = record {
+  tickets = tickets (endedOf s (d .jobs));
+  scheduler = withJobs d (pad slots unused (remaining (d .settings) now s (d .jobs)));
+}
 
-pub removed-stored : (m : Model) (s : Select) → length (m .jobs) ≤ slots
-    → removed (store m) s ≡ record { tickets = tickets (ticketsOf (keep (picks s) (m .jobs))); scheduler = store (withModelJobs m (staying s (m .jobs))) }
+-- of unused slots none remains but unused
+remaining-pad : (S : Settings) (now : ℕ) (s : Select) (js : List Job) → length js ≤ slots
+    → pad slots unused (remaining S now s (pad slots unused js)) ≡ pad slots unused (remaining S now s js)
+remaining-pad S now s js few =
+    sym (map-pad slots unused (ceased now s) (staying S s (pad slots unused js)) (ceased-unused now s))
+    ∙ ap (map (ceased now s)) (pad-keep slots unused (λ (j : Job). not (leaves S s j)) js (ap not (leaves-unused S s)) few)
+    ∙ map-pad slots unused (ceased now s) (staying S s js) (ceased-unused now s)
+
+pub removed-stored : (m : Model) (now : ℕ) (s : Select) → length (m .jobs) ≤ slots
+    → removed (store m) now s ≡ record {
+      tickets = tickets (endedOf s (m .jobs));
+      scheduler = store (withModelJobs m (remaining (m .settings) now s (m .jobs)));
+    }
 unfolding removed store
-removed-stored m s few = λ i. record {
-  tickets = tickets (ticketsOf (keep-pad slots unused (picks s) (m .jobs) (picks-unused s) i));
-  scheduler = withJobs (store m) (pad-keep slots unused (λ (j : Job). not (picks s j)) (m .jobs) (ap not (picks-unused s)) few i);
+removed-stored m now s few = λ i. record {
+  tickets = tickets (ticketsOf (keep-pad slots unused (ends s) (m .jobs) (ends-unused s) i));
+  scheduler = withJobs (store m) (remaining-pad (m .settings) now s (m .jobs) few i);
 }
 
 -- ## Slots written one after another
@@ -61,67 +76,111 @@ pad-grow xs k h =
     let e : k + 1 - length xs ≡ (k - length xs) + 1 = omega arith in
     rw (e, append-assoc xs (replicate (k - length xs) unused) (unused ∷ []), ← replicate-append-replicate (k - length xs) 1 unused)
 
--- over the first i slots of d: what `removed` says of all
-pub record Compacts (s : Select) (d e : Scheduler) (list : List ℕ) (kept gone i : ℕ) : Type 0 where
-  pub low : i ≤ 64
-  pub parts : kept + gone ≡ i
-  pub kept-is : kept ≡ length (staying s (take i (d .jobs)))
-  pub gone-is : gone ≡ length (ticketsOf (keep (picks s) (take i (d .jobs))))
-  pub scheduler-is : e ≡ withJobs d (staying s (take i (d .jobs)) ++ drop kept (d .jobs))
-  pub list-is : list ≡ pad 64 0 (ticketsOf (keep (picks s) (take i (d .jobs))))
+-- over the first i slots of d, what `removed` says of all: whose runs end, and who remains
+pub record Listed (s : Select) (d : Scheduler) (list : List ℕ) (gone i : ℕ) : Type 0 where
+  pub gone-low : gone ≤ i
+  pub gone-is : gone ≡ length (endedOf s (take i (d .jobs)))
+  pub list-is : list ≡ pad 64 0 (endedOf s (take i (d .jobs)))
 
-module _ {s : Select} {d e : Scheduler} {list : List ℕ} {kept gone i : ℕ} (v : Compacts s d e list kept gone i) (len : length (d .jobs) ≡ 64) (h : i < 64) where
+pub record Stored (now : ℕ) (s : Select) (d e : Scheduler) (kept i : ℕ) : Type 0 where
+  pub kept-low : kept ≤ i
+  pub kept-is : kept ≡ length (remaining (d .settings) now s (take i (d .jobs)))
+  pub scheduler-is : e ≡ withJobs d (remaining (d .settings) now s (take i (d .jobs)) ++ drop kept (d .jobs))
+
+pub record Compacts (now : ℕ) (s : Select) (d e : Scheduler) (list : List ℕ) (kept gone i : ℕ) : Type 0 where
+  pub low : i ≤ 64
+  pub listed : Listed s d list gone i
+  pub stored : Stored now s d e kept i
+
+module _ {now : ℕ} {s : Select} {d e : Scheduler} {list : List ℕ} {kept gone i : ℕ} (v : Compacts now s d e list kept gone i) (len : length (d .jobs) ≡ 64)
+    (h : i < 64) where
   abbrev xs : List Job
   xs = d .jobs
 
   abbrev x : Job
   x = getD xs i unused
 
+  abbrev S : Settings
+  S = d .settings
+
+  abbrev left : List Job
+  left = remaining S now s (take i xs)
+
+  inside : i < length xs
+  inside = omega arith
+
   -- the slot is as it was
   pub still-there : getD (e .jobs) i unused ≡ x
   still-there =
-      let stay = staying s (take i xs) in
-      let n : i ≡ length stay + (i - kept) = omega (arith, v .kept-is, v .parts) in
-      let k : kept + (i - kept) ≡ i = omega (arith, v .parts) in
-      ap (λ (y : Scheduler). getD (y .jobs) i unused) (v .scheduler-is)
-      ∙ ap (λ (m : ℕ). getD (stay ++ drop kept xs) m unused) n
-      ∙ getD-append-add stay (drop kept xs) (i - kept) unused
+      let n : i ≡ length left + (i - kept) = omega (arith, v .stored .kept-is, v .stored .kept-low) in
+      let k : kept + (i - kept) ≡ i = omega (arith, v .stored .kept-low) in
+      ap (λ (y : Scheduler). getD (y .jobs) i unused) (v .stored .scheduler-is)
+      ∙ ap (λ (m : ℕ). getD (left ++ drop kept xs) m unused) n
+      ∙ getD-append-add left (drop kept xs) (i - kept) unused
       ∙ getD-drop kept xs (i - kept) unused
       ∙ ap (λ (m : ℕ). getD xs m unused) k
 
-  pub gone-step : picks s x ≡ true → Compacts s d e (set list gone (x .ticket)) kept (gone + 1) (i + 1)
-  gone-step t =
-      let in₀ : i < length xs = omega arith in
-      let eG = keep-take-yes unused (picks s) xs i in₀ t in
-      let eK = keep-take-no unused (λ (j : Job). not (picks s j)) xs i in₀ (ap not t) in
+  -- its run ends, or not
+  listed-yes : ends s x ≡ true → Listed s d (set list gone (x .ticket)) (gone + 1) (i + 1)
+  listed-yes t =
+      let eG = keep-take-yes unused (ends s) xs i inside t in
       record {
-        low = omega arith;
-        parts = omega (arith, v .parts);
-        kept-is = rw eK (v .kept-is);
-        gone-is = rw (eG, map-append, length-append) (ap (λ (n : ℕ). n + 1) (v .gone-is));
-        scheduler-is = rw eK (v .scheduler-is);
+        gone-low = omega (arith, v .listed .gone-low);
+        gone-is = rw (eG, map-append, length-append) (ap (λ (n : ℕ). n + 1) (v .listed .gone-is));
         list-is =
             rw (eG, map-append)
-            (ap (λ (l : List ℕ). set l gone (x .ticket)) (v .list-is)
-            ∙ pad-push 64 0 (ticketsOf (keep (picks s) (take i xs))) (x .ticket) gone (sym (v .gone-is)) (omega (arith, v .parts)));
+            (ap (λ (l : List ℕ). set l gone (x .ticket)) (v .listed .list-is)
+            ∙ pad-push 64 0 (endedOf s (take i xs)) (x .ticket) gone (sym (v .listed .gone-is)) (omega (arith, v .listed .gone-low)));
       }
 
-  pub kept-step : picks s x ≡ false → Compacts s d (withJobs e (set (e .jobs) kept x)) list (kept + 1) gone (i + 1)
-  kept-step t =
-      let in₀ : i < length xs = omega arith in
-      let eG = keep-take-no unused (picks s) xs i in₀ t in
-      let eK = keep-take-yes unused (λ (j : Job). not (picks s j)) xs i in₀ (ap not t) in
+  listed-no : ends s x ≡ false → Listed s d list gone (i + 1)
+  listed-no t =
+      let eG = keep-take-no unused (ends s) xs i inside t in
       record {
-        low = omega arith;
-        parts = omega (arith, v .parts);
-        kept-is = rw (eK, length-append) (ap (λ (n : ℕ). n + 1) (v .kept-is));
-        gone-is = rw eG (v .gone-is);
-        scheduler-is =
-            rw eK
-            (ap (λ (y : Scheduler). withJobs y (set (y .jobs) kept x)) (v .scheduler-is)
-            ∙ ap (withJobs d) (overwrite (staying s (take i xs)) xs x kept (sym (v .kept-is)) (omega (arith, v .parts))));
-        list-is = rw eG (v .list-is);
+        gone-low = omega (arith, v .listed .gone-low);
+        gone-is = rw eG (v .listed .gone-is);
+        list-is = rw eG (v .listed .list-is);
       }
+
+  -- it remains, or not
+  stored-yes : leaves S s x ≡ false → (y : Job) → y ≡ ceased now s x → Stored now s d (withJobs e (set (e .jobs) kept y)) (kept + 1) (i + 1)
+  stored-yes t y q =
+      let grown : remaining S now s (take (i + 1) xs) ≡ left ++ (y ∷ []) =
+      ap (map (ceased now s)) (keep-take-yes unused (λ (j : Job). not (leaves S s j)) xs i inside (ap not t))
+      ∙ map-append (ceased now s) (staying S s (take i xs)) (x ∷ [])
+      ∙ ap (λ (z : Job). left ++ (z ∷ [])) (sym q) in
+      record {
+        kept-low = omega (arith, v .stored .kept-low);
+        kept-is = rw (grown, length-append) (ap (λ (n : ℕ). n + 1) (v .stored .kept-is));
+        scheduler-is =
+            rw grown
+            (ap (λ (z : Scheduler). withJobs z (set (z .jobs) kept y)) (v .stored .scheduler-is)
+            ∙ ap (withJobs d) (overwrite left xs y kept (sym (v .stored .kept-is)) (omega (arith, v .stored .kept-low))));
+      }
+
+  stored-no : leaves S s x ≡ true → Stored now s d e kept (i + 1)
+  stored-no t =
+      let same : remaining S now s (take (i + 1) xs) ≡ left =
+      ap (map (ceased now s)) (keep-take-no unused (λ (j : Job). not (leaves S s j)) xs i inside (ap not t)) in
+      record {
+        kept-low = omega (arith, v .stored .kept-low);
+        kept-is = rw same (v .stored .kept-is);
+        scheduler-is = rw same (v .stored .scheduler-is);
+      }
+
+  -- the four ways of a slot
+  pub gone-step : ends s x ≡ true → leaves S s x ≡ true → Compacts now s d e (set list gone (x .ticket)) kept (gone + 1) (i + 1)
+  gone-step t l = record { low = omega arith; listed = listed-yes t; stored = stored-no l }
+
+  pub cleaning-step : ends s x ≡ true → leaves S s x ≡ false
+      → Compacts now s d (withJobs e (set (e .jobs) kept (cleaning now x))) (set list gone (x .ticket)) (kept + 1) (gone + 1) (i + 1)
+  cleaning-step t l = record { low = omega arith; listed = listed-yes t; stored = stored-yes l (cleaning now x) (rw t) }
+
+  pub released-step : ends s x ≡ false → leaves S s x ≡ true → Compacts now s d e list kept gone (i + 1)
+  released-step t l = record { low = omega arith; listed = listed-no t; stored = stored-no l }
+
+  pub kept-step : ends s x ≡ false → leaves S s x ≡ false → Compacts now s d (withJobs e (set (e .jobs) kept x)) list (kept + 1) gone (i + 1)
+  kept-step t l = record { low = omega arith; listed = listed-no t; stored = stored-yes l x (rw t) }
 
 -- the slots of d from `from` on, up to i, are unused
 pub record Clears (from : ℕ) (d e : Scheduler) (i : ℕ) : Type 0 where
@@ -168,30 +227,31 @@ module _ {from : ℕ} {d e : Scheduler} {i : ℕ} (v : Clears from d e i) (len :
 
 -- ## Both
 
-module _ {s : Select} {d e : Scheduler} {list : List ℕ} {kept gone i : ℕ} (v : Compacts s d e list kept gone i) (len : length (d .jobs) ≡ 64) where
+module _ {now : ℕ} {s : Select} {d e : Scheduler} {list : List ℕ} {kept gone i : ℕ} (v : Compacts now s d e list kept gone i)
+    (len : length (d .jobs) ≡ 64) where
   pub compacts-length : length (e .jobs) ≡ 64
   compacts-length =
       omega (
         arith,
-        ap (λ (y : Scheduler). length (y .jobs)) (v .scheduler-is),
-        length-append (staying s (take i (d .jobs))) (drop kept (d .jobs)),
+        ap (λ (y : Scheduler). length (y .jobs)) (v .stored .scheduler-is),
+        length-append (remaining (d .settings) now s (take i (d .jobs))) (drop kept (d .jobs)),
         length-drop kept (d .jobs),
-        v .kept-is,
-        v .parts,
+        v .stored .kept-is,
+        v .stored .kept-low,
         v .low,
       )
 
   pub compacted : {f : Scheduler} {k : ℕ} → Clears kept e f k → 64 ≤ i → 64 ≤ k
-      → record { tickets = record { count = gone; list = list }; scheduler = f } ≡ removed d s
+      → record { tickets = record { count = gone; list = list }; scheduler = f } ≡ removed d now s
   unfolding removed tickets
   compacted {f} u a b =
       let all : take i (d .jobs) ≡ d .jobs = take-all i (d .jobs) (omega arith) in
-      let stay = staying s (take i (d .jobs)) in
-      let table : f ≡ withJobs d (pad 64 unused stay) =
+      let left = remaining (d .settings) now s (take i (d .jobs)) in
+      let table : f ≡ withJobs d (pad 64 unused left) =
       clears-done u compacts-length b
-      ∙ ap (λ (y : Scheduler). withJobs y (pad 64 unused (take kept (y .jobs)))) (v .scheduler-is)
-      ∙ ap (λ (js : List Job). withJobs d (pad 64 unused js)) (take-written stay (drop kept (d .jobs)) kept (sym (v .kept-is))) in
+      ∙ ap (λ (y : Scheduler). withJobs y (pad 64 unused (take kept (y .jobs)))) (v .stored .scheduler-is)
+      ∙ ap (λ (js : List Job). withJobs d (pad 64 unused js)) (take-written left (drop kept (d .jobs)) kept (sym (v .stored .kept-is))) in
       λ j. record {
-        tickets = record { count = (rw all at (v .gone-is)) j; list = (rw all at (v .list-is)) j };
+        tickets = record { count = (rw all at (v .listed .gone-is)) j; list = (rw all at (v .listed .list-is)) j };
         scheduler = (rw all at table) j;
       }

@@ -1,21 +1,23 @@
--- Jobs leave: one by its slot, at an early completion or a withdrawal, which picks no other since tickets ascend; or those that end, at a tick.
+-- Jobs leave, or are in cleanup: one by its slot, at an early completion or a withdrawal, which picks no other since tickets ascend; or those
+-- whose runs end and those that are released, at a tick.
 -- Assumes nothing.
 use Prim.Native.Nat.{ℕ, zero, suc, _+_, _-_, _≤_, _<_}
 use native.Mathlib.Omega.{arith}
 use native.Mathlib.Numerals.{add-one}
 use mathlib.Core.Path.{_≡_, refl, sym, ap, _∙_}
-use mathlib.Core.Bool.{Bool, true, false, not}
+use mathlib.Core.Bool.{Bool, true, false, not, cond, _&&_}
 use mathlib.Core.Option.{none, some}
-use mathlib.Core.List.{List, [], _∷_, _++_, append-assoc, append-nil}
+use mathlib.Core.List.{List, [], _∷_, _++_, map, append-assoc, append-nil}
 use mathlib.Core.Logic.{_⊎_, inl, inr}
-use lib.Dec.{eqb}
-use lib.ListN.{length, getD, set, take, drop, replicate, replicate-append-replicate, take-append-drop, drop-of-length-le}
+use lib.Dec.{eqb, ltb}
+use lib.ListN.{length, getD, set, take, drop, replicate, replicate-append-replicate, take-append-drop, drop-of-length-le, List·getD-append}
 use lib.Seq.{take-suc, take-all, length-take-le, getD-append-add, getD-drop}
-use borrow.Author.Tests.{eqb-true, ne-eqb, lt-ltb, le-ltb}
-use Rattle.lists.specs.Tests.{case, both, and-right-false, le-or}
-use Rattle.lists.specs.Lists.{keep, any, In, keep-all, keep-none}
+use borrow.Author.Tests.{eqb-true, eqb-false, eq-eqb, ne-eqb, lt-ltb, le-ltb, ltb-true, ltb-false, not-true, not-false}
+use Rattle.lists.specs.Tests.{case, true-false, both, and-right-false, le-or}
+use Rattle.lists.specs.Lists.{keep, any, In, here, there, keep-none}
 use Rattle.lists.specs.Loops.{positionFrom, position, position-says, position-pad}
-use Rattle.lists.specs.Pads.{pad}
+use Rattle.lists.specs.Pads.{pad, pad-set}
+use Rattle.scheduler.specs.declared.Settings.{Settings}
 use Rattle.scheduler.specs.declared.Job.{Job}
 use Rattle.scheduler.specs.declared.Scheduler.{Scheduler}
 use Rattle.scheduler.specs.declared.Departure.{Departure}
@@ -23,20 +25,21 @@ use Rattle.scheduler.specs.declared.Departure.the-variants.{Complete, Cancel}
 use Rattle.scheduler.specs.declared.Select.{Select}
 use Rattle.scheduler.specs.declared.Select.the-variants as select
 use Rattle.scheduler.specs.Limits.{slots, horizon}
-use Rattle.scheduler.specs.Settings.{until}
-use Rattle.scheduler.specs.Jobs.{unused, isRunning, departs?, departsAs, picks}
-use Rattle.scheduler.specs.Table.{withJobs, ticketsOf, tickets, oneIf, endedOf, staying}
+use Rattle.scheduler.specs.Settings.{cleanup, endOf, until}
+use Rattle.scheduler.specs.Times.{until-end}
+use Rattle.scheduler.specs.Jobs.{unused, isRunning, isCleaning, departs?, departsAs, endsAt, releasedAt, cleaning}
+use Rattle.scheduler.specs.Table.{withJobs, ticketsOf, tickets, oneIf, ends, endedOf, leaves, staying, ceased, remaining}
 use Rattle.scheduler.specs.TableLaws.{picks-unused}
-use Rattle.scheduler.specs.Model.{view, store, without, withModelJobs}
+use Rattle.scheduler.specs.Model.{view, store, withModelJobs}
 use Rattle.scheduler.specs.Answers.{verdict}
 use Rattle.scheduler.specs.Refusals.{departRefusal, tickRefusal}
 use Rattle.jobs.specs.Order.{Asc}
 use Rattle.jobs.specs.Departing.{not-there, none-departs}
-use Rattle.jobs.specs.Soundness.{Sound}
+use Rattle.jobs.specs.Soundness.{Sound, running-clean, ends-runs, all-remain}
 use Rattle.jobs.specs.Premise.{Holds}
 use Rattle.jobs.specs.Slots.{slots-are}
 use Rattle.job_table.specs.declared.Part.{Part}
-use Rattle.job_table.specs.Parts.{refusedUnless, endsIf, withdrawnIf, pastHorizon, cappedClock, departing, ticking, part}
+use Rattle.job_table.specs.Parts.{refusedUnless, ends?, endsIf, cleansIf, withdrawnIf, pastHorizon, cappedClock, departing, ticking, part}
 use Rattle.job_table.specs.Compacting.{Removed, removed, removed-stored, overwrite, Compacts, compacted, Clears}
 
 abbrev pub withClock : Scheduler → ℕ → Scheduler
@@ -77,11 +80,76 @@ cut-step n i xs l h =
     ap (cut n) (ap (λ (k : ℕ). take k xs) (add-one (i + 1)) ∙ take-suc xs (i + 1) unused h)
     ∙ cut-append n (take (i + 1) xs) (getD xs (i + 1) unused ∷ []) (omega arith)
 
+-- whether the one picked leaves at once
+abbrev goes : Departure → Settings → Bool
+goes Complete S = eqb (cleanup S) 0
+goes Cancel S = true
+
+-- if not, its run ends, and it is in cleanup
+stays-ends : (h : Departure) (S : Settings) → goes h S ≡ false → ends? h ≡ true
+stays-ends Complete S g = refl
+stays-ends Cancel S g = true-false true refl g
+
+pub cleans-goes : (h : Departure) (S : Settings) → cleansIf h true S ≡ not (goes h S)
+cleans-goes Complete S =
+    case (eqb (cleanup S) 0)
+    (λ e. rw e (le-ltb 0 (cleanup S) (omega (arith, eqb-true (cleanup S) 0 e))))
+    (λ e. rw e (lt-ltb 0 (cleanup S) (omega (arith, eqb-false (cleanup S) 0 e))))
+cleans-goes Cancel S = refl
+
 -- the one that leaves is the only one of its ticket
-module _ (h : Departure) (t : ℕ) where
+module _ (S : Settings) (now : ℕ) (h : Departure) (t : ℕ) where
+  abbrev rest : List Job → List Job
+  rest js = remaining S now (select.Departing h t) js
+
+  leaves-if : (j : Job) → leaves S (select.Departing h t) j ≡ (departsAs h t j && goes h S)
+  leaves-if j = go h
+    where
+      go : (h : Departure) → leaves S (select.Departing h t) j ≡ (departsAs h t j && goes h S)
+      go Complete = refl
+      go Cancel = case (departsAs Cancel t j) (λ e. rw e) (λ e. rw e)
+
+  ends-if : (j : Job) → ends (select.Departing h t) j ≡ (departsAs h t j && ends? h)
+  ends-if j = go h
+    where
+      go : (h : Departure) → ends (select.Departing h t) j ≡ (departsAs h t j && ends? h)
+      go Complete = case (departsAs Complete t j) (λ e. rw e) (λ e. rw e)
+      go Cancel = case (departsAs Cancel t j) (λ e. rw e) (λ e. rw e)
+
+  -- one that it does not pick remains as it is; the one picked leaves, or is in cleanup
+  by : (j : Job) (js : List Job) (l c : Bool) → leaves S (select.Departing h t) j ≡ l → ends (select.Departing h t) j ≡ c
+      → rest (j ∷ js) ≡ cond (not l) (cond c (cleaning now j) j ∷ rest js) (rest js)
+  by j js true c p q = ap (λ (b : Bool). map (ceased now s) (cond (not b) (j ∷ staying S s js) (staying S s js))) p
+    where
+      s : Select
+      s = select.Departing h t
+  by j js false c p q =
+      ap (λ (b : Bool). map (ceased now s) (cond (not b) (j ∷ staying S s js) (staying S s js))) p
+      ∙ ap (λ (b : Bool). cond b (cleaning now j) j ∷ rest js) q
+    where
+      s : Select
+      s = select.Departing h t
+
+  passes : (j : Job) (js : List Job) → departsAs h t j ≡ false → rest (j ∷ js) ≡ j ∷ rest js
+  passes j js y =
+      by j js false false (leaves-if j ∙ ap (λ (b : Bool). b && goes h S) y) (ends-if j ∙ ap (λ (b : Bool). b && ends? h) y)
+
+  picked-goes : (j : Job) (js : List Job) → departsAs h t j ≡ true → goes h S ≡ true → rest (j ∷ js) ≡ rest js
+  picked-goes j js y g =
+      by j js true (ends? h) (leaves-if j ∙ ap (λ (b : Bool). b && goes h S) y ∙ g) (ends-if j ∙ ap (λ (b : Bool). b && ends? h) y)
+
+  picked-cleans : (j : Job) (js : List Job) → departsAs h t j ≡ true → goes h S ≡ false → rest (j ∷ js) ≡ cleaning now j ∷ rest js
+  picked-cleans j js y g =
+      by j js false true (leaves-if j ∙ ap (λ (b : Bool). b && goes h S) y ∙ g) (ends-if j ∙ ap (λ (b : Bool). b && ends? h) y ∙ stays-ends h S g)
+
+  all-pass : (js : List Job) → ((j : Job) → In j js → departsAs h t j ≡ false) → rest js ≡ js
+  all-pass [] f = refl
+  all-pass (j ∷ js) f = passes j js (f j (here refl)) ∙ ap (λ (l : List Job). j ∷ l) (all-pass js (λ x i. f x (there i)))
+
   record Alone (n : ℕ) (js : List Job) : Type 0 where
-    stays : staying (select.Departing h t) js ≡ cut n js
-    leaves : ticketsOf (keep (departsAs h t) js) ≡ t ∷ []
+    goes-out : goes h S ≡ true → rest js ≡ cut n js
+    cleans : goes h S ≡ false → rest js ≡ set js n (cleaning now (getD js n unused))
+    picked : ticketsOf (keep (departsAs h t) js) ≡ t ∷ []
 
   alone : (lo k n : ℕ) (js : List Job) → Asc lo js → positionFrom (departsAs h t) k js ≡ some (k + n) → Alone n js
   alone lo k n [] a e = absurd (let z : _≡_ {A = ℕ} 0 1 = cc in omega arith)
@@ -93,15 +161,20 @@ module _ (h : Departure) (t : ℕ) where
           let is : j .ticket ≡ t = eqb-true (j .ticket) t (both (departs? h (j .state)) (eqb (j .ticket) t) y .1) in
           let no = none-departs h t (suc (j .ticket)) js (omega arith) (a .1) in
           record {
-            stays = rw y (keep-all (λ (x : Job). not (departsAs h t x)) js (λ x i. ap not (no x i)));
-            leaves = rw (y, keep-none (departsAs h t) js no, is);
+            goes-out = λ g. picked-goes j js y g ∙ all-pass js no;
+            cleans = λ g. picked-cleans j js y g ∙ ap (λ (l : List Job). cleaning now j ∷ l) (all-pass js no);
+            picked = rw (y, keep-none (departsAs h t) js no, is);
           }
   alone lo k (suc n) (j ∷ js) a e =
       case (departsAs h t j)
       (λ y. absurd (let w : some k ≡ some (k + suc n) = rw y at e in let z : k ≡ k + suc n = cc in omega arith))
       (λ y. let z : k + suc n ≡ k + 1 + n = omega arith in
       let r = alone (suc (j .ticket)) (k + 1) n js (a .1) ((rw y at e) ∙ ap some z) in
-      record { stays = rw y (ap (λ (l : List Job). j ∷ l) (r .stays)); leaves = rw y (r .leaves) })
+      record {
+        goes-out = λ g. passes j js y ∙ ap (λ (l : List Job). j ∷ l) (r .goes-out g);
+        cleans = λ g. passes j js y ∙ ap (λ (l : List Job). j ∷ l) (r .cleans g);
+        picked = rw y (r .picked);
+      })
 
 -- over the slots of a stored model
 cut-pad : (n : ℕ) (js : List Job) → n < length js → length js ≤ slots → cut n (pad slots unused js) ++ (unused ∷ []) ≡ pad slots unused (cut n js)
@@ -213,7 +286,11 @@ any-some p k i (j ∷ js) e = case (p j) (λ q. rw q) (λ q. rw q (any-some p (k
 ended-one : (h : Departure) (t : ℕ) (js : List Job) → ticketsOf (keep (departsAs h t) js) ≡ t ∷ []
     → endedOf (select.Departing h t) js ≡ oneIf (endsIf h true) t
 ended-one Complete t js e = e
-ended-one Cancel t js e = refl
+ended-one Cancel t js e = ap ticketsOf (keep-none (λ (j : Job). false) js (λ j i. refl))
+
+-- the job in this slot is in cleanup
+abbrev pub cleaningSlot : Scheduler → ℕ → Scheduler
+cleaningSlot d n = withJobs d (set (d .jobs) n (cleaning (d .clock) (getD (d .jobs) n unused)))
 
 module _ (d : Scheduler) (h : Departure) (t : ℕ) (v : Holds Sound d) where
   abbrev left : Bool → Scheduler → Part
@@ -234,29 +311,79 @@ module _ (d : Scheduler) (h : Departure) (t : ℕ) (v : Holds Sound d) where
   leaves-none e = rw (any-none (departsAs h t) 0 (view d .jobs) (sym place ∙ e), not-there h) (ap (left false) (v .stored))
 
   module _ (i : ℕ) (e : position (departsAs h t) (d .jobs) ≡ some i) where
-    alone-here : Alone h t i (view d .jobs)
-    alone-here = let z : i ≡ 0 + i = omega arith in alone h t 1 0 i (view d .jobs) (v .holds .asc) (sym place ∙ e ∙ ap some z)
+    alone-here : Alone (d .settings) (d .clock) h t i (view d .jobs)
+    alone-here =
+        let z : i ≡ 0 + i = omega arith in
+        alone (d .settings) (d .clock) h t 1 0 i (view d .jobs) (v .holds .asc) (sym place ∙ e ∙ ap some z)
 
     inside : i < length (view d .jobs)
     inside = let s = position-says unused (departsAs h t) (view d .jobs) 0 i (sym place ∙ e) in omega (arith, s .at-is, s .inside)
 
-    stored : withoutSlot d i ≡ store (without (view d) (d .clock) (select.Departing h t))
+    abbrev with : List Job → Scheduler
+    with js = store (withModelJobs (view d) js)
+
+    cut-stored : withoutSlot d i ≡ with (cut i (view d .jobs))
     unfolding store view
-    stored =
+    cut-stored =
         ap (λ (x : Scheduler). withJobs x (cut i (x .jobs) ++ (unused ∷ []))) (v .stored)
-        ∙ ap (withJobs (store (view d))) (cut-pad i (view d .jobs) inside (v .holds .few) ∙ ap (pad slots unused) (sym (alone-here .stays)))
+        ∙ ap (withJobs (store (view d))) (cut-pad i (view d .jobs) inside (v .holds .few))
 
-    clock-of : d .clock ≡ view d .clock
-    unfolding view
-    clock-of = refl
+    same-slot : getD (d .jobs) i unused ≡ getD (view d .jobs) i unused
+    unfolding store pad
+    same-slot =
+        ap (λ (js : List Job). getD js i unused) (slots-are d v)
+        ∙ List·getD-append (view d .jobs) (replicate (slots - length (view d .jobs)) unused) unused i inside
 
-    pub leaves-one : left true (withoutSlot d i) ≡ part (departing (view d) h t)
-    unfolding departRefusal verdict
-    leaves-one =
-        rw (any-some (departsAs h t) 0 i (view d .jobs) (sym place ∙ e), ended-one h t (view d .jobs) (alone-here .leaves))
-        (ap (left true) (stored ∙ ap (λ (c : ℕ). store (without (view d) c (select.Departing h t))) clock-of))
+    cleaning-stored : cleaningSlot d i ≡ with (set (view d .jobs) i (cleaning (d .clock) (getD (view d .jobs) i unused)))
+    unfolding store view
+    cleaning-stored =
+        ap (λ (j : Job). withJobs d (set (d .jobs) i (cleaning (d .clock) j))) same-slot
+        ∙ ap (λ (x : Scheduler). withJobs x (set (x .jobs) i (cleaning (d .clock) (getD (view d .jobs) i unused)))) (v .stored)
+        ∙ ap (withJobs (store (view d))) (pad-set slots unused (view d .jobs) i (cleaning (d .clock) (getD (view d .jobs) i unused)) inside)
+
+    -- what is handed back is what the definition says, if the slots are
+    leaves-as : (x : Scheduler) → x ≡ with (remaining (d .settings) (d .clock) (select.Departing h t) (view d .jobs)) → left true x ≡ part (departing (view d) h t)
+    unfolding departRefusal verdict view store
+    leaves-as x q =
+        rw (any-some (departsAs h t) 0 i (view d .jobs) (sym place ∙ e), ended-one h t (view d .jobs) (alone-here .picked))
+        (ap (left true) q)
+
+    pub leaves-one : cleansIf h true (d .settings) ≡ false → left true (withoutSlot d i) ≡ part (departing (view d) h t)
+    leaves-one n =
+        leaves-as (withoutSlot d i)
+        (cut-stored ∙ ap with (sym (alone-here .goes-out (not-false (goes h (d .settings)) (sym (cleans-goes h (d .settings)) ∙ n)))))
+
+    pub cleans-one : cleansIf h true (d .settings) ≡ true → left true (cleaningSlot d i) ≡ part (departing (view d) h t)
+    cleans-one n =
+        leaves-as (cleaningSlot d i)
+        (cleaning-stored ∙ ap with (sym (alone-here .cleans (not-true (goes h (d .settings)) (sym (cleans-goes h (d .settings)) ∙ n)))))
 
 -- ## A tick
+
+-- the ways of a job at a tick
+module _ (S : Settings) (t : ℕ) (j : Job) where
+  abbrev at : Select
+  at = select.EndingAt S t
+
+  pub tick-goes : endsAt S t j ≡ true → ltb 0 (cleanup S) ≡ false → leaves S at j ≡ true
+  tick-goes e n =
+      let z : cleanup S ≡ 0 = omega (arith, ltb-false 0 (cleanup S) n) in
+      rw (e, eq-eqb (cleanup S) 0 z) (case (releasedAt S t j) (λ r. rw r) (λ r. rw r))
+
+  pub tick-cleans : endsAt S t j ≡ true → ltb 0 (cleanup S) ≡ true → leaves S at j ≡ false
+  tick-cleans e n =
+      let l : 0 < cleanup S = ltb-true 0 (cleanup S) n in
+      rw (
+        e,
+        ne-eqb (cleanup S) 0 (λ z. omega arith),
+        ap (λ (b : Bool). b && eqb (until S j) t) (running-clean (j .state) (ends-runs at j e)),
+      )
+
+  pub tick-releases : endsAt S t j ≡ false → releasedAt S t j ≡ true → leaves S at j ≡ true
+  tick-releases e r = rw (e, r)
+
+  pub tick-stays : endsAt S t j ≡ false → releasedAt S t j ≡ false → leaves S at j ≡ false
+  tick-stays e r = rw (e, r)
 
 module _ (d : Scheduler) (h : Holds Sound d) where
   abbrev minute : ℕ
@@ -265,28 +392,22 @@ module _ (d : Scheduler) (h : Holds Sound d) where
   abbrev which : Select
   which = select.EndingAt (d .settings) minute
 
-  abbrev pub expired : Part
-  expired = record {
-    refusal = pastHorizon minute;
-    ticket = 0;
-    ended = removed d which .tickets;
-    withdrawn = 0;
-    scheduler =
-        withClock (removed d which .scheduler) (cappedClock minute);
-  }
-
-  removed-is : removed d which ≡ record {
-    tickets = tickets (ticketsOf (keep (picks which) (view d .jobs)));
-    scheduler =
-        store (withModelJobs (view d) (staying which (view d .jobs)));
-  }
-  removed-is = ap (λ (x : Scheduler). removed x which) (h .stored) ∙ removed-stored (view d) which (h .holds .few)
+  abbrev all : List Job
+  all = view d .jobs
 
   abbrev of : Removed → Part
   of r = record { refusal = pastHorizon minute; ticket = 0; ended = r .tickets; withdrawn = 0; scheduler = withClock (r .scheduler) (cappedClock minute) }
 
-  abbrev ends : List ℕ → List Job → ℕ → Part
-  ends ts js c = record {
+  removed-is : removed d minute which ≡ record {
+    tickets = tickets (endedOf which all);
+    scheduler =
+        store (withModelJobs (view d) (remaining (d .settings) minute which all));
+  }
+  unfolding view
+  removed-is = ap (λ (x : Scheduler). removed x minute which) (h .stored) ∙ removed-stored (view d) minute which (h .holds .few)
+
+  abbrev expired : List ℕ → List Job → ℕ → Part
+  expired ts js c = record {
     refusal = pastHorizon minute;
     ticket = 0;
     ended = tickets ts;
@@ -295,33 +416,44 @@ module _ (d : Scheduler) (h : Holds Sound d) where
         store (record { settings = view d .settings; clock = c; next = view d .next; jobs = js });
   }
 
-  -- past the last minute nobody ends
-  nobody : horizon < minute → (j : Job) → In j (view d .jobs) → picks which j ≡ false
-  unfolding view
-  nobody l j i = and-right-false (isRunning j) (ne-eqb (until (d .settings) j) minute (λ e. omega (arith, h .holds .each j i .ends)))
+  -- past the last minute no run ends and nobody is released
+  module _ (l : horizon < minute) (j : Job) (i : In j all) where
+    none-ends : ends which j ≡ false
+    unfolding view
+    none-ends =
+        case (isRunning j)
+        (λ r. and-right-false (isRunning j)
+        (ne-eqb (endOf (d .settings) j) minute (λ e.
+        omega (arith, h .holds .each j i .ends, until-end (d .settings) j (running-clean (j .state) r)))))
+        (λ r. rw r)
 
-  pub expired-is : expired ≡ part (ticking (view d))
+    none-leaves : leaves (d .settings) which j ≡ false
+    unfolding view
+    none-leaves =
+        tick-stays (d .settings) minute j none-ends
+        (and-right-false (isCleaning j) (ne-eqb (until (d .settings) j) minute (λ e. omega (arith, h .holds .each j i .ends))))
+
+  pub expired-is : of (removed d minute which) ≡ part (ticking (view d))
   unfolding store view tickRefusal verdict
-  expired-is = ap of removed-is ∙ by (le-or minute horizon)
+  expired-is = ap of removed-is ∙ by-minute (le-or minute horizon)
     where
-      by : (minute ≤ horizon) ⊎ (horizon < minute)
+      by-minute : (minute ≤ horizon) ⊎ (horizon < minute)
           → of (record {
-            tickets = tickets (ticketsOf (keep (picks which) (view d .jobs)));
+            tickets = tickets (endedOf which all);
             scheduler =
-                store (withModelJobs (view d) (staying which (view d .jobs)));
+                store (withModelJobs (view d) (remaining (d .settings) minute which all));
           }) ≡ part (ticking (view d))
-      by (inl l) = rw (le-ltb horizon minute l, add-one (d .clock), le-ltb horizon (suc (d .clock)) (omega arith))
-      by (inr l) =
+      by-minute (inl l) = rw (le-ltb horizon minute l, add-one (d .clock), le-ltb horizon (suc (d .clock)) (omega arith))
+      by-minute (inr l) =
           let c : horizon ≡ d .clock = omega (arith, h .holds .clock-to) in
-          let gone : keep (picks which) (view d .jobs) ≡ [] = keep-none (picks which) (view d .jobs) (nobody l) in
-          let stay : staying which (view d .jobs) ≡ view d .jobs = keep-all (λ (j : Job). not (picks which j)) (view d .jobs) (λ j i. ap not (nobody l j i)) in
-          ap (λ (ts : List Job). ends (ticketsOf ts) (staying which (view d .jobs)) (cappedClock minute)) gone
-          ∙ ap (λ (js : List Job). ends [] js (cappedClock minute)) stay
+          let none : endedOf which all ≡ [] = ap ticketsOf (keep-none (ends which) all (none-ends l)) in
+          ap (λ (ts : List ℕ). expired ts (remaining (d .settings) minute which all) (cappedClock minute)) none
+          ∙ ap (λ (js : List Job). expired [] js (cappedClock minute)) (all-remain (d .settings) minute which all (none-ends l) (none-leaves l))
           ∙ rw (lt-ltb horizon minute l, lt-ltb horizon (suc (d .clock)) (omega arith), c)
 
 pub expires : (d : Scheduler) → Holds Sound d → {e f : Scheduler} {list : List ℕ} {kept gone i k c : ℕ}
-    → Compacts (select.EndingAt (d .settings) (d .clock + 1)) (withClock d c) e list kept gone i → length (d .jobs) ≡ 64 → Clears kept e f k → 64 ≤ i → 64 ≤ k
-    → c ≡ cappedClock (d .clock + 1)
+    → Compacts (d .clock + 1) (select.EndingAt (d .settings) (d .clock + 1)) (withClock d c) e list kept gone i → length (d .jobs) ≡ 64
+    → Clears kept e f k → 64 ≤ i → 64 ≤ k → c ≡ cappedClock (d .clock + 1)
     → record { refusal = pastHorizon (d .clock + 1); ticket = 0; ended = record { count = gone; list = list }; withdrawn = 0; scheduler = f } ≡ part (ticking (view d))
 unfolding removed
 expires d h v len u a b z =
@@ -329,11 +461,14 @@ expires d h v len u a b z =
     ∙ ap (λ (n : ℕ). record {
       refusal = pastHorizon (d .clock + 1);
       ticket = 0;
-      ended = removed d (select.EndingAt (d .settings) (d .clock + 1)) .tickets;
+      ended = taken .tickets;
       withdrawn = 0;
-      scheduler = withClock (removed d (select.EndingAt (d .settings) (d .clock + 1)) .scheduler) n;
+      scheduler = withClock (taken .scheduler) n;
     }) z
     ∙ expired-is d h
   where
+    taken : Removed
+    taken = removed d (d .clock + 1) (select.EndingAt (d .settings) (d .clock + 1))
+
     given : Removed → Part
     given r = record { refusal = pastHorizon (d .clock + 1); ticket = 0; ended = r .tickets; withdrawn = 0; scheduler = r .scheduler }

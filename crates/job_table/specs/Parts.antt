@@ -16,6 +16,7 @@ use Rattle.scheduler.specs.declared.Refusal.the-variants as refusal
 use Rattle.scheduler.specs.declared.Select.{Select}
 use Rattle.scheduler.specs.declared.Select.the-variants as select
 use Rattle.scheduler.specs.Limits.{horizon}
+use Rattle.scheduler.specs.Settings.{cleanup}
 use Rattle.scheduler.specs.Table.{tickets, endedOf}
 use Rattle.scheduler.specs.Model.{Model, ending, store, view, without}
 use Rattle.scheduler.specs.Answers.{verdict, accepts}
@@ -93,6 +94,10 @@ ends? Cancel = false
 
 abbrev pub endsIf : Departure → Bool → Bool
 endsIf h found = cond found (ends? h) false
+
+-- whether it is in cleanup then
+abbrev pub cleansIf : Departure → Bool → Settings → Bool
+cleansIf h found S = cond (endsIf h found) (ltb 0 (cleanup S)) false
 
 abbrev pub withdrawnIf : Departure → Bool → ℕ → ℕ
 withdrawnIf h found t = cond found (withdrawnBy h t) 0

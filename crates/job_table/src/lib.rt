@@ -1,5 +1,6 @@
-// The job table: the parts of calls that both kinds share, each done in place. A job leaves on request, those that end leave, the first unused
-// slot is found for a job that comes in, those that wait are counted; and what these calls are refused for, by numbers.
+// The job table: the parts of calls that both kinds share, each done in place. A job leaves on request; runs end, and jobs leave or are in
+// cleanup from then on; the first unused slot is found for a job that comes in; those that wait are counted; and what these calls are refused
+// for, by numbers.
 use scheduler::Departure;
 use scheduler::Job;
 use scheduler::Refusal;
@@ -14,7 +15,7 @@ ghost use Rattle.scheduler.specs.Jobs.{isWaiting};
 ghost use Rattle.scheduler.specs.Model.{view};
 ghost use Rattle.jobs.specs.Soundness.{Sound};
 ghost use Rattle.jobs.specs.Premise.{Holds};
-ghost use Rattle.job_table.specs.Parts.{refusalBy, refusedUnless, endsIf, withdrawnIf, pastHorizon, cappedClock, part, departing, ticking};
+ghost use Rattle.job_table.specs.Parts.{refusalBy, refusedUnless, endsIf, cleansIf, withdrawnIf, pastHorizon, cappedClock, part, departing, ticking};
 
 // The last slot.
 const LAST: usize = Scheduler::LIVE - 1;
@@ -119,6 +120,16 @@ fn ends_if(how: Departure, found: bool) -> bool
     false
 }
 
+// Whether the job found is in cleanup then.
+fn cleans_if(how: Departure, found: bool, settings: Settings) -> bool
+    ensures { λ r. ⌜ r ≡ cleansIf how found settings ⌝ }
+{
+    if ends_if(how, found) {
+        return 0 < settings.cleanup();
+    }
+    false
+}
+
 // The ticket of the job found if it is withdrawn, or 0.
 fn withdrawn_if(how: Departure, found: bool, ticket: u32) -> u32
     ensures { λ r. ⌜ r ≡ withdrawnIf how found ticket ⌝ }
@@ -132,7 +143,7 @@ fn withdrawn_if(how: Departure, found: bool, ticket: u32) -> u32
     0
 }
 
-// An early completion or a withdrawal: the job leaves its slot, and those after it move up.
+// An early completion or a withdrawal: the job leaves its slot, and those after it move up; or it stays there in cleanup.
 pub fn leave(d: Scheduler, how: Departure, ticket: u32) -> Part
     requires { ⌜ Holds Sound d ⌝ }
     ensures { λ r. ⌜ r ≡ part (departing (view d) how ticket) ⌝ }
@@ -148,13 +159,20 @@ pub fn leave(d: Scheduler, how: Departure, ticket: u32) -> Part
         i += 1;
     }
     let found = i < Scheduler::LIVE;
+    let mut leaves = found;
+    if cleans_if(how, found, e.settings) {
+        let j = e.jobs[i];
+        e.jobs[i] = j.cleaning(e.clock);
+        leaves = false;
+        i = Scheduler::LIVE;
+    }
     while i < LAST {
         let next = i + 1;
         let j = e.jobs[next];
         e.jobs[i] = j;
         i = next;
     }
-    if found {
+    if leaves {
         e.jobs[LAST] = none;
     }
     let ended = Tickets::one_if(ends_if(how, found), ticket);
@@ -177,13 +195,15 @@ fn capped(clock: u32) -> u32
     clock
 }
 
-// A tick: those that end leave. Past the last minute nobody ends, so that a refused tick changes nothing.
+// A tick: whose runs end leave, or are in cleanup from then on; those whose nodes are free again leave. Past the last minute nobody does
+// either, so that a refused tick changes nothing.
 pub fn expire(d: Scheduler) -> Part
     requires { ⌜ Holds Sound d ⌝ }
     ensures { λ r. ⌜ r ≡ part (ticking (view d)) ⌝ }
 {
     let none = Job::unused();
     let settings = d.settings;
+    let cleared = 0 < settings.cleanup();
     let mut e = d;
     let clock = e.clock + 1;
     e.clock = capped(clock);
@@ -196,11 +216,17 @@ pub fn expire(d: Scheduler) -> Part
         if j.ends_at(settings, clock) {
             list[gone] = j.ticket;
             gone += 1;
+            if cleared {
+                e.jobs[kept] = j.cleaning(clock);
+                kept += 1;
+            }
         } else {
-            // Read once more: compiled code then moves it whole.
-            let stays = e.jobs[i];
-            e.jobs[kept] = stays;
-            kept += 1;
+            if !j.released_at(settings, clock) {
+                // Read once more: compiled code then moves it whole.
+                let stays = e.jobs[i];
+                e.jobs[kept] = stays;
+                kept += 1;
+            }
         }
         i += 1;
     }

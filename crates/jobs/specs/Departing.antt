@@ -13,14 +13,12 @@ use Rattle.scheduler.specs.declared.Departure.{Departure}
 use Rattle.scheduler.specs.declared.Departure.the-variants.{Complete, Cancel}
 use Rattle.scheduler.specs.declared.Job.{Job}
 use Rattle.scheduler.specs.declared.Select.{Select}
-use Rattle.scheduler.specs.declared.Select.the-variants as select
-use Rattle.scheduler.specs.Jobs.{isRunning, departs?, departsAs, picks}
-use Rattle.scheduler.specs.Table.{ticketsOf, endedOf}
-use Rattle.scheduler.specs.Model.{Model, ending}
+use Rattle.scheduler.specs.Jobs.{isRunning, departs?, departsAs}
+use Rattle.scheduler.specs.Table.{ticketsOf, ends, endedOf}
 use Rattle.scheduler.specs.Answers.{accepts}
 use Rattle.scheduler.specs.Refusals.{notThere}
 use Rattle.jobs.specs.Order.{Asc, asc-in, elem-job, job-elem}
-use Rattle.jobs.specs.Soundness.{Leaving, early, in-time, endsRuns, leaving-runs}
+use Rattle.jobs.specs.Soundness.{ends-runs}
 
 pub not-there : (h : Departure) → accepts (notThere h) ≡ false
 not-there Complete = refl
@@ -40,17 +38,10 @@ module _ (h : Departure) (t : ℕ) where
           let is : j .ticket ≡ t = eqb-true (j .ticket) t (both (departs? h (j .state)) (eqb (j .ticket) t) y .1) in
           rw (y, keep-none (departsAs h t) js (none-departs (suc (j .ticket)) js (omega arith) (a .1)), is)
 
-picked-ran : (s : Select) → endsRuns s ≡ true → (js : List Job) (u : ℕ) → elem u (ticketsOf (keep (picks s) js)) ≡ true
-    → elem u (ticketsOf (keep isRunning js)) ≡ true
-picked-ran s n js u e =
-    let j = elem-job u (keep (picks s) js) e in
-    let k = keep-in (picks s) js (j .1) in
-    subst (λ (t : ℕ). elem t (ticketsOf (keep isRunning js)) ≡ true) (j .2)
-    (job-elem (keep isRunning js) (in-keep isRunning (k .0) (leaving-runs s n (j .0) (k .1))))
-
 -- whose run ends ran
-pub ended-ran : (m : Model) (c : ℕ) (s : Select) → Leaving m c s → (u : ℕ) → elem u (endedOf s (m .jobs)) ≡ true
-    → elem u (ticketsOf (keep isRunning (m .jobs))) ≡ true
-ended-ran m c s (early Complete t) u e = picked-ran (select.Departing Complete t) refl (m .jobs) u e
-ended-ran m c s (early Cancel t) u e = true-false false e refl
-ended-ran m c s (in-time l) u e = picked-ran (ending m) refl (m .jobs) u e
+pub ended-ran : (s : Select) (js : List Job) (u : ℕ) → elem u (endedOf s js) ≡ true → elem u (ticketsOf (keep isRunning js)) ≡ true
+ended-ran s js u e =
+    let j = elem-job u (keep (ends s) js) e in
+    let k = keep-in (ends s) js (j .1) in
+    subst (λ (t : ℕ). elem t (ticketsOf (keep isRunning js)) ≡ true) (j .2)
+    (job-elem (keep isRunning js) (in-keep isRunning (k .0) (ends-runs s (j .0) (k .1))))

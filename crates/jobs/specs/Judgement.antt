@@ -22,6 +22,7 @@ accepts-none refusal.ProfileTooLong e = true-false false e refl
 accepts-none refusal.Malformed e = true-false false e refl
 accepts-none refusal.TooShort e = true-false false e refl
 accepts-none refusal.NotWaiting e = true-false false e refl
+accepts-none refusal.CleanupOutOfRange e = true-false false e refl
 
 -- what holds of an outcome where no test refuses it, and of the refusal where one does, holds of the call
 pub judged-by : (P : Result → Type 0) (m : Model) (r : Refusal) (o : Result) → (accepts r ≡ true → P o) → (accepts r ≡ false → P (refuse m r))

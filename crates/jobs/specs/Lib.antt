@@ -4,3 +4,4 @@ pub mod Premise
 pub mod Judgement
 pub mod Slots
 pub mod Departing
+pub mod NoCleanup

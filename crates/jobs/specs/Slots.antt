@@ -10,15 +10,14 @@ use lib.ListN.{length, getD, take, replicate, List·getD-append}
 use lib.Seq.{take-append-seam}
 use borrow.Author.Tests.{leb-true, leb-false}
 use Rattle.lists.specs.Tests.{case, true-false}
-use Rattle.lists.specs.Lists.{All, all-of, all-at, in-getD}
+use Rattle.lists.specs.Lists.{All, In, all-of, all-at, in-getD}
 use Rattle.lists.specs.Pads.{pad, all-pad}
 use Rattle.scheduler.specs.declared.Job.{Job}
 use Rattle.scheduler.specs.declared.Scheduler.{Scheduler}
 use Rattle.scheduler.specs.Limits.{horizon, slots}
-use Rattle.scheduler.specs.Jobs.{unused, isLive}
-use Rattle.scheduler.specs.Times.{until-from}
+use Rattle.scheduler.specs.Jobs.{unused, isLive, isCleaning}
 use Rattle.scheduler.specs.Model.{Model, store, view}
-use Rattle.jobs.specs.Soundness.{Sound}
+use Rattle.jobs.specs.Soundness.{Sound, start-until}
 use Rattle.jobs.specs.Premise.{Holds}
 
 past : (xs : List Job) (k i : ℕ) → length xs ≤ i → getD (xs ++ replicate k unused) i unused ≡ unused
@@ -28,19 +27,28 @@ past [] (suc k) (suc i) l = past [] k i (omega arith)
 past (x ∷ xs) k zero l = absurd (omega arith)
 past (x ∷ xs) k (suc i) l = past xs k i (omega arith)
 
+-- its start and its end are minutes of the clock
+abbrev pub Low : Job → Type 0
+Low j = (j .start ≤ horizon) × (j .end ≤ horizon)
+
+pub sound-low : (m : Model) → Sound m → (j : Job) → In j (m .jobs) → Low j
+sound-low m s j i =
+    let f = s .each j i in (
+      omega (arith, f .ends, start-until (m .settings) (m .clock) j f),
+      case (isCleaning j) (λ c. omega (arith, f .cleaned c, s .clock-to)) (λ c. omega (arith, f .no-end c)),
+    )
+
 module _ (d : Scheduler) (h : Holds Sound d) where
   pub slots-are : d .jobs ≡ store (view d) .jobs
   slots-are = ap (λ (e : Scheduler). e .jobs) (h .stored)
 
-  all-low : (m : Model) → Sound m → All (λ (j : Job). j .start ≤ horizon) (store m .jobs)
+  all-low : (m : Model) → Sound m → All Low (store m .jobs)
   unfolding store
-  all-low m s = all-pad slots unused (λ (j : Job). j .start ≤ horizon) (m .jobs) (omega arith)
-      (all-of (λ (j : Job). j .start ≤ horizon) (m .jobs) (λ j i. omega (arith, s .each j i .ends, until-from (m .settings) j)))
+  all-low m s = all-pad slots unused Low (m .jobs) (omega arith) (all-of Low (m .jobs) (λ j i. sound-low m s j i))
 
-  -- no start passes the last minute
-  pub slots-low : (i : ℕ) → i < length (d .jobs) → getD (d .jobs) i unused .start ≤ horizon
-  slots-low i l = all-at (λ (j : Job). j .start ≤ horizon) (d .jobs) i unused
-      (subst (All (λ (j : Job). j .start ≤ horizon)) (sym slots-are) (all-low (view d) (h .holds))) l
+  -- no start and no end passes the last minute
+  pub slots-low : (i : ℕ) → i < length (d .jobs) → Low (getD (d .jobs) i unused)
+  slots-low i l = all-at Low (d .jobs) i unused (subst (All Low) (sym slots-are) (all-low (view d) (h .holds))) l
 
   abbrev L : List Job
   L = view d .jobs

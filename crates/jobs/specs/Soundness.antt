@@ -2,17 +2,18 @@
 -- Assumes nothing.
 use Prim.Native.Nat.{ℕ, suc, _+_, _≤_, _<_}
 use native.Mathlib.Omega.{arith}
-use mathlib.Core.Path.{_≡_, refl, ap}
-use mathlib.Core.Bool.{Bool, true, false, not, _||_}
-use mathlib.Core.List.{List, [], _∷_}
+use mathlib.Core.Path.{_≡_, refl, sym, ap, subst, _∙_}
+use mathlib.Core.Bool.{Bool, true, false, not, cond, _&&_, _||_}
+use mathlib.Core.List.{List, [], _∷_, map, map-map}
 use mathlib.Core.Logic.{_⊎_, inl, inr}
-use lib.Dec.{leb, ltb}
-use lib.ListN.{length, length-append}
+use lib.Dec.{eqb, leb, ltb}
+use lib.ListN.{length, length-append, length-map}
 use borrow.Author.Tests.{leb-false, ltb-false, eqb-false, not-true}
-use Rattle.lists.specs.Tests.{case, true-false, neither}
-use Rattle.lists.specs.Lists.{All, In, all-of, in-append, in-cons, in-nil, keep-in, length-keep-le, sum-append, sum-keep}
+use Rattle.lists.specs.Tests.{case, true-false, both, neither}
+use Rattle.lists.specs.Lists.{All, In, all-of, in-append, in-cons, in-nil, keep-in, length-keep-le, sum-append, sum-keep, sum-map, sum-cong}
+use Rattle.lists.specs.Lists.{in-map, map-in, in-keep, keep-all, map-same, map-cong}
 use Rattle.scheduler.specs.declared.State.{State}
-use Rattle.scheduler.specs.declared.State.the-variants.{Unused, Waiting, Running}
+use Rattle.scheduler.specs.declared.State.the-variants.{Unused, Waiting, Running, Cleanup}
 use Rattle.scheduler.specs.declared.Job.{Job}
 use Rattle.scheduler.specs.declared.Submission.{Submission}
 use Rattle.scheduler.specs.declared.Refusal.{Refusal}
@@ -23,17 +24,18 @@ use Rattle.scheduler.specs.declared.Departure.the-variants.{Complete, Cancel}
 use Rattle.scheduler.specs.declared.Select.{Select}
 use Rattle.scheduler.specs.declared.Select.the-variants as select
 use Rattle.scheduler.specs.Limits as limit
-use Rattle.scheduler.specs.Limits.{maxNodes, lastTicket, outside}
-use Rattle.scheduler.specs.Jobs.{isLive, isRunning, isWaiting, isHolding, running?, holding?, held, picks}
+use Rattle.scheduler.specs.Limits.{maxNodes, lastTicket, longestCleanup, outside}
+use Rattle.scheduler.specs.States.{waiting?, running?, cleaning?, holding?}
+use Rattle.scheduler.specs.Jobs.{isLive, isRunning, isWaiting, isCleaning, isHolding, held, cleaning}
 use Rattle.scheduler.specs.declared.Settings.{Settings}
-use Rattle.scheduler.specs.Settings.{refusedSettings, horizon, slots, longest, unit, until}
-use Rattle.scheduler.specs.Times.{until-is, hold-unit}
-use Rattle.scheduler.specs.Table.{nodesHeld}
+use Rattle.scheduler.specs.Settings.{refusedSettings, horizon, slots, longest, cleanup, unit, endOf, until}
+use Rattle.scheduler.specs.Times.{until-is, until-end, until-cleaning, until-cleaned, hold-unit, cleanup-unit}
+use Rattle.scheduler.specs.Table.{nodesHeld, ticketOf, ticketsOf, ends, withdraws, releases, leaves, staying, ceased, remaining}
 use Rattle.scheduler.specs.Model.{Model, ending, Live, empty, joined, without}
 use Rattle.scheduler.specs.Answers.{verdict, accepts}
 use Rattle.scheduler.specs.Refusals.{submitTests}
 use Rattle.scheduler.specs.Opening.{openingRefusal, opening}
-use Rattle.jobs.specs.Order.{Asc, asc-keep, asc-append}
+use Rattle.jobs.specs.Order.{Asc, asc-keep, asc-append, asc-same}
 
 pub record SoundJob (S : Settings) (clock : ℕ) (j : Job) : Type 0 where
   pub is-live : isLive j ≡ true
@@ -44,14 +46,71 @@ pub record SoundJob (S : Settings) (clock : ℕ) (j : Job) : Type 0 where
   -- no hold passes the last minute
   pub ends : until S j ≤ horizon S
   pub holds : isHolding j ≡ true → (j .start ≤ clock) × (clock < until S j)
+  -- one that runs has not reached its end
+  pub runs : isRunning j ≡ true → clock < endOf S j
+  -- "its record, and no other, keeps its end"
+  pub cleaned : isCleaning j ≡ true → (j .start ≤ j .end) × (j .end ≤ clock)
+  pub no-end : isCleaning j ≡ false → j .end ≡ 0
+
+-- who holds nodes runs or is in cleanup, and nobody does two of these
+pub running-holds : (s : State) → running? s ≡ true → holding? s ≡ true
+running-holds Unused h = h
+running-holds Waiting h = h
+running-holds Running h = h
+running-holds Cleanup h = refl
+
+pub cleaning-holds : (s : State) → cleaning? s ≡ true → holding? s ≡ true
+cleaning-holds Unused h = h
+cleaning-holds Waiting h = h
+cleaning-holds Running h = refl
+cleaning-holds Cleanup h = h
+
+pub holding-runs : (s : State) → holding? s ≡ true → cleaning? s ≡ false → running? s ≡ true
+holding-runs Unused h n = h
+holding-runs Waiting h n = h
+holding-runs Running h n = h
+holding-runs Cleanup h n = true-false true refl n
+
+pub running-clean : (s : State) → running? s ≡ true → cleaning? s ≡ false
+running-clean Unused h = refl
+running-clean Waiting h = refl
+running-clean Running h = refl
+running-clean Cleanup h = true-false false h refl
+
+pub waiting-clean : (s : State) → waiting? s ≡ true → cleaning? s ≡ false
+waiting-clean Unused h = refl
+waiting-clean Waiting h = refl
+waiting-clean Running h = refl
+waiting-clean Cleanup h = true-false false h refl
+
+pub waiting-is : (s : State) → waiting? s ≡ true → s ≡ Waiting
+waiting-is Unused h = true-false false h refl
+waiting-is Waiting h = refl
+waiting-is Running h = true-false false h refl
+waiting-is Cleanup h = true-false false h refl
+
+waiting-still : (s : State) → waiting? s ≡ true → running? s ≡ false
+waiting-still Unused h = refl
+waiting-still Waiting h = refl
+waiting-still Running h = true-false false h refl
+waiting-still Cleanup h = refl
+
+-- nodes are given back no earlier than the start
+pub start-until : (S : Settings) (clock : ℕ) (j : Job) → SoundJob S clock j → j .start ≤ until S j
+start-until S clock j f =
+    case (isCleaning j) (λ c. omega (arith, f .cleaned c, until-cleaning S j c)) (λ c. omega (arith, until-is S j c))
 
 -- a job that holds nodes gives them back within a unit
 pub holds-short : (S : Settings) (clock : ℕ) (j : Job) → SoundJob S clock j → isHolding j ≡ true → until S j ≤ clock + unit S
-holds-short S clock j f r = omega (arith, f .holds r, until-is S j, hold-unit S (j .estimate) (f .estimate-to))
+holds-short S clock j f r =
+    case (isCleaning j)
+    (λ c. omega (arith, f .cleaned c, until-cleaning S j c, cleanup-unit S))
+    (λ c. omega (arith, f .holds r, until-is S j c, hold-unit S (j .estimate) (f .estimate-to)))
 
 pub record Sound (m : Model) : Type 0 where
   pub nodes-from : 1 ≤ m .settings .nodes
   pub nodes-to : m .settings .nodes ≤ maxNodes
+  pub cleanup-to : m .settings .cleanup ≤ longestCleanup
   pub clock-to : m .clock ≤ horizon (m .settings)
   pub next-from : 1 ≤ m .next
   pub next-to : m .next ≤ suc lastTicket
@@ -66,10 +125,12 @@ all-live m s = all-of Live (m .jobs) (λ j i. s .each j i .is-live)
 
 -- ## Opening
 
-sound-empty : (S : Settings) (c t : ℕ) → 1 ≤ S .nodes → S .nodes ≤ maxNodes → c ≤ limit.horizon → 1 ≤ t → t ≤ lastTicket → Sound (empty S c t)
-sound-empty S c t a b d e f = record {
+sound-empty : (S : Settings) (c t : ℕ) → 1 ≤ S .nodes → S .nodes ≤ maxNodes → S .cleanup ≤ longestCleanup → c ≤ limit.horizon → 1 ≤ t → t ≤ lastTicket
+    → Sound (empty S c t)
+sound-empty S c t a b k d e f = record {
   nodes-from = a;
   nodes-to = b;
+  cleanup-to = k;
   clock-to = d;
   next-from = e;
   next-to = omega arith;
@@ -85,19 +146,22 @@ unfolding opening openingRefusal verdict
 opening-sound o =
     case (outside 1 maxNodes (o .settings .nodes))
     (λ p. rw p refused)
-    (λ p. rw p (case (ltb limit.horizon (o .minute) || outside 1 lastTicket (o .ticket)) (λ q. rw q refused) (λ q. rw q (taken p q))))
+    (λ p. rw p (case (ltb limit.horizon (o .minute) || outside 1 lastTicket (o .ticket))
+    (λ q. rw q refused)
+    (λ q. rw q (case (ltb longestCleanup (o .settings .cleanup)) (λ k. rw k refused) (λ k. rw k (taken p q k))))))
   where
     refused : Sound (empty (refusedSettings (o .settings .kind)) 0 1)
-    refused = sound-empty (refusedSettings (o .settings .kind)) 0 1 (omega arith) (omega arith) (omega arith) (omega arith) (omega arith)
+    refused = sound-empty (refusedSettings (o .settings .kind)) 0 1 (omega arith) (omega arith) (omega arith) (omega arith) (omega arith) (omega arith)
 
     taken : outside 1 maxNodes (o .settings .nodes) ≡ false → (ltb limit.horizon (o .minute) || outside 1 lastTicket (o .ticket)) ≡ false
-        → Sound (empty (o .settings) (o .minute) (o .ticket))
-    taken p q =
+        → ltb longestCleanup (o .settings .cleanup) ≡ false → Sound (empty (o .settings) (o .minute) (o .ticket))
+    taken p q k =
         let a = neither (ltb (o .settings .nodes) 1) (ltb maxNodes (o .settings .nodes)) p in
         let b = neither (ltb limit.horizon (o .minute)) (outside 1 lastTicket (o .ticket)) q in
         let c = neither (ltb (o .ticket) 1) (ltb lastTicket (o .ticket)) (b .1) in
         sound-empty (o .settings) (o .minute) (o .ticket) (ltb-false (o .settings .nodes) 1 (a .0)) (ltb-false maxNodes (o .settings .nodes) (a .1))
-        (ltb-false limit.horizon (o .minute) (b .0)) (ltb-false (o .ticket) 1 (c .0)) (ltb-false lastTicket (o .ticket) (c .1))
+        (ltb-false longestCleanup (o .settings .cleanup) k) (ltb-false limit.horizon (o .minute) (b .0)) (ltb-false (o .ticket) 1 (c .0))
+        (ltb-false lastTicket (o .ticket) (c .1))
 
 -- ## Submission
 
@@ -142,6 +206,7 @@ pub sound-join : (m : Model) (o : Submission) (j : Job) → Sound m → Fit m o 
 sound-join m o j s f sj t c = record {
   nodes-from = s .nodes-from;
   nodes-to = s .nodes-to;
+  cleanup-to = s .cleanup-to;
   clock-to = s .clock-to;
   next-from = omega arith;
   next-to = omega (arith, f .ticket-left);
@@ -174,70 +239,193 @@ pub data Leaving (m : Model) : ℕ → Select → Type 0 where
   early : (h : Departure) (t : ℕ) → Leaving m (m .clock) (select.Departing h t)
   in-time : suc (m .clock) ≤ horizon (m .settings) → Leaving m (suc (m .clock)) (ending m)
 
--- only jobs that wait are withdrawn, and otherwise only running ones leave
-pub withdrawn-waits : (t : ℕ) (j : Job) → picks (select.Departing Cancel t) j ≡ true → isWaiting j ≡ true
-withdrawn-waits t j e = case (isWaiting j) (λ r. r) (λ r. true-false false (rw r at e) refl)
+-- only jobs that wait are withdrawn, only runs that go on end, and only jobs in cleanup are released
+pub withdraws-waits : (s : Select) (j : Job) → withdraws s j ≡ true → isWaiting j ≡ true
+withdraws-waits select.Live j e = true-false false e refl
+withdraws-waits select.Waiting j e = true-false false e refl
+withdraws-waits (select.Departing Complete t) j e = true-false false e refl
+withdraws-waits (select.Departing Cancel t) j e = both (isWaiting j) (eqb (j .ticket) t) e .0
+withdraws-waits (select.EndingAt S t) j e = true-false false e refl
 
-abbrev pub endsRuns : Select → Bool
-endsRuns select.Live = false
-endsRuns select.Waiting = false
-endsRuns (select.Departing Complete t) = true
-endsRuns (select.Departing Cancel t) = false
-endsRuns (select.EndingAt S t) = true
+pub ends-runs : (s : Select) (j : Job) → ends s j ≡ true → isRunning j ≡ true
+ends-runs select.Live j e = true-false false e refl
+ends-runs select.Waiting j e = true-false false e refl
+ends-runs (select.Departing Complete t) j e = both (isRunning j) (eqb (j .ticket) t) e .0
+ends-runs (select.Departing Cancel t) j e = true-false false e refl
+ends-runs (select.EndingAt S t) j e = both (isRunning j) (eqb (endOf S j) t) e .0
 
-pub leaving-runs : (s : Select) → endsRuns s ≡ true → (j : Job) → picks s j ≡ true → isRunning j ≡ true
-leaving-runs select.Live n j e = true-false false n refl
-leaving-runs select.Waiting n j e = true-false false n refl
-leaving-runs (select.Departing Complete t) n j e = case (isRunning j) (λ r. r) (λ r. true-false false (rw r at e) refl)
-leaving-runs (select.Departing Cancel t) n j e = true-false false n refl
-leaving-runs (select.EndingAt S t) n j e = case (isRunning j) (λ r. r) (λ r. true-false false (rw r at e) refl)
+pub releases-cleaned : (s : Select) (j : Job) → releases s j ≡ true → isCleaning j ≡ true
+releases-cleaned select.Live j e = true-false false e refl
+releases-cleaned select.Waiting j e = true-false false e refl
+releases-cleaned (select.Departing h t) j e = true-false false e refl
+releases-cleaned (select.EndingAt S t) j e = both (isCleaning j) (eqb (until S j) t) e .0
+
+-- who stays: is not withdrawn, is not released, and if its run ends then nodes are cleared
+pub stays : (S : Settings) (s : Select) (j : Job) → leaves S s j ≡ false
+    → (withdraws s j ≡ false) × (releases s j ≡ false) × (ends s j ≡ true → 1 ≤ cleanup S)
+stays S s j e =
+    let a = neither (withdraws s j || releases s j) (ends s j && eqb (cleanup S) 0) e in
+    let b = neither (withdraws s j) (releases s j) (a .0) in
+    (b .0, b .1, λ r. omega (arith, eqb-false (cleanup S) 0 (rw r at (a .1))))
 
 -- the clock is now or a minute later
 pub leaving-clock : (m : Model) (c : ℕ) (s : Select) → Leaving m c s → (m .clock ≤ c) × (c ≤ suc (m .clock))
 leaving-clock m c s (early h t) = omega arith
 leaving-clock m c s (in-time h) = omega arith
 
-holding-runs : (s : State) → holding? s ≡ true → running? s ≡ true
-holding-runs Unused h = h
-holding-runs Waiting h = h
-holding-runs Running h = h
+-- of a job, where the clock is set
+module _ (m : Model) (c : ℕ) (s : Select) (l : Leaving m c s) (j : Job) (f : SoundJob (m .settings) (m .clock) j) where
+  -- a run that ends does so by its time
+  pub ends-by : ends s j ≡ true → c ≤ endOf (m .settings) j
+  ends-by e = omega (arith, leaving-clock m c s l, f .runs (ends-runs s j e))
 
--- a job that holds nodes and stays has not ended
-pub leaving-time : (m : Model) (c : ℕ) (s : Select) → Leaving m c s → (j : Job) → isHolding j ≡ true → m .clock < until (m .settings) j
-    → picks s j ≡ false → c < until (m .settings) j
-leaving-time m c s l j r u e = go l e
-  where
-    go : {c : ℕ} {s : Select} → Leaving m c s → picks s j ≡ false → c < until (m .settings) j
-    go (early h t) e = u
-    go (in-time h) e = omega (arith, eqb-false (until (m .settings) j) (suc (m .clock)) (rw (holding-runs (j .state) r) at e))
+  -- a run that does not end goes on
+  pub runs-on : isRunning j ≡ true → ends s j ≡ false → c < endOf (m .settings) j
+  runs-on r e = go l e
+    where
+      go : {c : ℕ} {s : Select} → Leaving m c s → ends s j ≡ false → c < endOf (m .settings) j
+      go (early h t) e = f .runs r
+      go (in-time h) e = omega (arith, eqb-false (endOf (m .settings) j) (suc (m .clock)) (rw r at e), f .runs r)
+
+  -- nodes that are not released are not free yet
+  pub cleans-on : isCleaning j ≡ true → releases s j ≡ false → c < until (m .settings) j
+  cleans-on r e = go l e
+    where
+      held-now : m .clock < until (m .settings) j
+      held-now = f .holds (cleaning-holds (j .state) r) .1
+
+      go : {c : ℕ} {s : Select} → Leaving m c s → releases s j ≡ false → c < until (m .settings) j
+      go (early h t) e = held-now
+      go (in-time h) e = omega (arith, eqb-false (until (m .settings) j) (suc (m .clock)) (rw r at e), held-now)
+
+-- who stays has its ticket still, and holds the nodes that it held
+pub ceased-ticket : (now : ℕ) (s : Select) (j : Job) → ceased now s j .ticket ≡ j .ticket
+ceased-ticket now s j = case (ends s j) (λ e. rw e) (λ e. rw e)
+
+-- one that waits goes on waiting
+pub ceased-waits : (now : ℕ) (s : Select) (j : Job) → isWaiting (ceased now s j) ≡ true → ceased now s j ≡ j
+ceased-waits now s j w = case (ends s j) (λ e. true-false false (rw e at w) refl) (λ e. rw e)
+
+pub waits-on : (now : ℕ) (s : Select) (j : Job) → isWaiting j ≡ true → ceased now s j ≡ j
+waits-on now s j w = case (ends s j) (λ e. true-false (isRunning j) (ends-runs s j e) (waiting-still (j .state) w)) (λ e. rw e)
+
+pub ceased-held : (now : ℕ) (s : Select) (j : Job) → held (ceased now s j) ≡ held j
+ceased-held now s j =
+    case (ends s j) (λ e. rw (e, running-holds (j .state) (ends-runs s j e))) (λ e. rw e)
+
+module _ (S : Settings) (now : ℕ) (s : Select) (js : List Job) where
+  pub remaining-tickets : ticketsOf (remaining S now s js) ≡ ticketsOf (staying S s js)
+  remaining-tickets =
+      map-map ticketOf (ceased now s) (staying S s js)
+      ∙ map-cong (λ (j : Job). ticketOf (ceased now s j)) ticketOf (staying S s js) (λ j i. ceased-ticket now s j)
+
+  -- who remains was there, and did not leave
+  pub remaining-in : {j : Job} → In j (remaining S now s js) → (k : Job) × In k js × (leaves S s k ≡ false) × (j ≡ ceased now s k)
+  remaining-in i =
+      let k = map-in (ceased now s) (staying S s js) i in
+      let q = keep-in (λ (j : Job). not (leaves S s j)) js (k .1) in
+      (k .0, q .0, not-true (leaves S s (k .0)) (q .1), k .2)
+
+  -- where no run ends and nobody leaves, all remain as they are
+  pub all-remain : ((j : Job) → In j js → ends s j ≡ false) → ((j : Job) → In j js → leaves S s j ≡ false) → remaining S now s js ≡ js
+  all-remain e l =
+      ap (map (ceased now s)) (keep-all (λ (j : Job). not (leaves S s j)) js (λ j i. ap not (l j i)))
+      ∙ map-same (ceased now s) js (λ j i. ap (λ (b : Bool). cond b (cleaning now j) j) (e j i))
+
+  -- one that waits and remains was there as it is
+  pub remained-waits : {j : Job} → In j (remaining S now s js) → isWaiting j ≡ true → In j js × (leaves S s j ≡ false)
+  remained-waits {j} i w = go (remaining-in i)
+    where
+      go : (k : Job) × In k js × (leaves S s k ≡ false) × (j ≡ ceased now s k) → In j js × (leaves S s j ≡ false)
+      go (k, a, n, e) =
+          let same : j ≡ k = e ∙ ceased-waits now s k (subst (λ (x : Job). isWaiting x ≡ true) e w) in
+          subst (λ (x : Job). In x js × (leaves S s x ≡ false)) (sym same) (a, n)
+
+  -- and one that waits and does not leave remains
+  pub waits-remains : {j : Job} → In j js → isWaiting j ≡ true → leaves S s j ≡ false → In j (remaining S now s js)
+  waits-remains {j} i w n =
+      subst (λ (x : Job). In x (remaining S now s js)) (waits-on now s j w)
+      (in-map (ceased now s) (in-keep (λ (j : Job). not (leaves S s j)) i (ap not n)))
 
 pub sound-leave : (m : Model) (c : ℕ) (s : Select) → Sound m → Leaving m c s → Sound (without m c s)
 sound-leave m c s v l = record {
   nodes-from = v .nodes-from;
   nodes-to = v .nodes-to;
+  cleanup-to = v .cleanup-to;
   clock-to = clock-low l;
   next-from = v .next-from;
   next-to = v .next-to;
-  few = omega (arith, v .few, length-keep-le (λ (j : Job). not (picks s j)) (m .jobs));
-  asc = asc-keep (λ (j : Job). not (picks s j)) 1 (m .jobs) (v .asc);
-  below = λ j i. v .below j (keep-in (λ (j : Job). not (picks s j)) (m .jobs) i .0);
-  each = λ j i. one j (keep-in (λ (j : Job). not (picks s j)) (m .jobs) i);
-  capacity = omega (arith, v .capacity, sum-keep held (picks s) (m .jobs));
+  few =
+      omega (
+        arith,
+        v .few,
+        length-map (staying S s (m .jobs)) (ceased c s),
+        length-keep-le (λ (j : Job). not (leaves S s j)) (m .jobs),
+      );
+  asc =
+      asc-same 1 (staying S s (m .jobs)) (remaining S c s (m .jobs)) (sym (remaining-tickets S c s (m .jobs)))
+      (asc-keep (λ (j : Job). not (leaves S s j)) 1 (m .jobs) (v .asc));
+  below = λ j i. low j (remaining-in S c s (m .jobs) i);
+  each = λ j i. one j (remaining-in S c s (m .jobs) i);
+  capacity =
+      omega (
+        arith,
+        v .capacity,
+        sum-map held (ceased c s) (staying S s (m .jobs)),
+        sum-cong (λ (j : Job). held (ceased c s j)) held (staying S s (m .jobs)) (λ j i. ceased-held c s j),
+        sum-keep held (leaves S s) (m .jobs),
+      );
 }
   where
+    S : Settings
+    S = m .settings
+
     clock-low : {c : ℕ} {s : Select} → Leaving m c s → c ≤ horizon (m .settings)
     clock-low (early h t) = v .clock-to
     clock-low (in-time h) = h
 
-    one : (j : Job) → In j (m .jobs) × (not (picks s j) ≡ true) → SoundJob (m .settings) c j
-    one j i =
-        let w = v .each j (i .0) in
+    low : (j : Job) → (k : Job) × In k (m .jobs) × (leaves S s k ≡ false) × (j ≡ ceased c s k) → j .ticket < m .next
+    low j (k, i, q, e) = omega (arith, v .below k i, ap (λ (x : Job). x .ticket) e, ceased-ticket c s k)
+
+    -- its run ends
+    cleaned : (k : Job) → SoundJob S (m .clock) k → ends s k ≡ true → 1 ≤ cleanup S → SoundJob S c (cleaning c k)
+    cleaned k w e p =
+        let r : isRunning k ≡ true = ends-runs s k e in
         record {
-          is-live = w .is-live;
+          is-live = refl;
           nodes-from = w .nodes-from;
           nodes-to = w .nodes-to;
           estimate-from = w .estimate-from;
           estimate-to = w .estimate-to;
-          ends = w .ends;
-          holds = λ r. (omega (arith, w .holds r, leaving-clock m c s l), leaving-time m c s l j r (w .holds r .1) (not-true (picks s j) (i .1)));
+          ends = omega (arith, until-cleaned S c k, ends-by m c s l k w e, w .ends, until-end S k (running-clean (k .state) r));
+          holds = λ h. (omega (arith, w .holds (running-holds (k .state) r), leaving-clock m c s l), omega (arith, until-cleaned S c k));
+          runs = λ h. true-false false h refl;
+          cleaned = λ h. (omega (arith, w .holds (running-holds (k .state) r), leaving-clock m c s l), omega arith);
+          no-end = λ h. true-false true refl h;
         }
+
+    -- it does not
+    on : (k : Job) → SoundJob S (m .clock) k → ends s k ≡ false → releases s k ≡ false → SoundJob S c k
+    on k w e p = record {
+      is-live = w .is-live;
+      nodes-from = w .nodes-from;
+      nodes-to = w .nodes-to;
+      estimate-from = w .estimate-from;
+      estimate-to = w .estimate-to;
+      ends = w .ends;
+      holds = λ h. (omega (arith, w .holds h, leaving-clock m c s l), later h);
+      runs = λ h. runs-on m c s l k w h e;
+      cleaned = λ h. (w .cleaned h .0, omega (arith, w .cleaned h .1, leaving-clock m c s l));
+      no-end = w .no-end;
+    }
+      where
+        later : isHolding k ≡ true → c < until S k
+        later h =
+            case (isCleaning k) (λ q. cleans-on m c s l k w q p)
+            (λ q. omega (arith, runs-on m c s l k w (holding-runs (k .state) h q) e, until-end S k q))
+
+    one : (j : Job) → (k : Job) × In k (m .jobs) × (leaves S s k ≡ false) × (j ≡ ceased c s k) → SoundJob S c j
+    one j (k, i, q, e) =
+        let w = v .each k i in
+        let p = stays S s k q in
+        subst (SoundJob S c) (sym e) (case (ends s k) (λ y. rw y (cleaned k w y (p .2 y))) (λ y. rw y (on k w y (p .1))))

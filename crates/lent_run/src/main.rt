@@ -215,7 +215,7 @@ fn print_kind(kind: Kind) {
     ;
 }
 
-// The refusal, and the scheduler handed back: its kind, nodes, clock, next ticket and number of live jobs.
+// The refusal, and the scheduler handed back: its kind, nodes, cleanup, clock, next ticket and number of live jobs.
 fn print_opened(opened: Opened)
     requires { ⌜ Holds Sound (opened .scheduler) ⌝ }
 {
@@ -226,19 +226,21 @@ fn print_opened(opened: Opened)
     let kind = settings.kind;
     print_kind(kind);
     print(d.settings.nodes);
+    print(d.settings.cleanup);
     print(d.clock);
     print(d.next);
     print_count(job_table::first_unused(d));
     io::write_all(STDOUT_FILENO, b"\n");
 }
 
-fn open(kind: Kind, nodes: u32, minute: u32) -> Scheduler
+fn open(kind: Kind, nodes: u32, minute: u32, cleanup: u32) -> Scheduler
     ensures { λ r. ⌜ Premise r ⌝ }
 {
     let opened = Scheduler::open(Opening {
         settings: Settings {
             kind: kind,
             nodes: nodes,
+            cleanup: cleanup,
         },
         minute: minute,
         ticket: 1,
@@ -249,7 +251,7 @@ fn open(kind: Kind, nodes: u32, minute: u32) -> Scheduler
 
 fn main() {
     // conservative: the list is longer than the profile, then as long, then too short
-    let d = open(Kind::Conservative, 10, 0);
+    let d = open(Kind::Conservative, 10, 0, 0);
     show(d);
     let d1 = submit(d, 6, 20);
     let d2 = submit(d1, 8, 10);
@@ -267,7 +269,7 @@ fn main() {
     let d10 = cancel(d9, 3);
     show(d10);
     // EASY: no profile
-    let e = open(Kind::Easy, 10, 0);
+    let e = open(Kind::Easy, 10, 0, 0);
     let e1 = submit(e, 6, 20);
     let e2 = submit(e1, 8, 10);
     let e3 = submit(e2, 3, 21);
@@ -282,12 +284,19 @@ fn main() {
     let e10 = cancel(e9, 4);
     let e11 = cancel(e10, 3);
     // at the last minute no clock moves
-    let f = open(Kind::Conservative, 10, 1000000);
+    let f = open(Kind::Conservative, 10, 1000000, 0);
     let f1 = tick(f);
     show(f1);
     // a refused opening hands back an empty scheduler of its kind, which takes jobs
-    let g = open(Kind::Conservative, 0, 5);
+    let g = open(Kind::Conservative, 0, 5, 7);
     let g1 = submit(g, 1, 5);
-    let h = open(Kind::Easy, 1025, 5);
+    let h = open(Kind::Easy, 1025, 5, 7);
     let h1 = submit(h, 1, 5);
+    open(Kind::Easy, 10, 5, 31);
+    // nodes stay taken after a run, and a job in cleanup runs no longer
+    let k = open(Kind::Conservative, 10, 0, 7);
+    let k1 = submit(k, 6, 20);
+    let k2 = complete(k1, 1);
+    show(k2);
+    let k3 = complete(k2, 1);
 }

@@ -2,12 +2,12 @@
 -- Assumes nothing.
 use Prim.Native.Nat.{ℕ, zero, suc, _+_, _-_, _≤_, _<_}
 use native.Mathlib.Omega.{arith}
-use mathlib.Core.Path.{_≡_, refl, ap, _∙_}
+use mathlib.Core.Path.{_≡_, refl, sym, ap, _∙_}
 use mathlib.Core.Bool.{Bool, true, false}
-use mathlib.Core.List.{List, [], _∷_, _++_, append-assoc, append-nil}
-use lib.ListN.{length, set, replicate, length-append, length-set, length-replicate, replicate-append-replicate}
+use mathlib.Core.List.{List, [], _∷_, _++_, map, map-append, append-assoc, append-nil}
+use lib.ListN.{length, set, replicate, length-append, length-map, length-set, length-replicate, replicate-append-replicate}
 use lib.Seq.{set-at, set-append-left}
-use Rattle.lists.specs.Lists.{keep, sum, All, In, here, there, keep-append, keep-none, keep-all, length-keep-le, sum-append, all-append}
+use Rattle.lists.specs.Lists.{keep, sum, All, In, here, there, keep-append, keep-none, keep-all, map-same, length-keep-le, sum-append, all-append}
 
 -- filled up with b to n elements
 unfoldable pub pad {ℓ} : {A : Type ℓ} → ℕ → A → List A → List A
@@ -60,6 +60,14 @@ module _ {A : Type 0} (n : ℕ) (b : A) where
   pub pad-set : (xs : List A) (i : ℕ) (x : A) → i < length xs → set (pad n b xs) i x ≡ pad n b (set xs i x)
   unfolding pad
   pad-set xs i x h = rw (length-set xs i x) (set-append-left xs (replicate (n - length xs) b) i x h)
+
+  -- a change that leaves unused places as they are
+  map-alike : (f : A → A) → f b ≡ b → (k : ℕ) → map f (replicate k b) ≡ replicate k b
+  map-alike f e k = map-same f (replicate k b) (λ a i. ap f (in-same k i) ∙ e ∙ sym (in-same k i))
+
+  pub map-pad : (f : A → A) (xs : List A) → f b ≡ b → map f (pad n b xs) ≡ pad n b (map f xs)
+  unfolding pad
+  map-pad f xs e = rw (map-append f xs (replicate (n - length xs) b), map-alike f e (n - length xs), length-map xs f)
 
   keep-same : (p : A → Bool) → p b ≡ true → (k : ℕ) → keep p (replicate k b) ≡ replicate k b
   keep-same p e k = keep-all p (replicate k b) (λ a i. ap p (in-same k i) ∙ e)

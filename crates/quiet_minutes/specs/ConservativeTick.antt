@@ -1,20 +1,21 @@
--- A tick of conservative backfilling at which no job ends or starts: only the clock moves.
+-- A tick of conservative backfilling at which no job ends, is released or starts: only the clock moves.
 -- Assumes nothing.
 use Prim.Native.Nat.{ℕ, suc, _≤_}
 use mathlib.Core.Path.{_≡_, ap, _∙_}
-use mathlib.Core.Bool.{false, not}
+use mathlib.Core.Bool.{false}
 use mathlib.Core.Option.{none}
 use mathlib.Core.List.{List, [], map}
 use borrow.Author.Tests.{le-ltb}
-use Rattle.lists.specs.Lists.{In, keep, keep-all, keep-none, map-same}
+use Rattle.lists.specs.Lists.{In, keep-none, map-same}
 use Rattle.scheduler.specs.declared.Job.{Job}
 use Rattle.scheduler.specs.declared.Refusal.the-variants as refusal
-use Rattle.scheduler.specs.Jobs.{endsAt, picks}
+use Rattle.scheduler.specs.Jobs.{endsAt, releasedAt}
 use Rattle.scheduler.specs.Settings.{horizon}
-use Rattle.scheduler.specs.Table.{ticketsOf, staying}
+use Rattle.scheduler.specs.Table.{ticketsOf, ends, endedOf, remaining}
 use Rattle.scheduler.specs.Model.{Model, ending}
 use Rattle.scheduler.specs.Answers.{refusing, verdict}
 use Rattle.scheduler.specs.Refusals.{tickRefusal}
+use Rattle.jobs.specs.Soundness.{all-remain}
 use Rattle.history.specs.Calls.{tick}
 use Rattle.conservative_rules.specs.Conservative.{call, ticked, advanced, begun, turned}
 use Rattle.conservative_laws.specs.Sentences.{startsAt, begun-turned}
@@ -23,23 +24,24 @@ use Rattle.easy_laws.specs.QuietTick.{later}
 
 module _ (m : Model) (l : suc (m .clock) ≤ horizon (m .settings))
     (stays : (j : Job) → In j (m .jobs) → endsAt (m .settings) (suc (m .clock)) j ≡ false)
+    (holds : (j : Job) → In j (m .jobs) → releasedAt (m .settings) (suc (m .clock)) j ≡ false)
     (waits : (j : Job) → In j (m .jobs) → startsAt (suc (m .clock)) j ≡ false)
   where
     abbrev n : ℕ
     n = suc (m .clock)
 
-    all-stay : staying (ending m) (m .jobs) ≡ m .jobs
-    all-stay = keep-all (λ (j : Job). not (picks (ending m) j)) (m .jobs) (λ j i. ap not (stays j i))
+    same : remaining (m .settings) n (ending m) (m .jobs) ≡ m .jobs
+    same = all-remain (m .settings) n (ending m) (m .jobs) stays (λ j i. rw (stays j i, holds j i))
 
-    none-turns : map (turned n) (staying (ending m) (m .jobs)) ≡ m .jobs
-    none-turns = ap (map (turned n)) all-stay ∙ map-same (turned n) (m .jobs) (λ j i. turned-other n j (waits j i))
+    none-turns : map (turned n) (remaining (m .settings) n (ending m) (m .jobs)) ≡ m .jobs
+    none-turns = ap (map (turned n)) same ∙ map-same (turned n) (m .jobs) (λ j i. turned-other n j (waits j i))
 
-    none-ends : ticketsOf (keep (picks (ending m)) (m .jobs)) ≡ []
-    none-ends = ap ticketsOf (keep-none (picks (ending m)) (m .jobs) stays)
+    none-ends : endedOf (ending m) (m .jobs) ≡ []
+    none-ends = ap ticketsOf (keep-none (ends (ending m)) (m .jobs) stays)
 
-    none-starts : begun (staying (ending m) (m .jobs)) (map (turned n) (staying (ending m) (m .jobs))) ≡ []
+    none-starts : begun (remaining (m .settings) n (ending m) (m .jobs)) (map (turned n) (remaining (m .settings) n (ending m) (m .jobs))) ≡ []
     none-starts =
-        ap (λ (js : List Job). begun js (map (turned n) js)) all-stay
+        ap (λ (js : List Job). begun js (map (turned n) js)) same
         ∙ begun-turned n (m .jobs)
         ∙ ap ticketsOf (keep-none (startsAt n) (m .jobs) waits)
 

@@ -1,4 +1,4 @@
--- Whether something is due at a minute: a job ends or starts then.
+-- Whether something is due at a minute: a job ends, is released or starts then.
 -- Assumes nothing.
 use Prim.Native.Nat.{ℕ, _+_, _≤_, _<_}
 use mathlib.Core.Path.{_≡_}
@@ -6,12 +6,12 @@ use mathlib.Core.Bool.{Bool, false, _||_}
 use Rattle.lists.specs.Lists.{In}
 use Rattle.scheduler.specs.declared.Settings.{Settings}
 use Rattle.scheduler.specs.declared.Job.{Job}
-use Rattle.scheduler.specs.Jobs.{endsAt}
+use Rattle.scheduler.specs.Jobs.{endsAt, releasedAt}
 use Rattle.scheduler.specs.Model.{Model}
 use Rattle.conservative_laws.specs.Sentences.{startsAt}
 
 abbrev pub dueAt : Settings → ℕ → Job → Bool
-dueAt S t j = endsAt S t j || startsAt t j
+dueAt S t j = endsAt S t j || releasedAt S t j || startsAt t j
 
 -- for this job nothing is due in the k minutes after the clock
 abbrev pub QuietFor : Settings → ℕ → ℕ → Job → Type 0

@@ -11,14 +11,15 @@ use borrow.Author.Tests.{ne-eqb}
 use mathlib.Core.Logic.{_⊎_, inl, inr}
 use Rattle.lists.specs.Tests.{le-or}
 use Rattle.lists.specs.Lists.{All, all-of, all-in, all-append, keep-in}
-use Rattle.scheduler.specs.declared.State.the-variants.{Unused, Waiting, Running}
+use Rattle.scheduler.specs.declared.State.the-variants.{Unused, Waiting, Running, Cleanup}
 use Rattle.scheduler.specs.declared.Settings.{Settings}
 use Rattle.scheduler.specs.declared.Job.{Job}
 use Rattle.scheduler.specs.declared.Scheduler.{Scheduler}
 use Rattle.scheduler.specs.Limits.{horizon, slots}
-use Rattle.scheduler.specs.Jobs.{unused, isLive, running?, waiting?}
-use Rattle.scheduler.specs.Settings.{holdTime, until}
-use Rattle.scheduler.specs.Times.{until-is}
+use Rattle.scheduler.specs.States.{running?, waiting?, cleaning?}
+use Rattle.scheduler.specs.Jobs.{unused, isLive}
+use Rattle.scheduler.specs.Settings.{cleanup, runTime, endOf, until}
+use Rattle.scheduler.specs.Times.{end-is, until-cleaning}
 use Rattle.scheduler.specs.Model.{view}
 use Rattle.quiet_minutes.specs.DueMinutes.{QuietFor, Quiet, Until}
 
@@ -37,14 +38,19 @@ less S clock r k j l q t a b = q t a (omega arith)
 
 -- one job, by its state
 pub unused-quiet : (S : Settings) (clock k : ℕ) (j : Job) → j .state ≡ Unused → QuietFor S clock k j
-unused-quiet S clock k j e t a b = rw (ap running? e, ap waiting? e)
+unused-quiet S clock k j e t a b = rw (ap running? e, ap cleaning? e, ap waiting? e)
 
 pub waiting-quiet : (S : Settings) (clock k : ℕ) (j : Job) → j .state ≡ Waiting → Until (j .start) clock k → QuietFor S clock k j
-waiting-quiet S clock k j e u t a b = rw (ap running? e, ap waiting? e, ne-eqb (j .start) t (λ q. omega (arith, u (omega arith))))
+waiting-quiet S clock k j e u t a b = rw (ap running? e, ap cleaning? e, ap waiting? e, ne-eqb (j .start) t (λ q. omega (arith, u (omega arith))))
 
-pub running-quiet : (S : Settings) (clock k : ℕ) (j : Job) → j .state ≡ Running → Until (j .start + holdTime S (j .estimate)) clock k → QuietFor S clock k j
+pub running-quiet : (S : Settings) (clock k : ℕ) (j : Job) → j .state ≡ Running → Until (j .start + runTime S (j .estimate)) clock k → QuietFor S clock k j
 running-quiet S clock k j e u t a b =
-    rw (ap running? e, ap waiting? e, ne-eqb (until S j) t (λ q. omega (arith, until-is S j, u (omega (arith, until-is S j)))))
+    rw (ap running? e, ap cleaning? e, ap waiting? e, ne-eqb (endOf S j) t (λ q. omega (arith, end-is S j, u (omega (arith, end-is S j)))))
+
+pub cleaning-quiet : (S : Settings) (clock k : ℕ) (j : Job) → j .state ≡ Cleanup → Until (j .end + cleanup S) clock k → QuietFor S clock k j
+cleaning-quiet S clock k j e u t a b =
+    let f = until-cleaning S j (ap cleaning? e) in
+    rw (ap running? e, ap cleaning? e, ap waiting? e, ne-eqb (until S j) t (λ q. omega (arith, f, u (omega (arith, f)))))
 
 -- the slots before i have been asked
 pub record Asked (d : Scheduler) (most k i : ℕ) : Type 0 where

@@ -3,20 +3,19 @@
 -- Assumes nothing.
 use Prim.Native.Nat.{ℕ, zero, suc, _+_, _≤_}
 use native.Mathlib.Omega.{arith}
-use mathlib.Core.Path.{_≡_, refl, sym, ap, subst, _∙_}
-use mathlib.Core.Bool.{Bool, false}
-use mathlib.Core.List.{List, [], _∷_}
+use mathlib.Core.Path.{_≡_, sym, ap, subst, _∙_}
+use mathlib.Core.Bool.{false, _||_}
 use lib.ListN.{replicate}
 use Rattle.lists.specs.Tests.{neither}
-use Rattle.lists.specs.Lists.{In, here, there, any}
+use Rattle.lists.specs.Lists.{In}
 use Rattle.scheduler.specs.declared.Kind.{Kind}
 use Rattle.scheduler.specs.declared.Kind.the-variants.{Conservative, Easy}
 use Rattle.scheduler.specs.declared.Job.{Job}
 use Rattle.scheduler.specs.declared.Refusal.the-variants as refusal
 use Rattle.scheduler.specs.declared.Scheduler.{Scheduler}
-use Rattle.scheduler.specs.Jobs.{picks, endsAt}
+use Rattle.scheduler.specs.Jobs.{endsAt, releasedAt}
 use Rattle.scheduler.specs.Limits.{horizon}
-use Rattle.scheduler.specs.Model.{Model, ending, store, view}
+use Rattle.scheduler.specs.Model.{Model, store, view}
 use Rattle.scheduler.specs.Answers.{Result, refusing}
 use Rattle.history.specs.Calls.{tick, after}
 use Rattle.conservative_laws.specs.Sentences.{startsAt}
@@ -27,21 +26,27 @@ use Rattle.easy_laws.specs.QuietTick as easy
 use Rattle.quiet_minutes.specs.DueMinutes.{dueAt, Quiet}
 use Rattle.quiet_minutes.specs.ConservativeTick as conservative
 
-none-any : {A : Type 0} (p : A → Bool) (xs : List A) → ((a : A) → In a xs → p a ≡ false) → any p xs ≡ false
-none-any p [] f = refl
-none-any p (x ∷ xs) f = rw (f x (here refl)) (none-any p xs (λ a i. f a (there i)))
-
 -- k minutes later, with the same jobs
 abbrev pub passed : Model → ℕ → Model
 passed m k = record { settings = m .settings; clock = m .clock + k; next = m .next; jobs = m .jobs }
 
 module _ (m : Model) (v : Valid m) (l : suc (m .clock) ≤ horizon) (q : (j : Job) → In j (m .jobs) → dueAt (m .settings) (suc (m .clock)) j ≡ false) where
-  stays : (j : Job) → In j (m .jobs) → endsAt (m .settings) (suc (m .clock)) j ≡ false
-  stays j i = neither (endsAt (m .settings) (suc (m .clock)) j) (startsAt (suc (m .clock)) j) (q j i) .0
+  abbrev n : ℕ
+  n = suc (m .clock)
+
+  held : (j : Job) → In j (m .jobs) → (endsAt (m .settings) n j || releasedAt (m .settings) n j) ≡ false
+  held j i = neither (endsAt (m .settings) n j || releasedAt (m .settings) n j) (startsAt n j) (q j i) .0
+
+  stays : (j : Job) → In j (m .jobs) → endsAt (m .settings) n j ≡ false
+  stays j i = neither (endsAt (m .settings) n j) (releasedAt (m .settings) n j) (held j i) .0
+
+  holds : (j : Job) → In j (m .jobs) → releasedAt (m .settings) n j ≡ false
+  holds j i = neither (endsAt (m .settings) n j) (releasedAt (m .settings) n j) (held j i) .1
 
   by-kind : (k : Kind) → ValidBy k m → rulesOf k m tick ≡ record { reply = refusing refusal.None; model = easy.later m }
-  by-kind Conservative w = conservative.quiet-tick m l stays (λ j i. neither (endsAt (m .settings) (suc (m .clock)) j) (startsAt (suc (m .clock)) j) (q j i) .1)
-  by-kind Easy w = easy.quiet-tick m w l (none-any (picks (ending m)) (m .jobs) stays)
+  by-kind Conservative w =
+      conservative.quiet-tick m l stays holds (λ j i. neither (endsAt (m .settings) n j || releasedAt (m .settings) n j) (startsAt n j) (q j i) .1)
+  by-kind Easy w = easy.quiet-tick m w l stays holds
 
   pub quiet-tick : call m tick ≡ record { reply = refusing refusal.None; model = passed m 1 }
   quiet-tick = by-kind (m .settings .kind) v

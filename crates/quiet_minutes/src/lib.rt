@@ -1,6 +1,6 @@
 // Minutes in which nothing is due: ticks of them only move the clock, so that they can be passed over.
 ghost use Prim.Native.Nat.{_≤_};
-ghost use Rattle.scheduler.specs.Limits.{horizon};
+ghost use Rattle.jobs.specs.Slots.{Low};
 ghost use Rattle.guarantees.specs.Premise.{Premise};
 ghost use Rattle.quiet_minutes.specs.DueMinutes.{Until, QuietFor};
 ghost use Rattle.quiet_minutes.specs.QuietCount.{Ahead};
@@ -23,9 +23,9 @@ fn before(minute: u32, clock: u32, most: u32) -> u32
     most
 }
 
-// How many minutes lie between `clock` and the end or start of `job`, at most `most`.
+// How many minutes lie between `clock` and the start, the end or the release of `job`, whichever is next, at most `most`.
 fn quiet_of(job: Job, settings: Settings, clock: u32, most: u32) -> u32
-    requires { ⌜ job .start ≤ horizon ⌝ }
+    requires { ⌜ Low job ⌝ }
     ensures { λ r. ⌜ (r ≤ most) × QuietFor settings clock r job ⌝ }
 {
     let s = job.state;
@@ -33,14 +33,16 @@ fn quiet_of(job: Job, settings: Settings, clock: u32, most: u32) -> u32
         State::Unused => most,
         State::Waiting => before(job.start, clock, most),
         State::Running => before(
-            job.start + settings.hold_time(job.estimate as u32),
+            job.start + settings.run_time(job.estimate as u32),
             clock,
             most,
         ),
+        State::Cleanup => before(job.end + settings.cleanup(), clock, most),
     }
 }
 
-// How many of the next minutes are quiet, at most `most`: no job ends or starts in them, and none lies past the last minute.
+// How many of the next minutes are quiet, at most `most`: no job ends, is released or starts in them, and none lies
+// past the last minute.
 pub fn quiet_minutes(d: Scheduler, most: u32) -> u32
     requires { ⌜ Premise d ⌝ }
     ensures { λ r. ⌜ Ahead d most r ⌝ }

@@ -29,6 +29,7 @@ code refusal.ProfileTooLong = 8
 code refusal.Malformed = 9
 code refusal.TooShort = 10
 code refusal.NotWaiting = 11
+code refusal.CleanupOutOfRange = 12
 
 -- "Where several apply, order": the first test that holds decides
 unfoldable pub verdict : List (Bool × Refusal) → Refusal

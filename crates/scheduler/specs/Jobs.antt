@@ -1,44 +1,24 @@
 -- One job: its state, the nodes it holds, and the tests that calls pick jobs by.
 -- Assumes nothing.
-use mathlib.Core.Bool.{Bool, true, false, _&&_}
+use mathlib.Core.Bool.{Bool, _&&_}
 use Prim.Native.Nat.{ℕ}
 use lib.Dec.{eqb}
 use Rattle.lists.specs.Tests.{on}
 use Rattle.scheduler.specs.declared.Settings.{Settings}
 use Rattle.scheduler.specs.declared.State.{State}
-use Rattle.scheduler.specs.declared.State.the-variants.{Unused, Waiting, Running}
+use Rattle.scheduler.specs.declared.State.the-variants.{Unused, Cleanup}
 use Rattle.scheduler.specs.declared.Job.{Job}
 use Rattle.scheduler.specs.declared.Submission.{Submission}
 use Rattle.scheduler.specs.declared.Departure.{Departure}
 use Rattle.scheduler.specs.declared.Departure.the-variants.{Complete, Cancel}
 use Rattle.scheduler.specs.declared.Select.{Select}
 use Rattle.scheduler.specs.declared.Select.the-variants as select
-use Rattle.scheduler.specs.Settings.{until}
+use Rattle.scheduler.specs.States.{live?, waiting?, running?, cleaning?, holding?}
+use Rattle.scheduler.specs.Settings.{endOf, until}
 
 -- "unused ones all zero"
 abbrev pub unused : Job
-unused = record { ticket = 0; nodes = 0; estimate = 0; state = Unused; start = 0; promise = 0 }
-
-abbrev pub live? : State → Bool
-live? Unused = false
-live? Waiting = true
-live? Running = true
-
-abbrev pub waiting? : State → Bool
-waiting? Unused = false
-waiting? Waiting = true
-waiting? Running = false
-
-abbrev pub running? : State → Bool
-running? Unused = false
-running? Waiting = false
-running? Running = true
-
--- whether its nodes are taken now
-abbrev pub holding? : State → Bool
-holding? Unused = false
-holding? Waiting = false
-holding? Running = true
+unused = record { ticket = 0; nodes = 0; estimate = 0; state = Unused; start = 0; promise = 0; end = 0 }
 
 abbrev pub isLive : Job → Bool
 isLive j = live? (j .state)
@@ -48,6 +28,9 @@ isWaiting j = waiting? (j .state)
 
 abbrev pub isRunning : Job → Bool
 isRunning j = running? (j .state)
+
+abbrev pub isCleaning : Job → Bool
+isCleaning j = cleaning? (j .state)
 
 abbrev pub isHolding : Job → Bool
 isHolding j = holding? (j .state)
@@ -64,18 +47,33 @@ departs? Cancel s = waiting? s
 abbrev pub departsAs : Departure → ℕ → Job → Bool
 departsAs h t j = departs? h (j .state) && eqb (j .ticket) t
 
--- "A stack that starts at minute s ends at s + held unless ended before. The desk ends it there, and its nodes are free in that
--- same minute."
+-- "A stack that starts at minute s ends at s + held unless ended before. The desk ends it there"
 abbrev pub endsAt : Settings → ℕ → Job → Bool
-endsAt S t j = isRunning j && eqb (until S j) t
+endsAt S t j = isRunning j && eqb (endOf S j) t
+
+-- "and its nodes are free in that same minute", or where nodes are cleared after a run, once that is done
+abbrev pub releasedAt : Settings → ℕ → Job → Bool
+releasedAt S t j = isCleaning j && eqb (until S j) t
 
 -- a job that comes in: what is asked for it, under its ticket
 abbrev pub fresh : (ticket : ℕ) → Submission → State → (start promise : ℕ) → Job
-fresh t o s start promise = record { ticket = t; nodes = o .nodes; estimate = o .estimate; state = s; start = start; promise = promise }
+fresh t o s start promise = record { ticket = t; nodes = o .nodes; estimate = o .estimate; state = s; start = start; promise = promise; end = 0 }
 
 -- the same job in a state, with a start
 abbrev pub jobAt : State → (start : ℕ) → Job → Job
-jobAt s start j = record { ticket = j .ticket; nodes = j .nodes; estimate = j .estimate; state = s; start = start; promise = j .promise }
+jobAt s start j = record { ticket = j .ticket; nodes = j .nodes; estimate = j .estimate; state = s; start = start; promise = j .promise; end = 0 }
+
+-- the same job once its run has ended: "its record, and no other, keeps its end"
+abbrev pub cleaning : (end : ℕ) → Job → Job
+cleaning m j = record {
+  ticket = j .ticket;
+  nodes = j .nodes;
+  estimate = j .estimate;
+  state = Cleanup;
+  start = j .start;
+  promise = j .promise;
+  end = m;
+}
 
 -- what each test picks
 abbrev pub picks : Select → Job → Bool

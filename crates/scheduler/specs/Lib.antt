@@ -1,4 +1,5 @@
 pub mod Limits
+pub mod States
 pub mod Jobs
 pub mod Table
 pub mod Settings

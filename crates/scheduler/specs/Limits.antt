@@ -26,9 +26,13 @@ longestEstimate = wall.longest
 abbrev pub longestWait : ℕ
 longestWait = 10080
 
--- no job holds its nodes for longer, whatever the settings
+-- document 02, No. 3: "nodes stay taken for clearing minutes, 0 to 30"
+abbrev pub longestCleanup : ℕ
+longestCleanup = 30
+
+-- no job holds its nodes for longer, whatever the settings: the longest run and the longest cleanup
 abbrev pub longestHold : ℕ
-longestHold = wall.longest
+longestHold = 10110
 
 -- "Tickets are numbered upward by one from the first, up to 999,999."
 abbrev pub lastTicket : ℕ
@@ -42,6 +46,7 @@ limits = record {
   live = slots;
   «longest_estimate» = longestEstimate;
   «longest_wait» = longestWait;
+  «longest_cleanup» = longestCleanup;
   «longest_hold» = longestHold;
   «last_ticket» = lastTicket;
 }

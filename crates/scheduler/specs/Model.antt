@@ -15,7 +15,7 @@ use Rattle.scheduler.specs.declared.Select.the-variants as select
 use Rattle.scheduler.specs.Limits.{slots}
 use Rattle.scheduler.specs.declared.Settings.{Settings}
 use Rattle.scheduler.specs.Jobs.{unused, isLive}
-use Rattle.scheduler.specs.Table.{staying}
+use Rattle.scheduler.specs.Table.{remaining}
 
 pub record Model : Type 0 where
   pub settings : Settings
@@ -39,9 +39,9 @@ joined m j = record { settings = m .settings; clock = m .clock; next = suc (m .n
 abbrev pub ending : Model → Select
 ending m = select.EndingAt (m .settings) (suc (m .clock))
 
--- those that a test picks leave, and the clock is set
+-- where those that a test picks end, leave, or are released: who remains, and the clock is set
 abbrev pub without : Model → ℕ → Select → Model
-without m clock s = record { settings = m .settings; clock = clock; next = m .next; jobs = staying s (m .jobs) }
+without m clock s = record { settings = m .settings; clock = clock; next = m .next; jobs = remaining (m .settings) clock s (m .jobs) }
 
 unfoldable pub store : Model → Scheduler
 store m = record { settings = m .settings; clock = m .clock; next = m .next; jobs = pad slots unused (m .jobs) }

@@ -1,15 +1,17 @@
 -- What an opening fixes, and every limit that calls go by, read from it through one definition each.
 -- Assumes nothing.
-use Prim.Native.Nat.{ℕ, _+_}
+use mathlib.Core.Bool.{cond}
+use Prim.Native.Nat.{ℕ, _+_, min}
 use Rattle.walltime.specs.WallTime.{wallTime}
 use Rattle.scheduler.specs.declared.Kind.{Kind}
 use Rattle.scheduler.specs.declared.Settings.{Settings}
 use Rattle.scheduler.specs.declared.Job.{Job}
 use Rattle.scheduler.specs.Limits as limit
+use Rattle.scheduler.specs.States.{cleaning?}
 
--- "A refused opening hands back an empty desk of its kind with 1 node"
+-- "A refused opening hands back an empty desk of its kind with 1 node"; nodes that are not cleared
 abbrev pub refusedSettings : Kind → Settings
-refusedSettings k = record { kind = k; nodes = 1 }
+refusedSettings k = record { kind = k; nodes = 1; cleanup = 0 }
 
 -- "Minutes of the clock: 0 to 1,000,000, the last minute."
 abbrev pub horizon : Settings → ℕ
@@ -23,18 +25,27 @@ slots S = limit.slots
 abbrev pub longest : Settings → ℕ
 longest S = limit.longestEstimate
 
--- the minutes for which a job of this estimate holds its nodes (document 01: "held time")
-unfoldable pub holdTime : Settings → ℕ → ℕ
-holdTime S e = wallTime e
-
--- the minutes for which its nodes stay taken after its run has ended (document 02, No. 3: "clearing"): so far none
+-- document 02, No. 3: "From now on nodes stay taken for clearing minutes, 0 to 30, fixed at opening, after a planned or an early end
+-- alike". An opening with more is refused, so that in every scheduler it is the setting (`cleanup-is`)
 unfoldable pub cleanup : Settings → ℕ
-cleanup S = 0
+cleanup S = min (S .cleanup) limit.longestCleanup
 
--- the longest of these: the unit of the bound, "r × 10,080"
+-- the minutes for which a job of this estimate runs (document 01: "held time")
+unfoldable pub runTime : Settings → ℕ → ℕ
+runTime S e = wallTime e
+
+-- and for which it holds its nodes: "Held time plus clearing is what must fit"
+unfoldable pub holdTime : Settings → ℕ → ℕ
+holdTime S e = runTime S e + cleanup S
+
+-- the longest of these: the unit of the bound, "r × (10,080 + clearing)"
 unfoldable pub unit : Settings → ℕ
 unit S = holdTime S (longest S)
 
--- the minute from which the nodes of a job are free again: "A stack that starts at minute s ends at s + held unless ended before"
+-- "A stack that starts at minute s ends at s + held unless ended before"
+unfoldable pub endOf : Settings → Job → ℕ
+endOf S j = j .start + runTime S (j .estimate)
+
+-- the minute from which the nodes of a job are free again: of one whose run has ended, clearing minutes after its end
 unfoldable pub until : Settings → Job → ℕ
-until S j = j .start + holdTime S (j .estimate)
+until S j = cond (cleaning? (j .state)) (j .end + cleanup S) (j .start + holdTime S (j .estimate))

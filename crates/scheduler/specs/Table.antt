@@ -1,8 +1,9 @@
 -- The job table: what summing and removing mean on a list of jobs.
 -- Assumes nothing.
-use mathlib.Core.Bool.{Bool, not, cond}
+use mathlib.Core.Bool.{Bool, false, not, cond, _&&_, _||_}
 use mathlib.Core.List.{List, [], _∷_, map}
 use Prim.Native.Nat.{ℕ}
+use lib.Dec.{eqb}
 use lib.ListN.{length}
 use Rattle.lists.specs.Lists.{keep, sum}
 use Rattle.lists.specs.Pads.{pad}
@@ -12,8 +13,10 @@ use Rattle.scheduler.specs.declared.Departure.the-variants.{Complete, Ca
 use Rattle.scheduler.specs.declared.Select.{Select}
 use Rattle.scheduler.specs.declared.Select.the-variants as select
 use Rattle.scheduler.specs.declared.Tickets.{Tickets}
+use Rattle.scheduler.specs.declared.Settings.{Settings}
 use Rattle.scheduler.specs.Limits.{slots}
-use Rattle.scheduler.specs.Jobs.{held, picks}
+use Rattle.scheduler.specs.Settings.{cleanup}
+use Rattle.scheduler.specs.Jobs.{held, picks, releasedAt, cleaning}
 
 -- the scheduler with other jobs
 abbrev pub withJobs : Scheduler → List Job → Scheduler
@@ -37,14 +40,42 @@ tickets ts = record { count = length ts; list = pad slots 0 ts }
 abbrev pub oneIf : Bool → ℕ → List ℕ
 oneIf given t = cond given (t ∷ []) []
 
--- the tickets ended, where those that a test picks leave: a job that is withdrawn has not run
-abbrev pub endedOf : Select → List Job → List ℕ
-endedOf select.Live js = ticketsOf (keep (picks select.Live) js)
-endedOf select.Waiting js = ticketsOf (keep (picks select.Waiting) js)
-endedOf (select.Departing Complete t) js = ticketsOf (keep (picks (select.Departing Complete t)) js)
-endedOf (select.Departing Cancel t) js = []
-endedOf (select.EndingAt S t) js = ticketsOf (keep (picks (select.EndingAt S t)) js)
+-- whose run ends where those that a test picks leave: a job that is withdrawn has not run
+abbrev pub ends : Select → Job → Bool
+ends select.Live j = false
+ends select.Waiting j = false
+ends (select.Departing Complete t) j = picks (select.Departing Complete t) j
+ends (select.Departing Cancel t) j = false
+ends (select.EndingAt S t) j = picks (select.EndingAt S t) j
 
--- those that a test does not pick
-abbrev pub staying : Select → List Job → List Job
-staying s js = keep (λ (j : Job). not (picks s j)) js
+abbrev pub endedOf : Select → List Job → List ℕ
+endedOf s js = ticketsOf (keep (ends s) js)
+
+abbrev pub withdraws : Select → Job → Bool
+withdraws select.Live j = false
+withdraws select.Waiting j = false
+withdraws (select.Departing Complete t) j = false
+withdraws (select.Departing Cancel t) j = picks (select.Departing Cancel t) j
+withdraws (select.EndingAt S t) j = false
+
+-- whose nodes are free again
+abbrev pub releases : Select → Job → Bool
+releases select.Live j = false
+releases select.Waiting j = false
+releases (select.Departing h t) j = false
+releases (select.EndingAt S t) j = releasedAt S t j
+
+-- who leaves: who is withdrawn, whose nodes are free again, and whose run ends where nodes are not cleared
+abbrev pub leaves : Settings → Select → Job → Bool
+leaves S s j = withdraws s j || releases s j || (ends s j && eqb (cleanup S) 0)
+
+-- those that do not
+abbrev pub staying : Settings → Select → List Job → List Job
+staying S s js = keep (λ (j : Job). not (leaves S s j)) js
+
+-- of these, whose run ends is in cleanup from now on
+abbrev pub ceased : (now : ℕ) → Select → Job → Job
+ceased now s j = cond (ends s j) (cleaning now j) j
+
+abbrev pub remaining : Settings → (now : ℕ) → Select → List Job → List Job
+remaining S now s js = map (ceased now s) (staying S s js)

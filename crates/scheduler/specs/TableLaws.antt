@@ -1,17 +1,18 @@
 -- What an operation on the slots of a stored model means for the model.
 -- Assumes nothing.
 use mathlib.Core.Path.{_≡_, refl, ap}
-use mathlib.Core.Bool.{false}
+use mathlib.Core.Bool.{Bool, false, cond}
 use Prim.Native.Nat.{ℕ, _<_}
 use lib.ListN.{length, set}
 use Rattle.lists.specs.Pads.{sum-pad, pad-set}
+use Rattle.scheduler.specs.declared.Settings.{Settings}
 use Rattle.scheduler.specs.declared.Job.{Job}
 use Rattle.scheduler.specs.declared.Departure.the-variants.{Complete, Cancel}
 use Rattle.scheduler.specs.declared.Select.{Select}
 use Rattle.scheduler.specs.declared.Select.the-variants as select
 use Rattle.scheduler.specs.Limits.{slots}
-use Rattle.scheduler.specs.Jobs.{unused, held, picks}
-use Rattle.scheduler.specs.Table.{withJobs, nodesHeld}
+use Rattle.scheduler.specs.Jobs.{unused, held, picks, cleaning}
+use Rattle.scheduler.specs.Table.{withJobs, nodesHeld, ends, leaves, ceased}
 use Rattle.scheduler.specs.Model.{Model, store, withModelJobs}
 
 -- no test picks an unused slot
@@ -21,6 +22,24 @@ picks-unused select.Waiting = refl
 picks-unused (select.Departing Complete t) = refl
 picks-unused (select.Departing Cancel t) = refl
 picks-unused (select.EndingAt S t) = refl
+
+-- nor ends its run, nor lets it leave
+pub ends-unused : (s : Select) → ends s unused ≡ false
+ends-unused select.Live = refl
+ends-unused select.Waiting = refl
+ends-unused (select.Departing Complete t) = refl
+ends-unused (select.Departing Cancel t) = refl
+ends-unused (select.EndingAt S t) = refl
+
+pub leaves-unused : (S : Settings) (s : Select) → leaves S s unused ≡ false
+leaves-unused S select.Live = refl
+leaves-unused S select.Waiting = refl
+leaves-unused S (select.Departing Complete t) = refl
+leaves-unused S (select.Departing Cancel t) = refl
+leaves-unused S (select.EndingAt R t) = refl
+
+pub ceased-unused : (now : ℕ) (s : Select) → ceased now s unused ≡ unused
+ceased-unused now s = ap (λ (b : Bool). cond b (cleaning now unused) unused) (ends-unused s)
 
 module _ (m : Model) where
   pub nodesHeld-stored : nodesHeld (store m .jobs) ≡ nodesHeld (m .jobs)

@@ -1,31 +1,50 @@
--- What callers use of the times that jobs hold their nodes. Nobody else looks into `holdTime`, `unit` and `until`.
+-- What callers use of the times that jobs run and hold their nodes. Nobody else looks into `cleanup`, `runTime`, `holdTime`, `unit`,
+-- `endOf` and `until`.
 -- Assumes nothing.
 use Prim.Native.Nat.{ℕ, _+_, _*_, _≤_}
 use native.Mathlib.Omega.{arith}
 use native.Mathlib.Nat.{mul-le-mul}
 use mathlib.Core.Path.{_≡_, refl}
+use mathlib.Core.Bool.{false, true}
 use Rattle.walltime.specs.Laws.{wallTime-le, wallTime-pos, wallTime-mono}
 use Rattle.scheduler.specs.declared.Settings.{Settings}
 use Rattle.scheduler.specs.declared.Submission.{Submission}
 use Rattle.scheduler.specs.declared.State.{State}
 use Rattle.scheduler.specs.declared.Job.{Job}
-use Rattle.scheduler.specs.Limits.{longestHold}
-use Rattle.scheduler.specs.Settings.{longest, holdTime, unit, until}
-use Rattle.scheduler.specs.Jobs.{fresh, jobAt}
+use Rattle.scheduler.specs.Limits.{longestCleanup, longestHold}
+use Rattle.scheduler.specs.States.{cleaning?}
+use Rattle.scheduler.specs.Settings.{longest, cleanup, runTime, holdTime, unit, endOf, until}
+use Rattle.scheduler.specs.Jobs.{fresh, jobAt, cleaning, isCleaning}
 
 module _ (S : Settings) where
-  pub hold-pos : (e : ℕ) → 1 ≤ e → 1 ≤ holdTime S e
+  pub cleanup-le : cleanup S ≤ longestCleanup
+  unfolding cleanup
+  cleanup-le = omega arith
+
+  -- of settings that an opening takes it is the setting
+  pub cleanup-is : S .cleanup ≤ longestCleanup → cleanup S ≡ S .cleanup
+  unfolding cleanup
+  cleanup-is l = omega arith
+
+  pub run-pos : (e : ℕ) → 1 ≤ e → 1 ≤ runTime S e
+  unfolding runTime
+  run-pos e l = wallTime-pos e l
+
+  pub hold-is : (e : ℕ) → holdTime S e ≡ runTime S e + cleanup S
   unfolding holdTime
-  hold-pos e l = wallTime-pos e l
+  hold-is e = refl
+
+  pub hold-pos : (e : ℕ) → 1 ≤ e → 1 ≤ holdTime S e
+  hold-pos e l = omega (arith, hold-is e, run-pos e l)
 
   pub hold-le : (e : ℕ) → holdTime S e ≤ longestHold
-  unfolding holdTime
-  hold-le e = wallTime-le e
+  unfolding holdTime runTime
+  hold-le e = omega (arith, wallTime-le e, cleanup-le)
 
   -- longer estimates never hold for a shorter time
   pub hold-mono : (d e : ℕ) → d ≤ e → holdTime S d ≤ holdTime S e
-  unfolding holdTime
-  hold-mono d e l = wallTime-mono d e l
+  unfolding holdTime runTime
+  hold-mono d e l = omega (arith, wallTime-mono d e l)
 
   pub hold-unit : (e : ℕ) → e ≤ longest S → holdTime S e ≤ unit S
   unfolding unit
@@ -35,27 +54,38 @@ module _ (S : Settings) where
   unfolding unit
   unit-le = hold-le (longest S)
 
+  pub cleanup-unit : cleanup S ≤ unit S
+  unfolding unit
+  cleanup-unit = omega (arith, hold-is (longest S))
+
   -- so many units are at most as many of the longest hold
   pub units-le : (n k : ℕ) → n ≤ k → n * unit S ≤ k * longestHold
   units-le n k l = mul-le-mul l unit-le
 
-  pub until-is : (j : Job) → until S j ≡ j .start + holdTime S (j .estimate)
-  unfolding until
-  until-is j = refl
+  pub end-is : (j : Job) → endOf S j ≡ j .start + runTime S (j .estimate)
+  unfolding endOf
+  end-is j = refl
 
-  pub until-at : (s : State) (start : ℕ) (j : Job) → until S (jobAt s start j) ≡ start + holdTime S (j .estimate)
+  pub until-is : (j : Job) → isCleaning j ≡ false → until S j ≡ j .start + holdTime S (j .estimate)
   unfolding until
-  until-at s start j = refl
+  until-is j n = rw n
 
-  pub until-still : (s : State) (j : Job) → until S (jobAt s (j .start) j) ≡ until S j
+  pub until-end : (j : Job) → isCleaning j ≡ false → until S j ≡ endOf S j + cleanup S
+  until-end j n = omega (arith, until-is j n, hold-is (j .estimate), end-is j)
+
+  pub until-cleaning : (j : Job) → isCleaning j ≡ true → until S j ≡ j .end + cleanup S
   unfolding until
-  until-still s j = refl
+  until-cleaning j c = rw c
 
-  pub until-fresh : (t : ℕ) (o : Submission) (s : State) (start promise : ℕ)
+  pub until-cleaned : (m : ℕ) (j : Job) → until S (cleaning m j) ≡ m + cleanup S
+  until-cleaned m j = until-cleaning (cleaning m j) refl
+
+  pub until-at : (s : State) (start : ℕ) (j : Job) → cleaning? s ≡ false → until S (jobAt s start j) ≡ start + holdTime S (j .estimate)
+  until-at s start j n = until-is (jobAt s start j) n
+
+  pub until-still : (s : State) (j : Job) → cleaning? s ≡ false → isCleaning j ≡ false → until S (jobAt s (j .start) j) ≡ until S j
+  until-still s j n o = omega (arith, until-at s (j .start) j n, until-is j o)
+
+  pub until-fresh : (t : ℕ) (o : Submission) (s : State) (start promise : ℕ) → cleaning? s ≡ false
       → until S (fresh t o s start promise) ≡ start + holdTime S (o .estimate)
-  unfolding until
-  until-fresh t o s start promise = refl
-
-  pub until-from : (j : Job) → j .start ≤ until S j
-  unfolding until
-  until-from j = omega arith
+  until-fresh t o s start promise n = until-is (fresh t o s start promise) n

@@ -2,8 +2,8 @@
 ghost use mathlib.Core.Path.{_≡_};
 ghost use Prim.Native.Nat.{_≤_};
 ghost use Rattle.scheduler.specs.Limits.{maxNodes, longestEstimate, limits, outside};
-ghost use Rattle.scheduler.specs.Jobs.{unused, fresh, jobAt, isRunning, picks};
-ghost use Rattle.scheduler.specs.Settings.{refusedSettings, holdTime, unit};
+ghost use Rattle.scheduler.specs.Jobs.{unused, fresh, jobAt, cleaning, isRunning, isCleaning, releasedAt, picks};
+ghost use Rattle.scheduler.specs.Settings.{refusedSettings, cleanup, runTime, holdTime, unit};
 ghost use Rattle.scheduler.specs.Table.{tickets, oneIf};
 ghost use Rattle.scheduler.specs.Model.{store, empty};
 ghost use Rattle.scheduler.specs.Answers.{code, accepts, refusedAnswer, refusedOutcome, noTickets};
@@ -19,10 +19,11 @@ pub enum State {
     Unused,
     Waiting,
     Running,
+    Cleanup,
 }
 
-// A live job (document 01: "stack", "record"), or an unused slot, which is all zero. Nodes and estimates are within 16 bits: a scheduler
-// copies its 64 jobs wherever it is handed on.
+// A live job (document 01: "stack", "record"), or an unused slot, which is all zero. A job in cleanup has run: it keeps its end, which is 0 in
+// every other, and its nodes stay taken. Nodes and estimates are within 16 bits: a scheduler copies its 64 jobs wherever it is handed on.
 pub struct Job {
     pub ticket: u32,
     pub nodes: u16,
@@ -30,12 +31,14 @@ pub struct Job {
     pub state: State,
     pub start: u32,
     pub promise: u32,
+    pub end: u32,
 }
 
-// What an opening fixes: the rules, and the machine's nodes.
+// What an opening fixes: the rules, the machine's nodes, and for how many minutes nodes stay taken after a run ("clearing").
 pub struct Settings {
     pub kind: Kind,
     pub nodes: u32,
+    pub cleanup: u32,
 }
 
 // The live jobs stand first, in ticket order; the slots after them are unused.
@@ -52,6 +55,7 @@ pub struct Limits {
     pub live: usize,
     pub longest_estimate: u32,
     pub longest_wait: u32,
+    pub longest_cleanup: u32,
     pub longest_hold: u32,
     pub last_ticket: u32,
 }
@@ -70,6 +74,7 @@ pub enum Refusal {
     Malformed,
     TooShort,
     NotWaiting,
+    CleanupOutOfRange,
 }
 
 // Tickets in order; the places past the count are 0.
@@ -158,6 +163,7 @@ impl Refusal {
             Refusal::Malformed => 9,
             Refusal::TooShort => 10,
             Refusal::NotWaiting => 11,
+            Refusal::CleanupOutOfRange => 12,
         }
     }
 
@@ -226,6 +232,7 @@ impl Job {
             state: State::Unused,
             start: 0,
             promise: 0,
+            end: 0,
         }
     }
 
@@ -241,6 +248,7 @@ impl Job {
             state: state,
             start: start,
             promise: promise,
+            end: 0,
         }
     }
 
@@ -255,6 +263,22 @@ impl Job {
             state: state,
             start: start,
             promise: self.promise,
+            end: 0,
+        }
+    }
+
+    // The same job once its run has ended.
+    pub fn cleaning(self, end: u32) -> Job
+        ensures { λ r. ⌜ r ≡ cleaning end self ⌝ }
+    {
+        Job {
+            ticket: self.ticket,
+            nodes: self.nodes,
+            estimate: self.estimate,
+            state: State::Cleanup,
+            start: self.start,
+            promise: self.promise,
+            end: end,
         }
     }
 
@@ -266,6 +290,7 @@ impl Job {
             State::Unused => false,
             State::Waiting => true,
             State::Running => true,
+            State::Cleanup => true,
         }
     }
 
@@ -277,6 +302,7 @@ impl Job {
             State::Unused => false,
             State::Waiting => true,
             State::Running => false,
+            State::Cleanup => false,
         }
     }
 
@@ -288,6 +314,19 @@ impl Job {
             State::Unused => false,
             State::Waiting => false,
             State::Running => true,
+            State::Cleanup => false,
+        }
+    }
+
+    pub fn is_cleaning(self) -> bool
+        ensures { λ r. ⌜ r ≡ isCleaning self ⌝ }
+    {
+        let s = self.state;
+        match s {
+            State::Unused => false,
+            State::Waiting => false,
+            State::Running => false,
+            State::Cleanup => true,
         }
     }
 
@@ -304,7 +343,7 @@ impl Job {
         false
     }
 
-    // Whether it runs and its nodes are free again from this minute on. (A difference, so that no sum can leave its range.)
+    // Whether it runs and its run ends in this minute. (A difference, so that no sum can leave its range.)
     pub fn ends_at(self, settings: Settings, minute: u32) -> bool
         ensures { λ r. ⌜ r ≡ picks (Select.EndingAt settings minute) self ⌝ }
     {
@@ -316,18 +355,54 @@ impl Job {
                 if minute < self.start {
                     return false;
                 }
-                minute - self.start == settings.hold_time(self.estimate as u32)
+                minute - self.start == settings.run_time(self.estimate as u32)
+            }
+            State::Cleanup => false,
+        }
+    }
+
+    // Whether its run has ended and its nodes are free again from this minute on.
+    pub fn released_at(self, settings: Settings, minute: u32) -> bool
+        ensures { λ r. ⌜ r ≡ releasedAt settings minute self ⌝ }
+    {
+        let s = self.state;
+        match s {
+            State::Unused => false,
+            State::Waiting => false,
+            State::Running => false,
+            State::Cleanup => {
+                if minute < self.end {
+                    return false;
+                }
+                minute - self.end == settings.cleanup()
             }
         }
     }
 }
 
 impl Settings {
-    // For how many minutes a job of this estimate holds its nodes.
+    // For how many minutes nodes stay taken after a run. (An opening refuses more than the longest.)
+    pub fn cleanup(self) -> u32
+        ensures { λ r. ⌜ r ≡ cleanup self ⌝ }
+    {
+        if self.cleanup <= Scheduler::LONGEST_CLEANUP {
+            return self.cleanup;
+        }
+        Scheduler::LONGEST_CLEANUP
+    }
+
+    // For how many minutes a job of this estimate runs.
+    pub fn run_time(self, estimate: u32) -> u32
+        ensures { λ r. ⌜ r ≡ runTime self estimate ⌝ }
+    {
+        walltime::wall_time(estimate)
+    }
+
+    // For how many minutes it holds its nodes.
     pub fn hold_time(self, estimate: u32) -> u32
         ensures { λ r. ⌜ r ≡ holdTime self estimate ⌝ }
     {
-        walltime::wall_time(estimate)
+        self.run_time(estimate) + self.cleanup()
     }
 
     // The longest of these: the unit of the bound.
@@ -344,12 +419,13 @@ impl Settings {
         Settings {
             kind: kind,
             nodes: 1,
+            cleanup: 0,
         }
     }
 }
 
 impl Opening {
-    // Why it is refused, in document 01's order: 1, 3.
+    // Why it is refused, in this order: 1, 3, 12.
     fn refusal(self) -> Refusal
         ensures { λ r. ⌜ r ≡ openingRefusal self ⌝ }
     {
@@ -361,6 +437,9 @@ impl Opening {
         }
         if outside_range(self.ticket, 1, Scheduler::LAST_TICKET) {
             return Refusal::OpeningOutOfRange;
+        }
+        if Scheduler::LONGEST_CLEANUP < self.settings.cleanup {
+            return Refusal::CleanupOutOfRange;
         }
         Refusal::None
     }
@@ -378,8 +457,10 @@ impl Scheduler {
 
     pub const LONGEST_WAIT: u32 = 10_080;
 
+    pub const LONGEST_CLEANUP: u32 = 30;
+
     // No job holds its nodes for longer, whatever the settings.
-    pub const LONGEST_HOLD: u32 = 10_080;
+    pub const LONGEST_HOLD: u32 = 10_110;
 
     pub const LAST_TICKET: u32 = 999_999;
 
@@ -392,6 +473,7 @@ impl Scheduler {
             live: Scheduler::LIVE,
             longest_estimate: Scheduler::LONGEST_ESTIMATE,
             longest_wait: Scheduler::LONGEST_WAIT,
+            longest_cleanup: Scheduler::LONGEST_CLEANUP,
             longest_hold: Scheduler::LONGEST_HOLD,
             last_ticket: Scheduler::LAST_TICKET,
         }

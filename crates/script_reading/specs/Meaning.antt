@@ -1,7 +1,7 @@
 -- What the answers of the readers mean, in the words of the definitions of a line.
 -- Assumes nothing.
 use mathlib.Core.Path.{_≡_, refl, ap, sym, _∙_}
-use mathlib.Core.Bool.{Bool, true, false, cond, _&&_}
+use mathlib.Core.Bool.{Bool, true, cond, _&&_}
 use mathlib.Core.Logic.{⊎-elim}
 use mathlib.Core.List.{List, [], _∷_, _++_}
 use mathlib.Core.Option.{Option, none, some}
@@ -129,7 +129,15 @@ module _ {A : Type 0} where
 
 -- what the numbers of each line say
 abbrev pub openingOf : Kind → List ℕ → Option Opening
-openingOf k vs = some (record { settings = record { kind = k; nodes = getD vs 0 0 }; minute = getD vs 1 0; ticket = getD vs 2 0 })
+openingOf k vs =
+    some (record { settings = record { kind = k; nodes = getD vs 0 0; cleanup = getD vs 3 0 }; minute = getD vs 1 0; ticket = getD vs 2 0 })
+
+-- the same, as the code has it: n of them must have been read, and the cleanup is given
+abbrev pub openingBy : Named → Numbers → (n cleanup : ℕ) → Option Opening
+openingBy name r n c =
+    let vs = r .values in
+    withKind (follows name) (λ k. cond (leb n (r .count))
+    (some (record { settings = record { kind = k; nodes = getD vs 0 0; cleanup = c }; minute = getD vs 1 0; ticket = getD vs 2 0 })) none)
 
 abbrev pub submissionOf : List ℕ → Option Command
 submissionOf vs = some (ask (submit (order (getD vs 0 0) (getD vs 1 0))))

@@ -21,7 +21,7 @@ abbrev pub Small : ℕ → Type 0
 Small n = n ≤ 9999999
 
 abbrev pub SmallOpening : Opening → Type 0
-SmallOpening o = Small (o .settings .nodes) × Small (o .minute) × Small (o .ticket)
+SmallOpening o = Small (o .settings .nodes) × Small (o .minute) × Small (o .ticket) × Small (o .settings .cleanup)
 
 abbrev pub SmallCommand : Command → Type 0
 SmallCommand (ask (submit o)) = Small (o .nodes) × Small (o .estimate)
@@ -59,11 +59,15 @@ module _ {A : Type 0} (P : A → Type 0) where
 pub opening-small : (s : List ℕ) (o : Opening) → openingIn s ≡ some o → SmallOpening o
 unfolding openingIn
 opening-small s =
-    any-cond SmallOpening (hasForm s 5 deskWord) _ none
+    any-cond SmallOpening (hasForm s 5 deskWord) _ _
     (any-kind SmallOpening (kindOf (fieldOf s 1)) _ (λ κ.
     any-field SmallOpening s 2 _ (λ n small-n. any-field SmallOpening s 3 _ (λ m small-m. any-field SmallOpening s 4 _ (λ t small-t.
-    any-some SmallOpening _ (small-n, small-m, small-t))))))
-    (any-none SmallOpening)
+    any-some SmallOpening _ (small-n, small-m, small-t, omega arith))))))
+    (any-cond SmallOpening (hasForm s 6 deskWord) _ none
+    (any-kind SmallOpening (kindOf (fieldOf s 1)) _ (λ κ.
+    any-field SmallOpening s 2 _ (λ n small-n. any-field SmallOpening s 3 _ (λ m small-m. any-field SmallOpening s 4 _ (λ t small-t.
+    any-field SmallOpening s 5 _ (λ c small-c. any-some SmallOpening _ (small-n, small-m, small-t, small-c)))))))
+    (any-none SmallOpening))
 
 pub command-small : (s : List ℕ) (q : Command) → commandIn s ≡ some q → SmallCommand q
 unfolding commandIn

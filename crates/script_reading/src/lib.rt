@@ -1,7 +1,7 @@
 // A line of a script, read into what it asks. Each field goes through the field reader to the number reader: there is no second parser.
 ghost use mathlib.Core.Path.{_≡_};
-ghost use Rattle.script_rules.specs.Reading.{withKind, kindOf, openingIn, commandIn};
-ghost use Rattle.script_reading.specs.Meaning.{opens, asks, follows, formFrom, whenRead, openingOf, submissionOf, departureOf, waitOf};
+ghost use Rattle.script_rules.specs.Reading.{kindOf, openingIn, commandIn};
+ghost use Rattle.script_reading.specs.Meaning.{opens, asks, follows, formFrom, whenRead, openingBy, submissionOf, departureOf, waitOf};
 use scheduler::Departure;
 use scheduler::Kind;
 use scheduler::Opening;
@@ -51,13 +51,14 @@ fn read_kind(part: &[u8]) -> Named
     Named::Nothing
 }
 
-fn opening(named: Named, given: Numbers) -> FirstLine
-    ensures { λ r. ⌜ opens r ≡ withKind (follows named) (λ k. whenRead 3 given (openingOf k)) ⌝ }
+// The opening that the first line says, where as many numbers as it has have been read.
+fn opening(named: Named, given: Numbers, numbers: usize, cleanup: u32) -> FirstLine
+    ensures { λ r. ⌜ opens r ≡ openingBy named given numbers cleanup ⌝ }
 {
     let Named::Rules(k) = named else {
         return FirstLine::Malformed;
     };
-    if given.count < 3 {
+    if given.count < numbers {
         return FirstLine::Malformed;
     }
     let v = given.values;
@@ -65,6 +66,7 @@ fn opening(named: Named, given: Numbers) -> FirstLine
         settings: Settings {
             kind: k,
             nodes: v[0],
+            cleanup: cleanup,
         },
         minute: v[1],
         ticket: v[2],
@@ -104,17 +106,21 @@ fn waiting(given: Numbers) -> Asked
     Asked::Wait(v[0])
 }
 
-// The first line opens a desk: its kind, nodes, minute and ticket.
+// The first line opens a desk: its kind, nodes, minute and ticket, and its cleanup if that is not left out.
 pub fn read_first(line: &[u8]) -> FirstLine
     ensures { λ r. ⌜ opens r ≡ openingIn (now (line .entry)) ⌝ }
 {
     let count = text::field_count(line);
     let first = text::field(line, 0);
+    let word = text::field(line, 1);
+    let named = read_kind(word);
+    let given = text::field_numbers(line, 2);
     if has_form(count, first, 5, b"desk") {
-        let word = text::field(line, 1);
-        let named = read_kind(word);
-        let given = text::field_numbers(line, 2);
-        return opening(named, given);
+        return opening(named, given, 3, 0);
+    }
+    if has_form(count, first, 6, b"desk") {
+        let v = given.values;
+        return opening(named, given, 4, v[3]);
     }
     FirstLine::Malformed
 }

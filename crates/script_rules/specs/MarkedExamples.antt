@@ -55,7 +55,7 @@ said e = record {
 
 -- a machine of 10 nodes at minute 0, with ticket 1
 abbrev fresh : Kind → Model
-fresh k = opening.opening (record { settings = record { kind = k; nodes = 10 }; minute = 0; ticket = 1 })
+fresh k = opening.opening (record { settings = record { kind = k; nodes = 10; cleanup = 0 }; minute = 0; ticket = 1 })
 
 -- what a list of commands is answered
 abbrev play : Kind → List Command → List Said
@@ -171,7 +171,10 @@ unfolding
     opening.opening
     opening.openingRefusal
     verdict
+    times.cleanup
+    times.runTime
     times.holdTime
+    times.endOf
     times.unit
     times.until
     refusals.departRefusal

@@ -1,5 +1,6 @@
 -- What a line says. Document 01: "First line: `desk`, `promise` or `loose`, nodes, minute, ticket. Later: `in` nodes estimate; `end`
--- ticket; `wait` minutes"; "fields parted by one tab"; document 02, No. 1: `drop` ticket. Every other line "lacks the form".
+-- ticket; `wait` minutes"; "fields parted by one tab"; document 02, No. 1: `drop` ticket; No. 3: "A sixth field of the `desk` line gives
+-- the clearing, 0 if left out". Every other line "lacks the form".
 -- Assumes nothing.
 use mathlib.Core.Bool.{Bool, true, false, cond, _&&_}
 use mathlib.Core.List.{List, [], _∷_}
@@ -59,13 +60,20 @@ abbrev pub withKind : {A : Type 0} → Option Kind → (Kind → Option A) → O
 withKind (some k) f = f k
 withKind none f = none
 
+abbrev opened : Kind → (nodes minute ticket cleanup : ℕ) → Opening
+opened k n m t c = record { settings = record { kind = k; nodes = n; cleanup = c }; minute = m; ticket = t }
+
 unfoldable pub openingIn : List ℕ → Option Opening
 openingIn s =
     cond
     (hasForm s 5 deskWord)
     (withKind (kindOf (fieldOf s 1)) (λ k. withNumber (numberAt s 2) (λ n. withNumber (numberAt s 3) (λ m. withNumber (numberAt s 4) (λ t.
-    some (record { settings = record { kind = k; nodes = n }; minute = m; ticket = t }))))))
-    none
+    some (opened k n m t 0))))))
+    (cond
+    (hasForm s 6 deskWord)
+    (withKind (kindOf (fieldOf s 1)) (λ k. withNumber (numberAt s 2) (λ n. withNumber (numberAt s 3) (λ m. withNumber (numberAt s 4) (λ t.
+    withNumber (numberAt s 5) (λ c. some (opened k n m t c)))))))
+    none)
 
 unfoldable pub commandIn : List ℕ → Option Command
 commandIn s =

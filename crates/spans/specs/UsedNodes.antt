@@ -40,6 +40,15 @@ module _ (t : ℕ) (x : Span) where
       go (inl a) = takes-after a
       go (inr a) = takes-before (omega arith)
 
+-- one that is over earlier takes no more
+pub takes-less : (t : ℕ) (x y : Span) → x .from ≡ y .from → x .until ≤ y .until → x .nodes ≡ y .nodes → takes t x ≤ takes t y
+takes-less t x y a b c = go (le-or (x .from) t) (le-or (x .until) t)
+  where
+    go : (x .from ≤ t) ⊎ (t < x .from) → (x .until ≤ t) ⊎ (t < x .until) → takes t x ≤ takes t y
+    go (inr p) q = omega (arith, takes-before t x p)
+    go (inl p) (inl q) = omega (arith, takes-after t x q)
+    go (inl p) (inr q) = omega (arith, takes-in t x p q, takes-in t y (omega arith) (omega arith))
+
 -- where it neither begins nor ends, it takes what it took
 pub takes-still : (t r : ℕ) (x : Span) → t ≤ r → (t < x .from → r < x .from) → (t < x .until → r < x .until) → takes r x ≡ takes t x
 takes-still t r x l a b = go (le-or (x .from) t) (le-or (x .until) t)

@@ -4,11 +4,8 @@ use mathlib.Core.Path.{_≡_, sym, _∙_}
 use mathlib.Core.Logic.{⊎-elim}
 use Prim.Native.Nat.{_-_, _≤_, _<_}
 use native.Mathlib.Omega.{arith}
-use lib.ListN.{getD}
-use Rattle.scheduler.specs.Times.{hold-le}
-use Rattle.scheduler.specs.Jobs.{unused}
 use Rattle.scheduler.specs.Model.{view}
-use Rattle.conservative_plan.specs.PlannedSlots.{span-at, Laying, HoldsTo, held-slots, start-low, laying-begin, holds-none, holds-more}
+use Rattle.conservative_plan.specs.PlannedSlots.{Laying, HoldsTo, held-slots, slot-low, laying-begin, holds-none, holds-more}
 use Rattle.conservative_plan.specs.PlannedSlots.{holds-skip, lay, laid-more, laid-unused, laid-all}
 use borrow.Author.Needs.{needs}
 use Rattle.conservative_plan.proofs.tabulate.Statement.{statement}
@@ -31,15 +28,13 @@ loop-holds c =
     let d = s .args .t1 in
     (omega arith, laying-begin (held-slots d (s .pre .0)) _ _ (c .idle .ensures), holds-none (d .settings) (d .jobs) _ (s .pre .3))
 
-span-requires : tie.Need-span-requires Inv-loop μ-loop
-span-requires c κs =
-    let n = c .before .before .before .before .before .before .before .before in
+held-until-requires : tie.Need-held-until-requires Inv-loop μ-loop
+held-until-requires c κs =
+    let n = c .before .before .before .before .before in
     let l = n .before in
     let s = l .before .before .before .before .before in
-    let d = s .args .t1 in (
-      start-low (held-slots d (s .pre .0)) (l .loop .i) (omega (arith, n .loop-test .taken)),
-      omega (arith, c .before .before .before .hold-time .ensures, hold-le (d .settings) (getD (d .jobs) (l .loop .i) unused .estimate)),
-    )
+    let d = s .args .t1 in
+    (slot-low (held-slots d (s .pre .0)) (l .loop .i) (omega (arith, n .loop-test .taken)), c .hold-time .ensures)
 
 lay-requires : tie.Need-lay-requires Inv-loop μ-loop
 unfolding view
@@ -48,7 +43,7 @@ lay-requires c κs =
     let l = n .before in
     let s = l .before .before .before .before .before in
     let d = s .args .t1 in
-    rw (c .span .ensures, c .before .before .before .before .hold-time .ensures, ← span-at (d .settings) (getD (d .jobs) (l .loop .i) unused))
+    rw (c .before .before .before .held-until .ensures)
     (lay (held-slots d (s .pre .0)) {i = l .loop .i} (omega (arith, n .loop-test .taken)) (l .loop .inv .1))
 
 loop-again : tie.Need-loop-again Inv-loop μ-loop
@@ -64,7 +59,7 @@ loop-again c =
     (λ w. rw (w .8, w .9, w .10, w .11) (
       omega arith,
       laid-more q {i = l .i} h (l .inv .1)
-          (rw (w .6 .ensures, w .2 .ensures, ← span-at (d .settings) (getD (d .jobs) (l .i) unused)) at (w .7 .ensures)),
+          (rw (w .3 .ensures) at (w .7 .ensures)),
       rw (w .2 .ensures) (holds-more (l .inv .2) h),
     ))
     (λ w. rw (w .1, w .2, w .3, w .4) (omega arith, laid-unused q {i = l .i} h (l .inv .1) (sym e ∙ w .0 .left), holds-skip (l .inv .2) (sym e ∙ w .0 .left)))
@@ -80,5 +75,5 @@ returns c =
 pub tabulate-spec : {M : Type 1} → statement M
 tabulate-spec =
     tie.close (tie.spec Inv-loop μ-loop idle-requires loop-holds (λ c. search needs) (λ c. search needs) (λ c κs. search needs) (λ c. search needs)
-    (λ c κs. search needs) (λ c. search needs) (λ c. search needs) (λ c. search needs) span-requires lay-requires (λ c. search needs)
+    (λ c κs. search needs) (λ c. search needs) (λ c. search needs) held-until-requires (λ c. search needs) lay-requires (λ c. search needs)
     (λ c. search needs) loop-again returns)

@@ -1,4 +1,5 @@
--- `easy_engine::fill_ends` meets its contract. The invariant: the places passed have ends, the others starts.
+-- `easy_engine::fill_ends` meets its contract. The invariant: the places passed have the minutes until which nodes are held, the others those
+-- from which.
 -- Assumes nothing.
 use Prim.Native.Nat.{_-_, _≤_, _<_}
 use native.Mathlib.Omega.{arith}
@@ -7,11 +8,11 @@ use lib.ListN.{length, getD}
 use Rattle.lists.specs.Lists.{in-getD}
 use Rattle.lists.specs.Pads.{pad}
 use Rattle.scheduler.specs.Limits.{slots}
-use Rattle.scheduler.specs.Times.{hold-le, until-is}
+use Rattle.scheduler.specs.Times.{hold-le}
 use Rattle.scheduler.specs.Jobs.{unused}
-use Rattle.easy_engine.specs.Survey.{estimateOf, StartsInTime}
+use Rattle.easy_engine.specs.Survey.{fromOf, termOf, StartsInTime}
 use Rattle.easy_engine.specs.Columns.{column-at}
-use Rattle.easy_engine.specs.SurveyLoop.{filled, start-there, fill-next, fill-done}
+use Rattle.easy_engine.specs.SurveyLoop.{until-from, filled, from-there, fill-next, fill-done}
 use borrow.Author.Needs.{needs}
 use Rattle.easy_engine.proofs.fill_ends.Statement.{statement}
 use Rattle.easy_engine.proofs.fill_ends.Tie as tie
@@ -44,12 +45,13 @@ add-ends c =
     let s = c .before .before .before .before .before in
     let p = s .pre in
     let h : l .i < length (p .jobs) = omega (arith, p .count-is) in
-    let e : getD (l .ends) (l .i) 0 ≡ getD (p .jobs) (l .i) unused .start = ap (λ ns. getD ns (l .i) 0) (l .inv .1 p) ∙ start-there (s .args .settings) (p .jobs) (l .i) h in
+    let e : getD (l .ends) (l .i) 0 ≡ fromOf (getD (p .jobs) (l .i) unused) =
+    ap (λ ns. getD ns (l .i) 0) (l .inv .1 p) ∙ from-there (s .args .settings) (p .jobs) (l .i) h in
     omega (
       arith,
       c .hold-time .ensures,
       hold-le (s .args .settings) (getD (s .args .terms .now) (l .i) 0),
-      p .ends (getD (p .jobs) (l .i) unused) (in-getD (p .jobs) (l .i) unused h),
+      p .low (getD (p .jobs) (l .i) unused) (in-getD (p .jobs) (l .i) unused h),
     )
 
 mul-ends-2 : tie.Need-mul-ends-2 Inv-loop μ-loop
@@ -67,10 +69,10 @@ loop-again c =
           let h : l .i < length (p .jobs) = omega (arith, p .count-is) in
           rw (
             l .inv .1 p,
-            start-there (s .args .settings) (p .jobs) (l .i) h,
+            from-there (s .args .settings) (p .jobs) (l .i) h,
             c .hold-time .ensures,
-            column-at estimateOf (p .jobs) (s .args .terms .now) (p .terms-are) unused (l .i) h,
-            ← until-is (s .args .settings) (getD (p .jobs) (l .i) unused),
+            column-at termOf (p .jobs) (s .args .terms .now) (p .terms-are) unused (l .i) h,
+            ← until-from (s .args .settings) (getD (p .jobs) (l .i) unused),
           ) (fill-next (s .args .settings) (p .jobs) (l .i) h),
     )
 

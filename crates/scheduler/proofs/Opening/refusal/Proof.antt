@@ -33,11 +33,22 @@ returns-3 c =
 returns-4 : tie.Need-returns-4
 unfolding openingRefusal verdict
 returns-4 c =
-    let e = c .before .before .before .before in
+    let d = c .before .before in
+    let e = d .before .before .before .before in
     let s = e .before .before in
     let t : outside 1 maxNodes (s .args .self .settings .nodes) ≡ false = sym (e .before .outside-range .ensures) ∙ e .if1 .left in
-    let u : outside 1 lastTicket (s .args .self .ticket) ≡ false = sym (c .before .outside-range2 .ensures) ∙ c .if3 .left in
-    rw (t, le-ltb _ _ (c .before .before .if2 .left), u)
+    let u : outside 1 lastTicket (s .args .self .ticket) ≡ false = sym (d .before .outside-range2 .ensures) ∙ d .if3 .left in
+    rw (t, le-ltb _ _ (d .before .before .if2 .left), u, lt-ltb _ _ (c .if4 .taken))
+
+returns-5 : tie.Need-returns-5
+unfolding openingRefusal verdict
+returns-5 c =
+    let d = c .before .before in
+    let e = d .before .before .before .before in
+    let s = e .before .before in
+    let t : outside 1 maxNodes (s .args .self .settings .nodes) ≡ false = sym (e .before .outside-range .ensures) ∙ e .if1 .left in
+    let u : outside 1 lastTicket (s .args .self .ticket) ≡ false = sym (d .before .outside-range2 .ensures) ∙ d .if3 .left in
+    rw (t, le-ltb _ _ (d .before .before .if2 .left), u, le-ltb _ _ (c .if4 .left))
 
 pub refusal-spec : {M : Type 1} → statement M
-refusal-spec = tie.close (tie.spec (λ c κs. search needs) returns returns-2 (λ c κs. search needs) returns-3 returns-4)
+refusal-spec = tie.close (tie.spec (λ c κs. search needs) returns returns-2 (λ c κs. search needs) returns-3 returns-4 returns-5)

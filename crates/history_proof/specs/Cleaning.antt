@@ -1,0 +1,61 @@
+-- A job in cleanup stays so, whatever calls come, until its nodes are free.
+-- Assumes nothing.
+use mathlib.Core.Path.{_≡_, refl, sym, ap, subst, _∙_}
+use mathlib.Core.Bool.{Bool, true, false, cond}
+use mathlib.Core.List.{_++_, map}
+use Prim.Native.Nat.{ℕ, _+_, _≤_, _<_}
+use native.Mathlib.Omega.{arith}
+use borrow.Author.Tests.{lt-ltb}
+use Rattle.lists.specs.Tests.{case}
+use Rattle.lists.specs.Lists.{In, in-left, in-map, in-keep}
+use Rattle.scheduler.specs.declared.Kind.{Kind}
+use Rattle.scheduler.specs.declared.State.{State}
+use Rattle.scheduler.specs.declared.State.the-variants.{Unused, Waiting, Running, Cleanup}
+use Rattle.scheduler.specs.States.{cleaning?}
+use Rattle.scheduler.specs.Settings.{cleanup}
+use Rattle.scheduler.specs.Model.{Model}
+use Rattle.history.specs.Calls.{Call, Rules}
+use Rattle.history.specs.News.{News, clockAfter}
+use Rattle.history.specs.Book.{Fate, waiting, running, cleaning, ended, withdrawn, fateAfter}
+use Rattle.history_proof.specs.Obligations.{JobShown, fateBy, shown, isLive, live, remark, comers, said, Lawful}
+use Rattle.history_proof.specs.Departures.{shown-with}
+
+-- its nodes are not free yet
+abbrev pub cleans : Fate → Bool
+cleans waiting = false
+cleans (running s) = false
+cleans (cleaning s e) = true
+cleans (ended s) = false
+cleans (withdrawn w) = false
+
+pub cleans-job : (s : State) (b n : ℕ) → cleans (fateBy s b n) ≡ cleaning? s
+cleans-job Unused b n = refl
+cleans-job Waiting b n = refl
+cleans-job Running b n = refl
+cleans-job Cleanup b n = refl
+
+-- no call sets the clock back
+clock-up : (e : News) (c : ℕ) → c ≤ clockAfter e c
+clock-up e c = case (e .passed) (λ q. rw q (omega arith)) (λ q. rw q (omega arith))
+
+module _ {k : Kind} {R : Rules} {Valid : Model → Type 0} {OnCourse : Model → ℕ → ℕ → Type 0} (L : Lawful k R Valid OnCourse) (m : Model) (c : Call) (v : Valid m) where
+  pub clock-rises : m .clock ≤ R m c .model .clock
+  clock-rises = omega (arith, L .clock m c v, clock-up (said R m c) (m .clock))
+
+  -- where the clock is below its end and the cleanup, it is there after the call
+  pub cleaning-stays : (x : JobShown) (s n : ℕ) → x .fate ≡ cleaning s n → R m c .model .clock < n + cleanup (m .settings)
+      → In x (map shown (m .jobs)) → In x (map shown (R m c .model .jobs))
+  cleaning-stays x s n f l i =
+      let m′ = R m c .model in
+      let p = cleanup (m′ .settings) in
+      let q : p ≡ cleanup (m .settings) = ap cleanup (L .settings m c v) in
+      let fate : fateAfter p (m′ .clock) (said R m c) (x .ticket) (x .fate) ≡ x .fate =
+      ap (fateAfter p (m′ .clock) (said R m c) (x .ticket)) f
+      ∙ ap (λ (b : Bool). cond b (cleaning s n) (ended s)) (lt-ltb (m′ .clock) (n + p) (omega arith))
+      ∙ sym f in
+      let same : remark p (m′ .clock) (said R m c) x ≡ x = shown-with x _ fate in
+      subst (In x) (sym (L .tells m c v))
+      (in-keep isLive
+      (subst (λ (y : JobShown). In y (map (remark p (m′ .clock) (said R m c)) (map shown (m .jobs) ++ comers (said R m c)))) same
+      (in-map (remark p (m′ .clock) (said R m c)) (in-left (comers (said R m c)) i)))
+      (ap live f))
