@@ -18,6 +18,8 @@ static const char *const reasons[] = {
     "the profile would have more than 129 points",
     "no such refusal",
     "the list is too short",
+    "the ticket is not waiting",
+    "opened with a cleanup above 30",
 };
 
 static void print_tickets(const char *what, const hingerota_tickets *tickets)
@@ -80,7 +82,7 @@ static int play(hingerota_opened opened)
 
 int main(void)
 {
-    hingerota_opening opening = {.nodes = 10, .minute = 0, .ticket = 1};
+    hingerota_opening opening = {.nodes = 10, .minute = 0, .ticket = 1, .cleanup = 0};
 
     printf("promise desk, 10 nodes, minute 0, first ticket 1\n");
     if (play(hingerota_open_promise(opening)))

@@ -30,7 +30,7 @@ fn print(desk: &Desk, call: &str, answer: &Answer) {
 fn main() {
     for (kind, name) in [(Kind::Promise, "promise"), (Kind::Loose, "loose")] {
         println!("{name} desk, 10 nodes, minute 0, first ticket 1");
-        let mut desk = match Desk::open(kind, Opening { nodes: 10, minute: 0, ticket: 1 }) {
+        let mut desk = match Desk::open(kind, Opening { nodes: 10, minute: 0, ticket: 1, cleanup: 0 }) {
             Ok(desk) => desk,
             Err(refused) => panic!("{}", reason(refused.refusal)),
         };

@@ -3,7 +3,8 @@
  *   rt staticlib hingerota                      proves the library and writes target/staticlib/libhingerota.a
  *   gcc -Ihost/include first_day.c target/staticlib/libhingerota.a
  *
- * A desk is the scheduler of one machine. A job is submitted with a number of nodes and an estimate in minutes, and gets a ticket.
+ * A desk is the scheduler of one machine. A job is submitted with a number of nodes and an estimate in minutes, and gets a ticket. After
+ * its run its nodes stay taken for the minutes of cleanup that the desk was opened with: they are wiped before another job gets them.
  *
  * The premise. Every call is proved for desks that meet it, and says nothing of others:
  *   - a desk is made by hingerota_open_promise or hingerota_open_loose alone, and changed by the calls of this header alone;
@@ -15,9 +16,10 @@
  *
  * What is proved. Each call gives exactly what its definition says (docs/ARCHITECTURE.md): answer, desk and points. Over every list of
  * calls on a desk: a job of a Promise Desk starts no later than its promise; a job of a Loose Desk starts no later than its bound, the
- * minute of its submission + 10,080 for each job that waited then and for itself; every head of a Loose Desk hears a forecast and starts
- * no later; and the jobs that run never hold more nodes than the machine has. A promise, a bound and a forecast bind until the job is
- * withdrawn: that was before any of these minutes. A job that is withdrawn never starts.
+ * minute of its submission + 10,080 and the cleanup for each job that waited then and for itself; every head of a Loose Desk hears a
+ * forecast and starts no later; and the jobs that run, with those that ended fewer minutes ago than the cleanup has, never hold more nodes
+ * than the machine has. A promise, a bound and a forecast bind until the job is withdrawn: that was before any of these minutes. A job that
+ * is withdrawn never starts.
  */
 #ifndef HINGEROTA_H
 #define HINGEROTA_H
@@ -33,6 +35,7 @@ enum {
     HINGEROTA_MOST_NODES = 1024,
     HINGEROTA_LAST_MINUTE = 1000000,
     HINGEROTA_LONGEST_ESTIMATE = 10080,
+    HINGEROTA_LONGEST_CLEANUP = 30,
     HINGEROTA_LIVE_JOBS = 64,
     HINGEROTA_LAST_TICKET = 999999,
     HINGEROTA_MOST_POINTS = 129 /* a list of this length is never too short */
@@ -46,22 +49,24 @@ enum {
     HINGEROTA_OPENING_OUT_OF_RANGE = 3, /* a first minute above 1,000,000, or a first ticket outside 1 to 999,999 */
     HINGEROTA_FULL = 4,                 /* 64 jobs are live */
     HINGEROTA_NO_TICKET_LEFT = 5,       /* ticket 999,999 has been given */
-    HINGEROTA_PAST_LAST_MINUTE = 6,     /* a job that could end after minute 1,000,000; a tick or a wait past it */
-    HINGEROTA_NOT_RUNNING = 7,          /* the ticket is of no running job */
+    HINGEROTA_PAST_LAST_MINUTE = 6,     /* a job whose nodes could be taken after minute 1,000,000; a tick or a wait past it */
+    HINGEROTA_NOT_RUNNING = 7,          /* the ticket is of no running job; one in cleanup runs no more */
     HINGEROTA_PROFILE_TOO_LONG = 8,     /* more than 129 points; proved never to occur */
     HINGEROTA_TOO_SHORT = 10,           /* the points do not fit into the list lent */
-    HINGEROTA_NOT_WAITING = 11          /* the ticket is of no waiting job */
+    HINGEROTA_NOT_WAITING = 11,         /* the ticket is of no waiting job */
+    HINGEROTA_CLEANUP_OUT_OF_RANGE = 12 /* an opening with a cleanup above 30 */
 };
 
-enum { HINGEROTA_PROMISE = 0, HINGEROTA_LOOSE = 1 };                       /* of a desk */
-enum { HINGEROTA_UNUSED = 0, HINGEROTA_WAITING = 1, HINGEROTA_RUNNING = 2 }; /* of a record */
+enum { HINGEROTA_PROMISE = 0, HINGEROTA_LOOSE = 1 };                                                /* of a desk */
+enum { HINGEROTA_UNUSED = 0, HINGEROTA_WAITING = 1, HINGEROTA_RUNNING = 2, HINGEROTA_CLEANUP = 3 }; /* of a record */
 
 /* What a desk is opened with. */
 typedef struct {
-    uint32_t nodes;  /* of the machine */
-    uint32_t minute; /* at which its clock stands */
-    uint32_t ticket; /* the first to be given */
-} hingerota_opening; /* 12 bytes */
+    uint32_t nodes;   /* of the machine */
+    uint32_t minute;  /* at which its clock stands */
+    uint32_t ticket;  /* the first to be given */
+    uint32_t cleanup; /* for so many minutes after a run its nodes stay taken, 0 to 30 */
+} hingerota_opening; /* 16 bytes */
 
 /* What is asked for a job. */
 typedef struct {
@@ -69,8 +74,9 @@ typedef struct {
     uint32_t estimate; /* in minutes */
 } hingerota_order; /* 8 bytes */
 
-/* A live job, or an unused place, which is all 0. `start` is that of a running job, and the planned one of a job that waits on a Promise
- * Desk. On a Loose Desk `promise`, and the start of a job that waits, are 0. */
+/* A live job, or an unused place, which is all 0. `start` is that of a job that has started, and the planned one of a job that waits on a
+ * Promise Desk. On a Loose Desk `promise`, and the start of a job that waits, are 0. A job in cleanup has ended and is still live; `end` is
+ * the minute in which its run ended, and 0 in every other record. */
 typedef struct {
     uint32_t ticket;
     uint16_t nodes;
@@ -78,16 +84,18 @@ typedef struct {
     uint32_t state;
     uint32_t start;
     uint32_t promise;
-} hingerota_record; /* 20 bytes */
+    uint32_t end;
+} hingerota_record; /* 24 bytes */
 
 /* The live jobs stand first, in the order of their tickets. */
 typedef struct {
     uint32_t kind;
     uint32_t nodes;
+    uint32_t cleanup; /* as it was opened */
     uint32_t clock;
     uint32_t next; /* the next ticket */
     hingerota_record jobs[64];
-} hingerota_desk; /* 1,296 bytes */
+} hingerota_desk; /* 1,556 bytes */
 
 /* Tickets; the places past the count are 0. */
 typedef struct {
@@ -109,7 +117,7 @@ typedef struct {
 typedef struct {
     uint32_t refusal;
     hingerota_desk desk;
-} hingerota_opened; /* 1,300 bytes */
+} hingerota_opened; /* 1,560 bytes */
 
 /* `free` nodes are free from `minute` on. */
 typedef struct {
@@ -122,23 +130,28 @@ typedef struct {
     size_t count;
 } hingerota_shown; /* 16 bytes */
 
-/* An empty desk, as the opening says. Refused by 1 or 3; the desk is then of its kind, with 1 node, minute 0 and ticket 1.
+/* An empty desk, as the opening says. Refused by 1, 3 or 12, the first that applies; the desk is then of its kind, with 1 node, minute 0,
+ * ticket 1 and cleanup 0.
  * Promise: conservative backfilling. Loose: EASY backfilling. */
 hingerota_opened hingerota_open_promise(hingerota_opening opening);
 hingerota_opened hingerota_open_loose(hingerota_opening opening);
 
 /* A job is submitted. Its nodes are kept for its estimate rounded up: to 120 minutes by fives, to 480 by tens, above by thirties; then
- * the desk ends it. It starts at once if its ticket stands in `started`. Refused by 1, 2, 4, 5, 6 or 8, the first that applies. */
+ * the desk ends it, and they are free again after the cleanup. It starts at once if its ticket stands in `started`. Refused by 1, 2, 4, 5,
+ * 6 or 8, the first that applies. */
 hingerota_answer hingerota_submit(hingerota_desk *d, hingerota_order order);
 
-/* A running job is over before its time: it stands in `ended`, and those that start now in `started`. Refused by 7. */
+/* A running job is over before its time: it stands in `ended`, and those that start now in `started`. Its nodes are free again after the
+ * cleanup. Refused by 7. */
 hingerota_answer hingerota_complete(hingerota_desk *d, uint32_t ticket);
 
 /* A waiting job is withdrawn: it leaves without having started, and stands in neither list. For the others it is as if a job were over
  * before its time: those that start now stand in `started`. Refused by 11. */
 hingerota_answer hingerota_cancel(hingerota_desk *d, uint32_t ticket);
 
-/* One minute passes: those whose time is over end, and those whose turn has come start. Refused by 6, at minute 1,000,000. */
+/* One minute passes: those whose time is over end, those whose cleanup is over leave, and those whose turn has come start. Nodes that come
+ * free serve a start in that same minute. Who leaves after its cleanup is told no more: it stood in `ended` before. Refused by 6, at
+ * minute 1,000,000. */
 hingerota_answer hingerota_tick(hingerota_desk *d);
 
 /* The free nodes of a Promise Desk from now on, counting waiting jobs at their planned starts: `count` points are written into `points`,

@@ -25,10 +25,10 @@ macro_rules! layouts {
 #[test]
 fn layouts_are_those_of_the_header() {
     let (lines, numbers) = layouts! {
-        "hingerota_opening" Opening { nodes minute ticket }
+        "hingerota_opening" Opening { nodes minute ticket cleanup }
         "hingerota_order" Order { nodes estimate }
-        "hingerota_record" Record { ticket nodes estimate state start promise }
-        "hingerota_desk" Desk { kind nodes clock next jobs }
+        "hingerota_record" Record { ticket nodes estimate state start promise end }
+        "hingerota_desk" Desk { kind nodes cleanup clock next jobs }
         "hingerota_tickets" Tickets { count list }
         "hingerota_answer" Answer { refusal ticket promise head forecast ended started }
         "hingerota_opened" Opened { refusal desk }

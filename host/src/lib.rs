@@ -26,14 +26,14 @@ pub struct Desk {
     raw: raw::Desk,
 }
 
-/// A refused opening: its number, and the desk that it hands back, of 1 node, at minute 0, with first ticket 1.
+/// A refused opening: its number, and the desk that it hands back, of 1 node, at minute 0, with first ticket 1 and cleanup 0.
 pub struct RefusedOpening {
     pub refusal: u32,
     pub desk: Desk,
 }
 
 impl Desk {
-    /// An empty desk; refused by 1 or 3.
+    /// An empty desk; refused by 1, 3 or 12.
     pub fn open(kind: Kind, opening: Opening) -> Result<Desk, Box<RefusedOpening>> {
         // SAFETY: openings take numbers and ask nothing.
         let opened = unsafe {
@@ -93,6 +93,11 @@ impl Desk {
         self.raw.nodes
     }
 
+    /// For so many minutes after a run its nodes stay taken.
+    pub fn cleanup(&self) -> u32 {
+        self.raw.cleanup
+    }
+
     pub fn clock(&self) -> u32 {
         self.raw.clock
     }
@@ -142,6 +147,7 @@ pub fn reason(refusal: u32) -> &'static str {
         8 => "the profile would have more than 129 points",
         10 => "the list is too short",
         11 => "the ticket is not waiting",
+        12 => "opened with a cleanup above 30",
         _ => "no such refusal",
     }
 }

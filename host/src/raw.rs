@@ -10,6 +10,8 @@ pub struct Opening {
     pub minute: u32,
     /// The first to be given.
     pub ticket: u32,
+    /// For so many minutes after a run its nodes stay taken, 0 to 30.
+    pub cleanup: u32,
 }
 
 /// What is asked for a job.
@@ -27,16 +29,19 @@ pub struct Record {
     pub ticket: u32,
     pub nodes: u16,
     pub estimate: u16,
-    /// 0 unused, 1 waiting, 2 running.
+    /// 0 unused, 1 waiting, 2 running, 3 in cleanup.
     pub state: u32,
     pub start: u32,
     pub promise: u32,
+    /// Of a job in cleanup, the minute in which its run ended; 0 of others.
+    pub end: u32,
 }
 
 #[repr(C)]
 pub struct Desk {
     pub kind: u32,
     pub nodes: u32,
+    pub cleanup: u32,
     pub clock: u32,
     pub next: u32,
     pub jobs: [Record; 64],

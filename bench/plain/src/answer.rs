@@ -11,6 +11,7 @@ pub enum Refusal {
     NotRunning = 7,
     Form = 9,
     NotWaiting = 11,
+    Cleanup = 12,
 }
 
 /// The printout.

@@ -3,14 +3,31 @@
 use crate::answer::{Printout, Refusal};
 use crate::limits::*;
 
+#[derive(Clone, Copy, PartialEq, Eq)]
+enum State {
+    Waiting,
+    Running,
+    /// Its run has ended, and its nodes are not free yet.
+    Cleanup,
+}
+
 struct Job {
     ticket: u32,
     nodes: u32,
     /// Of a waiting job, the planned start.
     start: u32,
-    /// The minute from which the nodes are free again.
+    /// The minute from which the nodes are free again. The run ends the minutes of cleanup before.
     until: u32,
-    running: bool,
+    /// The minute in which it starts, ends or leaves, whichever is next.
+    due: u32,
+    state: State,
+}
+
+impl Job {
+    fn start(&mut self, cleanup: u32, out: &mut Printout) {
+        (self.due, self.state) = (self.until - cleanup, State::Running);
+        out.start(self.ticket, self.start);
+    }
 }
 
 /// From `minute` on, `free` nodes are free.
@@ -31,8 +48,8 @@ impl Profile {
         Profile { points }
     }
 
-    /// The smallest minute from which `nodes` are free for `wall` minutes.
-    fn earliest(&self, nodes: u32, wall: u32) -> u32 {
+    /// The smallest minute from which `nodes` are free for `hold` minutes.
+    fn earliest(&self, nodes: u32, hold: u32) -> u32 {
         let points = &self.points;
         let mut anchor = 0;
         'search: loop {
@@ -41,7 +58,7 @@ impl Profile {
             }
             let start = points[anchor].minute;
             for (i, point) in points.iter().enumerate().skip(anchor + 1) {
-                if point.minute >= start + wall {
+                if point.minute >= start + hold {
                     break;
                 }
                 if point.free < nodes {
@@ -97,6 +114,7 @@ impl Profile {
 
 pub struct Conservative {
     nodes: u32,
+    cleanup: u32,
     now: u32,
     next: u32,
     /// In ticket order.
@@ -105,8 +123,8 @@ pub struct Conservative {
 }
 
 impl Conservative {
-    pub fn open(nodes: u32, now: u32, ticket: u32) -> Self {
-        Conservative { nodes, now, next: ticket, jobs: Vec::with_capacity(MAX_LIVE), profile: Profile::new(now, nodes) }
+    pub fn open(nodes: u32, now: u32, ticket: u32, cleanup: u32) -> Self {
+        Conservative { nodes, cleanup, now, next: ticket, jobs: Vec::with_capacity(MAX_LIVE), profile: Profile::new(now, nodes) }
     }
 
     pub fn now(&self) -> u32 {
@@ -126,9 +144,9 @@ impl Conservative {
         if self.next > MAX_TICKET {
             return Err(Refusal::Tickets);
         }
-        let wall = wall_time(estimate);
-        let start = self.profile.earliest(nodes, wall);
-        let until = start + wall;
+        let hold = wall_time(estimate) + self.cleanup;
+        let start = self.profile.earliest(nodes, hold);
+        let until = start + hold;
         if until > HORIZON {
             return Err(Refusal::Horizon);
         }
@@ -136,22 +154,28 @@ impl Conservative {
         self.profile.reserve(start, until, nodes);
         let ticket = self.next;
         self.next += 1;
-        let running = start == self.now;
-        self.jobs.push(Job { ticket, nodes, start, until, running });
         out.took(ticket, Some(start));
-        if running {
-            out.start(ticket, start);
+        let mut job = Job { ticket, nodes, start, until, due: start, state: State::Waiting };
+        if start == self.now {
+            job.start(self.cleanup, out);
         }
+        self.jobs.push(job);
         Ok(())
     }
 
     pub fn complete(&mut self, ticket: u32, out: &mut Printout) -> Result<(), Refusal> {
         let at = self.jobs.binary_search_by_key(&ticket, |j| j.ticket).map_err(|_| Refusal::NotRunning)?;
-        if !self.jobs[at].running {
+        if self.jobs[at].state != State::Running {
             return Err(Refusal::NotRunning);
         }
-        let ended = self.jobs.remove(at);
-        self.profile.release(self.now, ended.until, ended.nodes);
+        let until = self.now + self.cleanup;
+        self.profile.release(until, self.jobs[at].until, self.jobs[at].nodes);
+        if self.cleanup == 0 {
+            self.jobs.remove(at);
+        } else {
+            let job = &mut self.jobs[at];
+            (job.until, job.due, job.state) = (until, until, State::Cleanup);
+        }
         out.over(ticket, self.now);
         self.replan(out);
         Ok(())
@@ -159,7 +183,7 @@ impl Conservative {
 
     pub fn cancel(&mut self, ticket: u32, out: &mut Printout) -> Result<(), Refusal> {
         let at = self.jobs.binary_search_by_key(&ticket, |j| j.ticket).map_err(|_| Refusal::NotWaiting)?;
-        if self.jobs[at].running {
+        if self.jobs[at].state != State::Waiting {
             return Err(Refusal::NotWaiting);
         }
         let withdrawn = self.jobs.remove(at);
@@ -170,39 +194,40 @@ impl Conservative {
 
     /// Each waiting job once, in ticket order, the others staying where they are: it moves forward or stays.
     fn replan(&mut self, out: &mut Printout) {
-        for job in self.jobs.iter_mut().filter(|j| !j.running) {
-            let wall = job.until - job.start;
+        for job in self.jobs.iter_mut().filter(|j| j.state == State::Waiting) {
+            let hold = job.until - job.start;
             self.profile.release(job.start, job.until, job.nodes);
-            job.start = self.profile.earliest(job.nodes, wall);
-            job.until = job.start + wall;
+            job.start = self.profile.earliest(job.nodes, hold);
+            job.until = job.start + hold;
+            job.due = job.start;
             self.profile.reserve(job.start, job.until, job.nodes);
             if job.start == self.now {
-                job.running = true;
-                out.start(job.ticket, self.now);
+                job.start(self.cleanup, out);
             }
         }
     }
 
-    /// As many ticks. Minutes in which nothing ends or starts are passed over.
+    /// As many ticks. Minutes in which nothing ends, starts or is free again are passed over.
     pub fn advance(&mut self, minutes: u32, out: &mut Printout) {
         let target = self.now + minutes;
         loop {
-            let next = self.jobs.iter().map(|j| if j.running { j.until } else { j.start }).min();
-            match next {
+            match self.jobs.iter().map(|j| j.due).min() {
                 Some(minute) if minute <= target => self.now = minute,
                 _ => break,
             }
             let now = self.now;
-            self.jobs.retain(|j| {
-                let ends = j.running && j.until == now;
-                if ends {
-                    out.over(j.ticket, now);
+            self.jobs.retain_mut(|j| {
+                if j.state == State::Waiting || j.due > now {
+                    return true;
                 }
-                !ends
+                if j.state == State::Running {
+                    out.over(j.ticket, now);
+                    (j.due, j.state) = (j.until, State::Cleanup);
+                }
+                j.until > now
             });
-            for job in self.jobs.iter_mut().filter(|j| !j.running && j.start == now) {
-                job.running = true;
-                out.start(job.ticket, now);
+            for job in self.jobs.iter_mut().filter(|j| j.due == now) {
+                job.start(self.cleanup, out);
             }
         }
         self.now = target;

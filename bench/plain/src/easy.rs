@@ -6,38 +6,45 @@ use crate::limits::*;
 struct Waiting {
     ticket: u32,
     nodes: u32,
-    wall: u32,
+    /// The wall time and the cleanup.
+    hold: u32,
 }
 
-struct Running {
+/// A job that runs, or whose nodes are not free yet after its run.
+struct Holding {
     ticket: u32,
     nodes: u32,
-    /// The minute from which the nodes are free again.
+    /// The minute from which the nodes are free again. The run ends the minutes of cleanup before.
     until: u32,
 }
 
 pub struct Easy {
     nodes: u32,
+    cleanup: u32,
     now: u32,
     next: u32,
     free: u32,
     /// In ticket order.
     queue: Vec<Waiting>,
     /// By `until`, then ticket: those that end together stand in the order in which they are told.
-    running: Vec<Running>,
+    running: Vec<Holding>,
+    /// By `until`, which is never after that of a running job: runs that go on end later.
+    ended: Vec<Holding>,
     /// The ticket that was head after the last call, 0 if there was none.
     head: u32,
 }
 
 impl Easy {
-    pub fn open(nodes: u32, now: u32, ticket: u32) -> Self {
+    pub fn open(nodes: u32, now: u32, ticket: u32, cleanup: u32) -> Self {
         Easy {
             nodes,
+            cleanup,
             now,
             next: ticket,
             free: nodes,
             queue: Vec::with_capacity(MAX_LIVE),
             running: Vec::with_capacity(MAX_LIVE),
+            ended: Vec::with_capacity(MAX_LIVE),
             head: 0,
         }
     }
@@ -53,20 +60,20 @@ impl Easy {
         if estimate == 0 || estimate > MAX_ESTIMATE {
             return Err(Refusal::Minutes);
         }
-        if self.queue.len() + self.running.len() == MAX_LIVE {
+        if self.queue.len() + self.running.len() + self.ended.len() == MAX_LIVE {
             return Err(Refusal::Full);
         }
         if self.next > MAX_TICKET {
             return Err(Refusal::Tickets);
         }
-        let wall = wall_time(estimate);
+        let hold = wall_time(estimate) + self.cleanup;
         let rank = self.queue.len() as u32 + 1;
-        if self.now + rank * MAX_ESTIMATE + wall > HORIZON {
+        if self.now + rank * (MAX_ESTIMATE + self.cleanup) + hold > HORIZON {
             return Err(Refusal::Horizon);
         }
         let ticket = self.next;
         self.next += 1;
-        self.queue.push(Waiting { ticket, nodes, wall });
+        self.queue.push(Waiting { ticket, nodes, hold });
         out.took(ticket, None);
         self.settle(out);
         Ok(())
@@ -75,8 +82,12 @@ impl Easy {
     pub fn complete(&mut self, ticket: u32, out: &mut Printout) -> Result<(), Refusal> {
         let at = self.running.iter().position(|j| j.ticket == ticket).ok_or(Refusal::NotRunning)?;
         let ended = self.running.remove(at);
-        self.free += ended.nodes;
         out.over(ticket, self.now);
+        if self.cleanup == 0 {
+            self.free += ended.nodes;
+        } else {
+            self.ended.push(Holding { until: self.now + self.cleanup, ..ended });
+        }
         self.settle(out);
         Ok(())
     }
@@ -88,19 +99,31 @@ impl Easy {
         Ok(())
     }
 
-    /// As many ticks. A tick in which nothing ends starts nothing: free nodes and the shadow are as before, and there is less room
-    /// before the shadow. Such ticks are passed over.
+    /// As many ticks. A tick by which no nodes come free starts nothing: free nodes and the shadow are as before, and there is less room
+    /// before the shadow. Those at which nothing ends either are passed over.
     pub fn advance(&mut self, minutes: u32, out: &mut Printout) {
         let target = self.now + minutes;
-        while let Some(first) = self.running.first() {
-            if first.until > target {
+        loop {
+            let end = self.running.first().map_or(u32::MAX, |j| j.until - self.cleanup);
+            let freed = self.ended.first().map_or(u32::MAX, |j| j.until);
+            if end.min(freed) > target {
                 break;
             }
-            self.now = first.until;
-            let ended = self.running.partition_point(|j| j.until == self.now);
-            for job in self.running.drain(..ended) {
-                self.free += job.nodes;
-                out.over(job.ticket, self.now);
+            self.now = end.min(freed);
+            if freed == self.now {
+                let gone = self.ended.partition_point(|j| j.until == self.now);
+                self.free += self.ended.drain(..gone).map(|j| j.nodes).sum::<u32>();
+            }
+            if end == self.now {
+                let over = self.running.partition_point(|j| j.until == self.now + self.cleanup);
+                for job in self.running.drain(..over) {
+                    out.over(job.ticket, self.now);
+                    if self.cleanup == 0 {
+                        self.free += job.nodes;
+                    } else {
+                        self.ended.push(job);
+                    }
+                }
             }
             self.settle(out);
         }
@@ -113,8 +136,8 @@ impl Easy {
             if head.nodes > self.free {
                 break;
             }
-            let (ticket, nodes, wall) = (head.ticket, head.nodes, head.wall);
-            self.start(ticket, nodes, wall, out);
+            let (ticket, nodes, hold) = (head.ticket, head.nodes, head.hold);
+            self.start(ticket, nodes, hold, out);
             fit += 1;
         }
         self.queue.drain(..fit);
@@ -127,14 +150,14 @@ impl Easy {
         // did not qualify before does not qualify afterwards.
         let mut at = 1;
         while at < self.queue.len() && self.free > 0 {
-            let Waiting { ticket, nodes, wall } = self.queue[at];
-            let before_shadow = self.now + wall <= shadow;
+            let Waiting { ticket, nodes, hold } = self.queue[at];
+            let before_shadow = self.now + hold <= shadow;
             if nodes <= self.free && (before_shadow || nodes <= extra) {
                 if !before_shadow {
                     extra -= nodes;
                 }
                 self.queue.remove(at);
-                self.start(ticket, nodes, wall, out);
+                self.start(ticket, nodes, hold, out);
             } else {
                 at += 1;
             }
@@ -150,21 +173,23 @@ impl Easy {
     fn shadow(&self, nodes: u32) -> (u32, u32) {
         let mut free = self.free;
         let mut shadow = self.now;
-        for job in &self.running {
-            if free >= nodes && job.until > shadow {
-                break;
+        for jobs in [&self.ended, &self.running] {
+            for job in jobs {
+                if free >= nodes && job.until > shadow {
+                    return (shadow, free - nodes);
+                }
+                free += job.nodes;
+                shadow = job.until;
             }
-            free += job.nodes;
-            shadow = job.until;
         }
         (shadow, free - nodes)
     }
 
-    fn start(&mut self, ticket: u32, nodes: u32, wall: u32, out: &mut Printout) {
-        let until = self.now + wall;
+    fn start(&mut self, ticket: u32, nodes: u32, hold: u32, out: &mut Printout) {
+        let until = self.now + hold;
         self.free -= nodes;
         let at = self.running.partition_point(|j| (j.until, j.ticket) < (until, ticket));
-        self.running.insert(at, Running { ticket, nodes, until });
+        self.running.insert(at, Holding { ticket, nodes, until });
         out.start(ticket, self.now);
     }
 }

@@ -5,6 +5,7 @@ pub const HORIZON: u32 = 1_000_000;
 pub const MAX_LIVE: usize = 64;
 pub const MAX_ESTIMATE: u32 = 10_080;
 pub const MAX_TICKET: u32 = 999_999;
+pub const MAX_CLEANUP: u32 = 30;
 
 /// An estimate is rounded up: to 120 by fives, to 480 by tens, to 10,080 by thirties.
 pub fn wall_time(estimate: u32) -> u32 {

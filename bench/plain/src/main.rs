@@ -85,21 +85,27 @@ fn fields<const N: usize>(line: &[u8]) -> Result<[&[u8]; N], Refusal> {
 }
 
 fn open(line: &[u8]) -> Result<Scheduler, Refusal> {
-    let [desk, kind, nodes, minute, ticket] = fields(line)?;
+    let [desk, kind, nodes, minute, ticket, cleanup] = match fields(line) {
+        Ok([desk, kind, nodes, minute, ticket]) => [desk, kind, nodes, minute, ticket, b"0"],
+        Err(_) => fields(line)?,
+    };
     if desk != b"desk" || (kind != b"promise" && kind != b"loose") {
         return Err(Refusal::Form);
     }
-    let (nodes, minute, ticket) = (number(nodes)?, number(minute)?, number(ticket)?);
+    let (nodes, minute, ticket, cleanup) = (number(nodes)?, number(minute)?, number(ticket)?, number(cleanup)?);
     if nodes == 0 || nodes > MAX_NODES {
         return Err(Refusal::Nodes);
     }
     if minute > HORIZON || ticket == 0 || ticket > MAX_TICKET {
         return Err(Refusal::Opening);
     }
+    if cleanup > MAX_CLEANUP {
+        return Err(Refusal::Cleanup);
+    }
     if kind == b"promise" {
-        Ok(Scheduler::Conservative(Conservative::open(nodes, minute, ticket)))
+        Ok(Scheduler::Conservative(Conservative::open(nodes, minute, ticket, cleanup)))
     } else {
-        Ok(Scheduler::Easy(Easy::open(nodes, minute, ticket)))
+        Ok(Scheduler::Easy(Easy::open(nodes, minute, ticket, cleanup)))
     }
 }
 

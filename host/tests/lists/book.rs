@@ -10,7 +10,8 @@ enum Fate {
     Waiting,
     /// Since that minute.
     Running(u32),
-    Ended,
+    /// In that minute.
+    Ended(u32),
     /// In that minute.
     Withdrawn(u32),
 }
@@ -38,13 +39,15 @@ impl Entry {
 pub struct Book {
     kind: Kind,
     nodes: u32,
+    cleanup: u32,
     clock: u32,
     /// By ticket.
     entries: BTreeMap<u32, Entry>,
     pub tried: Tried,
 }
 
-/// How often each claim was tried: of jobs that started, of those withdrawn, of heads and of sums of nodes after a call.
+/// How often each claim was tried: of jobs that started, of those withdrawn, of heads and of sums of nodes after a call; of these, how
+/// often nodes of jobs that had ended stood in the sum, and how often it was all of the machine's by them.
 #[derive(Default, Clone, Copy)]
 pub struct Tried {
     pub promises: u64,
@@ -53,6 +56,8 @@ pub struct Tried {
     pub withdrawn: u64,
     pub heads: u64,
     pub sums: u64,
+    pub sums_in_cleanup: u64,
+    pub full_in_cleanup: u64,
 }
 
 impl Tried {
@@ -63,6 +68,8 @@ impl Tried {
         self.withdrawn += other.withdrawn;
         self.heads += other.heads;
         self.sums += other.sums;
+        self.sums_in_cleanup += other.sums_in_cleanup;
+        self.full_in_cleanup += other.full_in_cleanup;
     }
 }
 
@@ -83,8 +90,8 @@ macro_rules! claim {
 
 impl Book {
     /// Of the desk that an opening hands back.
-    pub fn new(kind: Kind, nodes: u32, clock: u32) -> Book {
-        Book { kind, nodes, clock, entries: BTreeMap::new(), tried: Tried::default() }
+    pub fn new(kind: Kind, nodes: u32, cleanup: u32, clock: u32) -> Book {
+        Book { kind, nodes, cleanup, clock, entries: BTreeMap::new(), tried: Tried::default() }
     }
 
     fn waiting(&self) -> impl Iterator<Item = (&u32, &Entry)> {
@@ -103,7 +110,7 @@ impl Book {
         match *call {
             Call::Submit { nodes, estimate } => {
                 let rank = self.waiting().count() as u32 + 1;
-                let bound = self.clock + rank * LONGEST_ESTIMATE;
+                let bound = self.clock + rank * (LONGEST_ESTIMATE + self.cleanup);
                 let entry = Entry { nodes, promise: answer.promise, bound, forecast: None, fate: Fate::Waiting, hold: held(estimate) };
                 claim!(self.entries.insert(answer.ticket, entry).is_none(), "ticket {} is given twice", answer.ticket);
             }
@@ -123,7 +130,7 @@ impl Book {
             if let Call::Tick = call {
                 claim!(start + entry.hold == self.clock, "{ticket} ends at another minute than its start + wall time");
             }
-            entry.fate = Fate::Ended;
+            entry.fate = Fate::Ended(self.clock);
         }
         claim!(self.kind == Kind::Loose || started.windows(2).all(|w| w[0] < w[1]), "tickets started do not ascend");
         for ticket in started {
@@ -141,11 +148,22 @@ impl Book {
         }
         self.forecast(answer)?;
         self.overdue()?;
-        let held: u32 = self.entries.values().filter(|e| matches!(e.fate, Fate::Running(_))).map(|e| e.nodes).sum();
-        claim!(held <= self.nodes, "running jobs hold {held} nodes of {}", self.nodes);
+        self.capacity()?;
+        // What has ended and holds no nodes is settled. Who was withdrawn is kept: such a job never starts.
+        let (clock, cleanup) = (self.clock, self.cleanup);
+        self.entries.retain(|_, e| !matches!(e.fate, Fate::Ended(minute) if clock - minute >= cleanup));
+        Ok(())
+    }
+
+    /// The machine has the nodes of all jobs that run, and of those that have ended for fewer than the minutes of cleanup.
+    fn capacity(&mut self) -> Result<(), String> {
+        let nodes = |holds: &dyn Fn(Fate) -> bool| self.entries.values().filter(|e| holds(e.fate)).map(|e| e.nodes).sum::<u32>();
+        let running = nodes(&|fate| matches!(fate, Fate::Running(_)));
+        let ended = nodes(&|fate| matches!(fate, Fate::Ended(minute) if self.clock - minute < self.cleanup));
+        claim!(running + ended <= self.nodes, "{running} nodes run and {ended} are in cleanup, of {}", self.nodes);
         self.tried.sums += 1;
-        // What has ended is settled. Who was withdrawn is kept: such a job never starts.
-        self.entries.retain(|_, e| e.fate != Fate::Ended);
+        self.tried.sums_in_cleanup += u64::from(ended > 0);
+        self.tried.full_in_cleanup += u64::from(ended > 0 && running + ended == self.nodes);
         Ok(())
     }
 
@@ -207,8 +225,8 @@ pub fn finds_broken_claims() {
     let submit = || Call::Submit { nodes: 6, estimate: 20 };
     let cancel = || Call::Cancel { ticket: 1 };
     let nothing = || (Call::Tick, answer(0, 0, &[], (0, 0)));
-    let broken = |kind, calls: Vec<(Call, Answer)>, claim: &str| {
-        let mut book = Book::new(kind, 10, 0);
+    let broken_with = |cleanup, kind, calls: Vec<(Call, Answer)>, claim: &str| {
+        let mut book = Book::new(kind, 10, cleanup, 0);
         let last = calls.len() - 1;
         for (i, (call, answer)) in calls.iter().enumerate() {
             match book.enter(call, answer) {
@@ -217,13 +235,20 @@ pub fn finds_broken_claims() {
             }
         }
     };
+    let broken = |kind, calls, claim: &str| broken_with(0, kind, calls, claim);
     let waits = |forecast| (submit(), answer(1, 0, &[], (1, forecast)));
     broken(Kind::Promise, vec![(submit(), answer(1, 1, &[], (0, 0))), nothing()], "waits at its promise");
     broken(Kind::Loose, vec![waits(1), nothing()], "waits at its forecast");
     broken(Kind::Loose, vec![(submit(), answer(1, 0, &[], (0, 0)))], "heard no forecast");
-    let years = std::iter::once(waits(20_000)).chain((0..LONGEST_ESTIMATE).map(|_| nothing()));
-    broken(Kind::Loose, years.collect(), "waits at its bound");
-    broken(Kind::Loose, vec![(submit(), answer(1, 0, &[1], (0, 0))), (submit(), answer(2, 0, &[2], (0, 0)))], "hold 12 nodes of 10");
+    for cleanup in [0, 7] {
+        let years = std::iter::once(waits(20_000)).chain((0..LONGEST_ESTIMATE + cleanup).map(|_| nothing()));
+        broken_with(cleanup, Kind::Loose, years.collect(), "waits at its bound");
+    }
+    broken(
+        Kind::Loose,
+        vec![(submit(), answer(1, 0, &[1], (0, 0))), (submit(), answer(2, 0, &[2], (0, 0)))],
+        "12 nodes run and 0 are in cleanup, of 10",
+    );
     broken(Kind::Promise, vec![(submit(), answer(1, 0, &[1], (0, 0))), (submit(), answer(1, 9, &[], (0, 0)))], "given twice");
 
     let promised = |minute| (submit(), answer(1, minute, &[], (0, 0)));
@@ -238,7 +263,7 @@ pub fn finds_broken_claims() {
     broken(Kind::Promise, vec![promised(9), (cancel(), ends)], "a withdrawal ends [1]");
     // A job that waits in the minute it was told is found out there and then; so that its withdrawal is what is wrong, the clock is put there.
     let withdrawn_at = |kind, taken: (Call, Answer), minute, claim: &str| {
-        let mut book = Book::new(kind, 10, 0);
+        let mut book = Book::new(kind, 10, 0, 0);
         book.enter(&taken.0, &taken.1).unwrap();
         let (call, answer) = withdrawn();
         book.clock = minute;
@@ -248,4 +273,18 @@ pub fn finds_broken_claims() {
     withdrawn_at(Kind::Promise, promised(9), 9, "withdrawn at its promise 9");
     withdrawn_at(Kind::Loose, waits(9), 9, "withdrawn at its forecast 9");
     withdrawn_at(Kind::Loose, waits(20_000), LONGEST_ESTIMATE, "withdrawn at its bound 10080");
+
+    // Job 1 ends in the minute of its start, and its 6 nodes are taken for 5 minutes more: job 2 starts one minute too early, and in time.
+    let ended = || (Call::Complete { ticket: 1 }, Answer { ended: tickets(&[1]), ..answer(0, 0, &[], (0, 0)) });
+    let both = |minutes: usize| {
+        let mut calls = vec![(submit(), answer(1, 0, &[1], (0, 0))), ended()];
+        calls.extend((0..minutes).map(|_| nothing()));
+        calls.push((submit(), answer(2, 9, &[2], (0, 0))));
+        calls
+    };
+    broken_with(5, Kind::Promise, both(0), "6 nodes run and 6 are in cleanup, of 10");
+    broken_with(5, Kind::Promise, both(4), "6 nodes run and 6 are in cleanup, of 10");
+    let mut book = Book::new(Kind::Promise, 10, 5, 0);
+    both(5).iter().for_each(|(call, answer)| book.enter(call, answer).unwrap());
+    broken_with(5, Kind::Promise, vec![(submit(), answer(1, 0, &[1], (0, 0))), ended(), ended()], "1 ends and does not run");
 }

@@ -8,7 +8,7 @@ mod random;
 
 use book::{Book, Call, Tried};
 use hingerota_host::{Answer, Desk, Kind, Opening, Order, Point, Record};
-use model::{Model, Search, State};
+use model::{Job, Model, Search, State};
 use random::Random;
 use std::io::IsTerminal;
 use std::sync::atomic::{AtomicU64, Ordering};
@@ -32,6 +32,7 @@ struct Plan {
     nodes: u32,
     minute: u32,
     ticket: u32,
+    cleanup: u32,
     calls: u32,
     estimates: Estimates,
     /// Of a hundred calls, so many are submissions, completions, withdrawals, profiles and waits that are only judged; the others are ticks.
@@ -63,6 +64,7 @@ fn plan(random: &mut Random) -> Plan {
         6 | 7 => random.between(1, 999_999),
         _ => 999_999 - random.below(60),
     };
+    let cleanup = random.one_of(&[0, 0, 1, 7, 30]);
     let calls = match random.below(200) {
         0..=99 => random.between(1, 15),
         100..=179 => random.between(16, 80),
@@ -79,13 +81,15 @@ fn plan(random: &mut Random) -> Plan {
     ]);
     let kind = random.one_of(&[Kind::Promise, Kind::Loose]);
     let estimates = random.one_of(&[Estimates::Tiny, Estimates::Short, Estimates::Edges, Estimates::Any]);
-    let mut plan = Plan { kind, nodes, minute, ticket, calls, estimates, submissions, completions, withdrawals, profiles, waits };
+    let mut plan = Plan { kind, nodes, minute, ticket, cleanup, calls, estimates, submissions, completions, withdrawals, profiles, waits };
     // One opening of twelve is refused, for one reason or for several.
     if random.percent(8) {
-        match random.below(4) {
+        match random.below(6) {
             0 => plan.nodes = random.one_of(&[0, 1_025, u32::MAX]),
             1 => plan.minute = random.one_of(&[1_000_001, u32::MAX]),
             2 => plan.ticket = random.one_of(&[0, 1_000_000, u32::MAX]),
+            3 => plan.cleanup = random.one_of(&[31, u32::MAX]),
+            4 => (plan.ticket, plan.cleanup) = (random.one_of(&[0, 1]), 31),
             _ => (plan.nodes, plan.minute, plan.ticket) = (random.one_of(&[0, 5]), 1_000_001, 0),
         }
     }
@@ -116,6 +120,9 @@ struct Count {
     calls: u64,
     submissions: u64,
     completions: u64,
+    /// Of these, those of a job that started in that minute, and those refused of a job in cleanup.
+    completions_at_start: u64,
+    completions_in_cleanup: u64,
     withdrawals: u64,
     ticks: u64,
     profiles: u64,
@@ -124,7 +131,7 @@ struct Count {
     most_live: usize,
     most_points: usize,
     /// By number, of openings and of calls.
-    refusals: [u64; 12],
+    refusals: [u64; 13],
     tried: Tried,
 }
 
@@ -134,6 +141,8 @@ impl Count {
         self.calls += other.calls;
         self.submissions += other.submissions;
         self.completions += other.completions;
+        self.completions_at_start += other.completions_at_start;
+        self.completions_in_cleanup += other.completions_in_cleanup;
         self.withdrawals += other.withdrawals;
         self.ticks += other.ticks;
         self.profiles += other.profiles;
@@ -168,17 +177,18 @@ fn same<T: PartialEq + std::fmt::Debug>(what: &str, library: T, model: T) -> Res
 
 impl Played {
     fn open(plan: &Plan) -> Result<Played, String> {
-        let (refusal, model) = Model::open(plan.kind, plan.nodes, plan.minute, plan.ticket);
-        let opening = Opening { nodes: plan.nodes, minute: plan.minute, ticket: plan.ticket };
-        let (number, desk) = match Desk::open(plan.kind, opening) {
+        let Plan { kind, nodes, minute, ticket, cleanup, .. } = *plan;
+        let (refusal, model) = Model::open(kind, nodes, minute, ticket, cleanup);
+        let opening = Opening { nodes, minute, ticket, cleanup };
+        let (number, desk) = match Desk::open(kind, opening) {
             Ok(desk) => (0, desk),
             Err(refused) => (refused.refusal, refused.desk),
         };
         same("refusal of the opening", number, refusal)?;
-        let book = Book::new(plan.kind, model.nodes, model.clock);
+        let book = Book::new(kind, model.nodes, model.cleanup, model.clock);
         let mut count = Count { lists: 1, ..Count::default() };
         count.refusals[refusal as usize] += 1;
-        let done = vec![format!("open {:?} {} {} {}", plan.kind, plan.nodes, plan.minute, plan.ticket)];
+        let done = vec![format!("open {kind:?} {nodes} {minute} {ticket} {cleanup}")];
         let played = Played { desk, model, book, withdrawn: Vec::new(), count, done };
         played.same_desk()?;
         Ok(played)
@@ -188,6 +198,7 @@ impl Played {
         let (desk, model) = (&self.desk, &self.model);
         same("kind", desk.kind(), model.kind)?;
         same("nodes", desk.nodes(), model.nodes)?;
+        same("cleanup", desk.cleanup(), model.cleanup)?;
         same("clock", desk.clock(), model.clock)?;
         same("next ticket", desk.next(), model.next)?;
         for (place, record) in desk.records().iter().enumerate() {
@@ -196,6 +207,7 @@ impl Played {
                     let state = match j.state {
                         State::Waiting => 1,
                         State::Running => 2,
+                        State::Cleanup => 3,
                     };
                     Record {
                         ticket: j.ticket,
@@ -204,9 +216,10 @@ impl Played {
                         state,
                         start: j.start,
                         promise: j.promise,
+                        end: j.end,
                     }
                 }
-                None => Record { ticket: 0, nodes: 0, estimate: 0, state: 0, start: 0, promise: 0 },
+                None => Record { ticket: 0, nodes: 0, estimate: 0, state: 0, start: 0, promise: 0, end: 0 },
             };
             if *record != expected {
                 return Err(format!("record {place}: library {record:?}, model {expected:?}"));
@@ -244,6 +257,10 @@ impl Played {
     fn complete(&mut self, ticket: u32) -> Result<(), String> {
         self.done.push(format!("complete {ticket}"));
         self.count.completions += 1;
+        if let Some(job) = self.model.jobs.iter().find(|j| j.ticket == ticket) {
+            self.count.completions_at_start += u64::from(job.state == State::Running && job.start == self.model.clock);
+            self.count.completions_in_cleanup += u64::from(job.state == State::Cleanup);
+        }
         let (library, model) = (self.desk.complete(ticket), self.model.complete(ticket));
         self.same_answer(Call::Complete { ticket }, library, model)
     }
@@ -318,17 +335,21 @@ impl Played {
     }
 }
 
-/// The ticket of a job that is to leave: mostly of one in this state; else of one in another, one that is over or withdrawn, or one never given.
+/// The ticket of a job that is to leave: mostly of one in this state, of those that run often of one that has started just now; else of one
+/// in another, one that is over or withdrawn, or one never given.
 fn leaver(played: &Played, state: State, random: &mut Random) -> u32 {
-    let live: Vec<(u32, State)> = played.model.jobs.iter().map(|j| (j.ticket, j.state)).collect();
-    let wanted: Vec<u32> = live.iter().filter(|j| j.1 == state).map(|j| j.0).collect();
+    let tickets = |test: &dyn Fn(&Job) -> bool| -> Vec<u32> { played.model.jobs.iter().filter(|j| test(j)).map(|j| j.ticket).collect() };
+    let (live, wanted, in_cleanup) = (tickets(&|_| true), tickets(&|j| j.state == state), tickets(&|j| j.state == State::Cleanup));
+    let just_started = tickets(&|j| j.state == State::Running && state == State::Running && j.start == played.model.clock);
     let next = played.model.next;
-    match random.below(10) {
+    match random.below(12) {
         0 => random.one_of(&[0, next, next.saturating_sub(1), u32::MAX]),
-        1 if !live.is_empty() => random.one_of(&live).0,
+        1 if !live.is_empty() => random.one_of(&live),
         2 if !played.withdrawn.is_empty() => random.one_of(&played.withdrawn),
         3 => random.between(next.saturating_sub(70), next),
         4 if !wanted.is_empty() => wanted[0],
+        5 if !in_cleanup.is_empty() => random.one_of(&in_cleanup),
+        6..=8 if !just_started.is_empty() => random.one_of(&just_started),
         _ if !wanted.is_empty() => random.one_of(&wanted),
         _ => random.below(next + 1),
     }
@@ -376,11 +397,12 @@ fn step(plan: &Plan, played: &mut Played, random: &mut Random) -> Result<(), Str
         };
         played.wait_refusal(minutes)
     } else {
-        // Some minutes, or as many as it takes until a job that is due ends or starts.
+        // Some minutes, or as many as it takes until a job that is due ends, starts or leaves.
         let clock = played.model.clock;
         let events = played.model.jobs.iter().map(|j| match j.state {
             State::Waiting => j.start,
             State::Running => j.start + model::held(j.estimate),
+            State::Cleanup => j.end + played.model.cleanup,
         });
         let next = events.filter(|m| *m > clock).min().map_or(1, |m| m - clock);
         let minutes = match random.below(6) {
@@ -448,15 +470,21 @@ fn main() {
         eprintln!();
     }
     let all = all.into_inner().unwrap();
-    let Tried { promises, bounds, forecasts, withdrawn, heads, sums } = all.tried;
+    let Tried { promises, bounds, forecasts, withdrawn, heads, sums, sums_in_cleanup, full_in_cleanup } = all.tried;
     println!(
         "{} lists, {} calls: {} submissions, {} completions, {} withdrawals, {} ticks, {} profiles with {} points, {} waits judged",
         all.lists, all.calls, all.submissions, all.completions, all.withdrawals, all.ticks, all.profiles, all.points, all.waits
+    );
+    println!(
+        "{} completions in the minute of the start, {} of jobs in cleanup, refused",
+        all.completions_at_start, all.completions_in_cleanup
     );
     println!("at most {} live jobs and {} points; refusals by number, from 0: {:?}", all.most_live, all.most_points, all.refusals);
     println!(
         "guarantees: {promises} promises, {bounds} bounds and {forecasts} forecasts kept, {withdrawn} jobs withdrawn before these minutes"
     );
-    println!("{heads} heads with a forecast, {sums} sums of nodes");
+    println!(
+        "{heads} heads with a forecast, {sums} sums of nodes, {sums_in_cleanup} with jobs in cleanup, {full_in_cleanup} of these full"
+    );
     println!("library and model agree ({:.1} s)", began.elapsed().as_secs_f64());
 }

@@ -9,11 +9,14 @@ pub const LONGEST_ESTIMATE: u32 = 10_080;
 pub const LIVE_JOBS: usize = 64;
 pub const LAST_TICKET: u32 = 999_999;
 pub const MOST_POINTS: usize = 129;
+pub const LONGEST_CLEANUP: u32 = 30;
 
 #[derive(Clone, Copy, PartialEq, Eq, Debug)]
 pub enum State {
     Waiting,
     Running,
+    /// Document 02: "a clearing stack".
+    Cleanup,
 }
 
 #[derive(Clone, Copy, PartialEq, Eq, Debug)]
@@ -24,6 +27,8 @@ pub struct Job {
     pub state: State,
     pub start: u32,
     pub promise: u32,
+    /// "its record, and no other, keeps its end"
+    pub end: u32,
 }
 
 #[derive(Default, PartialEq, Eq, Debug)]
@@ -49,6 +54,7 @@ pub enum Search {
 pub struct Model {
     pub kind: Kind,
     pub nodes: u32,
+    pub cleanup: u32,
     pub clock: u32,
     pub next: u32,
     /// In the order of tickets.
@@ -70,7 +76,7 @@ pub fn held(estimate: u32) -> u32 {
 
 impl Job {
     /// "A stack that starts at minute s ends at s + held".
-    fn end(&self) -> u32 {
+    fn ends(&self) -> u32 {
         self.start + held(self.estimate)
     }
 
@@ -81,6 +87,15 @@ impl Job {
     fn runs(&self) -> bool {
         self.state == State::Running
     }
+
+    fn in_cleanup(&self) -> bool {
+        self.state == State::Cleanup
+    }
+
+    /// Its nodes are taken now.
+    fn holds(&self) -> bool {
+        self.runs() || self.in_cleanup()
+    }
 }
 
 fn refused(refusal: u32) -> Answer {
@@ -88,16 +103,46 @@ fn refused(refusal: u32) -> Answer {
 }
 
 impl Model {
-    /// The refusal, and the desk; "A refused opening hands back an empty desk of its kind with 1 node, minute 0 and ticket 1".
-    pub fn open(kind: Kind, nodes: u32, minute: u32, ticket: u32) -> (u32, Model) {
-        let empty = |nodes, clock, next| Model { kind, nodes, clock, next, jobs: Vec::new(), search: Search::Changes };
+    /// The refusal, and the desk; "A refused opening hands back an empty desk of its kind with 1 node, minute 0 and ticket 1, later
+    /// settings as in these examples". Document 02, No. 3: "12, clearing above 30, after 3 at opening".
+    pub fn open(kind: Kind, nodes: u32, minute: u32, ticket: u32, cleanup: u32) -> (u32, Model) {
+        let empty = |nodes, clock, next, cleanup| Model { kind, nodes, cleanup, clock, next, jobs: Vec::new(), search: Search::Changes };
         if nodes < 1 || nodes > MOST_NODES {
-            return (1, empty(1, 0, 1));
+            return (1, empty(1, 0, 1, 0));
         }
         if minute > LAST_MINUTE || ticket < 1 || ticket > LAST_TICKET {
-            return (3, empty(1, 0, 1));
+            return (3, empty(1, 0, 1, 0));
         }
-        (0, empty(nodes, minute, ticket))
+        if cleanup > LONGEST_CLEANUP {
+            return (12, empty(1, 0, 1, 0));
+        }
+        (0, empty(nodes, minute, ticket, cleanup))
+    }
+
+    /// For how long an order takes its nodes: "Held time plus clearing is what must fit the profile, the rules (i) and (ii), shadow, extra
+    /// and the last minute."
+    fn hold(&self, estimate: u32) -> u32 {
+        held(estimate) + self.cleanup
+    }
+
+    /// The minute from which a job's nodes are free again: "nodes stay taken for clearing minutes [...] after a planned or an early end
+    /// alike".
+    fn freed(&self, job: &Job) -> u32 {
+        match job.state {
+            State::Cleanup => job.end + self.cleanup,
+            State::Waiting | State::Running => job.start + self.hold(job.estimate),
+        }
+    }
+
+    /// A run ends now. Its record leaves once its nodes are free, which without clearing they are at once.
+    fn ends(&mut self, place: usize) {
+        self.jobs[place].state = State::Cleanup;
+        self.jobs[place].end = self.clock;
+    }
+
+    fn release(&mut self) {
+        let (now, cleanup) = (self.clock, self.cleanup);
+        self.jobs.retain(|j| !(j.in_cleanup() && j.end + cleanup == now));
     }
 
     pub fn submit(&mut self, nodes: u32, estimate: u32) -> Answer {
@@ -113,18 +158,22 @@ impl Model {
         if self.next > LAST_TICKET {
             return refused(5);
         }
-        let job = Job { ticket: self.next, nodes, estimate, state: State::Waiting, start: 0, promise: 0 };
+        let job = Job { ticket: self.next, nodes, estimate, state: State::Waiting, start: 0, promise: 0, end: 0 };
         match self.kind {
             Kind::Promise => self.submit_promise(job),
             Kind::Loose => self.submit_loose(job),
         }
     }
 
+    /// "An end of a clearing stack is refused by 7."
     pub fn complete(&mut self, ticket: u32) -> Answer {
         let Some(place) = self.jobs.iter().position(|j| j.runs() && j.ticket == ticket) else {
             return refused(7);
         };
-        self.leaves(place, Answer { ended: vec![ticket], ..Answer::default() })
+        let head = self.head();
+        self.ends(place);
+        self.release();
+        self.moves(head, Answer { ended: vec![ticket], ..Answer::default() })
     }
 
     /// Document 02, No. 1: "A waiting stack can be withdrawn." 11: "the withdrawn ticket is not waiting".
@@ -132,13 +181,13 @@ impl Model {
         let Some(place) = self.jobs.iter().position(|j| j.waits() && j.ticket == ticket) else {
             return refused(11);
         };
-        self.leaves(place, Answer::default())
-    }
-
-    /// "The stack leaves." After a withdrawal, too: "The Promise Desk then moves the others as after an early end; the Loose Desk settles."
-    fn leaves(&mut self, place: usize, mut answer: Answer) -> Answer {
         let head = self.head();
         self.jobs.remove(place);
+        self.moves(head, Answer::default())
+    }
+
+    /// After an early end, and after a withdrawal: "The Promise Desk then moves the others as after an early end; the Loose Desk settles."
+    fn moves(&mut self, head: Option<u32>, mut answer: Answer) -> Answer {
         match self.kind {
             Kind::Promise => answer.started = self.put_in_again(),
             Kind::Loose => self.settle(head, &mut answer),
@@ -154,11 +203,14 @@ impl Model {
         self.clock += 1;
         let now = self.clock;
         let mut answer = Answer::default();
-        // "stacks whose end is now leave"
-        for job in self.jobs.iter().filter(|j| j.runs() && j.end() == now) {
-            answer.ended.push(job.ticket);
+        // "stacks whose end is now leave", now or after their clearing
+        for place in 0..self.jobs.len() {
+            if self.jobs[place].runs() && self.jobs[place].ends() == now {
+                answer.ended.push(self.jobs[place].ticket);
+                self.ends(place);
+            }
         }
-        self.jobs.retain(|j| !(j.runs() && j.end() == now));
+        self.release();
         match self.kind {
             // "waiting stacks whose planned start is now start. Nothing else moves."
             Kind::Promise => {
@@ -200,11 +252,11 @@ impl Model {
     // The Promise Desk.
 
     /// "Free nodes at minute t are the rack's, less those of running stacks whose end is after t, less those of waiting stacks with
-    /// start ≤ t < start + held."
+    /// start ≤ t < start + held.", each with its clearing, and clearing ones "as held by a stack running until these end".
     fn free(&self, t: u32) -> u32 {
-        let running: u32 = self.jobs.iter().filter(|j| j.runs() && j.end() > t).map(|j| j.nodes).sum();
-        let waiting: u32 = self.jobs.iter().filter(|j| j.waits() && j.start <= t && t < j.end()).map(|j| j.nodes).sum();
-        self.nodes - running - waiting
+        let holding: u32 = self.jobs.iter().filter(|j| j.holds() && self.freed(j) > t).map(|j| j.nodes).sum();
+        let waiting: u32 = self.jobs.iter().filter(|j| j.waits() && j.start <= t && t < self.freed(j)).map(|j| j.nodes).sum();
+        self.nodes - holding - waiting
     }
 
     /// The minutes, now or later, in which free nodes can differ from those of the minute before, and now.
@@ -212,7 +264,7 @@ impl Model {
         let mut minutes = vec![self.clock];
         for job in &self.jobs {
             minutes.push(job.start);
-            minutes.push(job.end());
+            minutes.push(self.freed(job));
         }
         minutes.retain(|m| *m >= self.clock);
         minutes.sort();
@@ -240,10 +292,10 @@ impl Model {
     }
 
     fn submit_promise(&mut self, mut job: Job) -> Answer {
-        let start = self.planned(job.nodes, held(job.estimate));
+        let start = self.planned(job.nodes, self.hold(job.estimate));
         job.start = start;
         job.promise = start;
-        if job.end() > LAST_MINUTE {
+        if self.freed(&job) > LAST_MINUTE {
             return refused(6);
         }
         let mut answer = Answer { ticket: job.ticket, promise: start, ..Answer::default() };
@@ -270,7 +322,7 @@ impl Model {
                 continue;
             }
             let mut job = self.jobs.remove(place);
-            job.start = self.planned(job.nodes, held(job.estimate));
+            job.start = self.planned(job.nodes, self.hold(job.estimate));
             if job.start == self.clock {
                 job.state = State::Running;
                 started.push(job.ticket);
@@ -294,12 +346,13 @@ impl Model {
     }
 
     fn free_now(&self) -> u32 {
-        self.nodes - self.jobs.iter().filter(|j| j.runs()).map(|j| j.nodes).sum::<u32>()
+        self.nodes - self.jobs.iter().filter(|j| j.holds()).map(|j| j.nodes).sum::<u32>()
     }
 
-    /// "the nodes free now and those of running stacks with end ≤ that minute together"
+    /// "the nodes free now and those of running stacks with end ≤ that minute together"; "shadow, extra and demand 3 count [clearing nodes] as
+    /// held by a stack running until these end".
     fn free_by(&self, minute: u32) -> u32 {
-        self.free_now() + self.jobs.iter().filter(|j| j.runs() && j.end() <= minute).map(|j| j.nodes).sum::<u32>()
+        self.free_now() + self.jobs.iter().filter(|j| j.holds() && self.freed(j) <= minute).map(|j| j.nodes).sum::<u32>()
     }
 
     /// "the smallest minute at which [these] suffice for it"
@@ -312,9 +365,9 @@ impl Model {
                 }
                 minute
             }
-            // Nodes come free at ends alone.
+            // Nodes come free at ends of clearing alone.
             Search::Changes => {
-                let mut ends: Vec<u32> = self.jobs.iter().filter(|j| j.runs()).map(|j| j.end()).collect();
+                let mut ends: Vec<u32> = self.jobs.iter().filter(|j| j.holds()).map(|j| self.freed(j)).collect();
                 ends.push(self.clock);
                 ends.sort();
                 ends.into_iter().find(|m| self.free_by(*m) >= nodes).expect("all nodes are free in the end")
@@ -322,9 +375,10 @@ impl Model {
         }
     }
 
+    /// "The Loose Desk's bound and its last-minute rule become r × (10,080 + clearing)."
     fn submit_loose(&mut self, job: Job) -> Answer {
         let r = self.jobs.iter().filter(|j| j.waits()).count() as u32 + 1;
-        if self.clock + r * LONGEST_ESTIMATE + held(job.estimate) > LAST_MINUTE {
+        if self.clock + r * (LONGEST_ESTIMATE + self.cleanup) + self.hold(job.estimate) > LAST_MINUTE {
             return refused(6);
         }
         let head = self.head();
@@ -355,7 +409,7 @@ impl Model {
             let shadow = self.shadow(self.jobs[head].nodes);
             let extra = self.free_by(shadow) - self.jobs[head].nodes;
             let qualifies =
-                |j: &Job| j.waits() && j.nodes <= self.free_now() && (self.clock + held(j.estimate) <= shadow || j.nodes <= extra);
+                |j: &Job| j.waits() && j.nodes <= self.free_now() && (self.clock + self.hold(j.estimate) <= shadow || j.nodes <= extra);
             match (head + 1..self.jobs.len()).find(|later| qualifies(&self.jobs[*later])) {
                 Some(later) => self.start(later, answer),
                 None => break,

@@ -121,7 +121,7 @@ fn arguments() {
     let of = |arguments| Ended::of(rack(arguments).stdin(Stdio::null()).stdout(Stdio::piped()));
     let help = of(&["--help"]);
     assert_eq!((help.status, help.error.as_str()), (Some(0), ""));
-    for word in ["usage:", "desk", "in NODES", "end TICKET", "drop TICKET", "wait MINUTES", "profile"] {
+    for word in ["usage:", "desk", "[CLEANUP]", "in NODES", "end TICKET", "drop TICKET", "wait MINUTES", "profile"] {
         assert!(help.output.contains(word), "{word}");
     }
     for wrong in [&["-h"][..], &["script"], &["--help", "--help"], &[""]] {

@@ -53,7 +53,8 @@ impl Script {
     }
 }
 
-/// "First line: `desk`, `promise` or `loose`, nodes, minute, ticket."
+/// "First line: `desk`, `promise` or `loose`, nodes, minute, ticket." Document 02, No. 3: "A sixth field of the `desk` line gives the
+/// clearing, 0 if left out".
 fn open(fields: &[&[u8]]) -> Result<Rack, Refusal> {
     let [b"desk", kind, rest @ ..] = fields else {
         return Err(LACKS_THE_FORM);
@@ -63,8 +64,11 @@ fn open(fields: &[&[u8]]) -> Result<Rack, Refusal> {
         b"loose" => Kind::Loose,
         _ => return Err(LACKS_THE_FORM),
     };
-    let [nodes, minute, ticket] = numbers(rest)?;
-    match Desk::open(kind, Opening { nodes, minute, ticket }) {
+    let [nodes, minute, ticket, cleanup] = match rest.len() {
+        3 => numbers(rest).map(|[nodes, minute, ticket]| [nodes, minute, ticket, 0])?,
+        _ => numbers(rest)?,
+    };
+    match Desk::open(kind, Opening { nodes, minute, ticket, cleanup }) {
         Ok(desk) => Ok(Rack { desk }),
         Err(refused) => Err(Refusal(refused.refusal)),
     }

@@ -92,7 +92,9 @@ Plays a script on a desk, and prints what a line gives before it reads the next.
 A line is closed by byte 10, and its fields are parted by one tab.
 
 First line:
-  desk promise|loose NODES MINUTE TICKET  opens the desk, at that minute, with that first ticket
+  desk promise|loose NODES MINUTE TICKET [CLEANUP]
+                                          opens the desk, at that minute, with that first ticket; after a run
+                                          nodes stay taken for CLEANUP minutes, 0 if left out
 Later lines:
 {later}Printed:
   took TICKET PROMISE                     it starts by then (- on a Loose Desk)
