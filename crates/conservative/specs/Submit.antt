@@ -19,7 +19,7 @@ use Rattle.scheduler.specs.Limits.{maxNodes, longestEstimate, lastTicket}
 use Rattle.scheduler.specs.Jobs.{fresh}
 use Rattle.scheduler.specs.Settings.{horizon, slots, holdTime, until}
 use Rattle.scheduler.specs.Times.{hold-pos, hold-le}
-use Rattle.scheduler.specs.Table.{withJobs, tickets, oneIf}
+use Rattle.scheduler.specs.Table.{withJobs, liveOf, tickets, oneIf}
 use Rattle.scheduler.specs.Model.{Model, view}
 use Rattle.scheduler.specs.Answers.{answer, outcome, refuse, verdict, accepts, refusedOutcome}
 use Rattle.history.specs.Calls.{submit}
@@ -28,7 +28,7 @@ use Rattle.lists.specs.Least.{least-to}
 use Rattle.spans.specs.Spans.{free, lastEnd, fits, earliest}
 use Rattle.spans.specs.UsedNodes.{last-le}
 use Rattle.spans.specs.declared.Span.{Span}
-use Rattle.jobs.specs.Soundness.{Fit, submit-fit}
+use Rattle.jobs.specs.Soundness.{Sound, Fit, fit-room, submit-fit}
 use Rattle.jobs.specs.Premise.{Holds, holds-as, refused-held}
 use Rattle.job_table.specs.Parts.{refusalBy, sharedRefusal}
 use Rattle.job_table.specs.Submitting.{tests-more, withNext, enters}
@@ -53,13 +53,13 @@ accepted d o slot s = record {
 
 -- ## What the call gives
 
-module _ (m : Model) (o : Submission) where
+module _ (m : Model) (o : Submission) (v : Sound m) where
   past : Bool
   past = ltb (horizon (m .settings)) (planned m o + holdTime (m .settings) (o .estimate))
 
   refusal-is : submitRefusal m o (planned m o) ≡ cond (accepts (sharedRefusal m o)) (verdict ((past, refusal.PastHorizon) ∷ [])) (sharedRefusal m o)
   unfolding past
-  refusal-is = eight-never m o (planned m o) ∙ tests-more (m .settings) (length (m .jobs)) (m .next) o ((past, refusal.PastHorizon) ∷ [])
+  refusal-is = eight-never m o (planned m o) v ∙ tests-more (m .settings) (liveOf (o .tenant) (m .jobs)) (m .next) o ((past, refusal.PastHorizon) ∷ [])
 
   -- refused by one of the tests that both kinds share
   pub submit-checked : accepts (sharedRefusal m o) ≡ false → call m (submit o) ≡ refuse m (sharedRefusal m o)
@@ -98,20 +98,23 @@ module _ (d : Scheduler) (o : Submission) (h : Holds Valid d) where
       ends [] f = tt
       ends (j ∷ js) f = (f j (here refl), ends js (λ k i. f k (there i)))
 
-  pub shared-held : (slot : ℕ) → slot ≡ length (m .jobs) → refusalBy (d .settings) slot (d .next) o ≡ sharedRefusal m o
+  pub shared-held : (live : ℕ) → live ≡ liveOf (o .tenant) (m .jobs) → refusalBy (d .settings) live (d .next) o ≡ sharedRefusal m o
   unfolding view
-  shared-held slot q = ap (λ (live : ℕ). refusalBy (d .settings) live (d .next) o) q
+  shared-held live q = ap (λ (n : ℕ). refusalBy (d .settings) n (d .next) o) q
 
   module _ (a : accepts (sharedRefusal m o) ≡ true) where
     pub fit-held : Fit m o
     unfolding refusalBy
     fit-held = submit-fit m o [] a .0
 
+    room : length (m .jobs) < slots (m .settings)
+    room = fit-room m o (h .holds .sound) fit-held
+
     pub room-held : (slot : ℕ) → slot ≡ length (m .jobs)
         → (slot < slots (m .settings)) × (d .next ≤ lastTicket) × (o .nodes ≤ maxNodes) × (o .estimate ≤ longestEstimate)
     unfolding view
     room-held slot q = (
-      omega (arith, fit-held .room),
+      omega (arith, room),
       fit-held .ticket-left,
       omega (arith, fit-held .nodes-to, h .holds .sound .nodes-to),
       fit-held .estimate-to,
@@ -135,15 +138,15 @@ module _ (d : Scheduler) (o : Submission) (h : Holds Valid d) where
     accepted-held slot s q = λ i. record {
       answer = answer (submitted m o s .reply);
       scheduler =
-          enters d slot q (h .stored) (fit-held .room) (newJob m o s) i;
+          enters d slot q (h .stored) room (newJob m o s) i;
     }
 
     pub taken-held : (slot : ℕ) → slot ≡ length (m .jobs) → planned m o + holdTime (m .settings) (o .estimate) ≤ horizon (m .settings)
         → accepted d o slot (planned m o) ≡ outcome (call m (submit o))
-    taken-held slot q l = accepted-held slot (planned m o) q ∙ ap outcome (sym (submit-taken m o a l))
+    taken-held slot q l = accepted-held slot (planned m o) q ∙ ap outcome (sym (submit-taken m o (h .holds .sound) a l))
 
     pub past-held : horizon (m .settings) < planned m o + holdTime (m .settings) (o .estimate) → refusedOutcome d refusal.PastHorizon ≡ outcome (call m (submit o))
-    past-held l = refused-held Valid d refusal.PastHorizon h ∙ ap outcome (sym (submit-past m o a l))
+    past-held l = refused-held Valid d refusal.PastHorizon h ∙ ap outcome (sym (submit-past m o (h .holds .sound) a l))
 
   pub tests-held : accepts (sharedRefusal m o) ≡ false → refusedOutcome d (sharedRefusal m o) ≡ outcome (call m (submit o))
-  tests-held a = refused-held Valid d (sharedRefusal m o) h ∙ ap outcome (sym (submit-checked m o a))
+  tests-held a = refused-held Valid d (sharedRefusal m o) h ∙ ap outcome (sym (submit-checked m o (h .holds .sound) a))

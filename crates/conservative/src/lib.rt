@@ -132,7 +132,9 @@ pub fn submit(d: Scheduler, s: Submission) -> Outcome
 {
     let settings = d.settings;
     let slot = job_table::first_unused(d);
-    let refusal = job_table::submit_refusal(s, settings, slot, d.next);
+    let tenant = s.tenant;
+    let live = job_table::live_of(d, tenant);
+    let refusal = job_table::submit_refusal(s, settings, live, d.next);
     if refusal.is_none() {
         let hold = settings.hold_time(s.estimate);
         let start = conservative_plan::earliest(d, s.nodes, hold);

@@ -156,7 +156,8 @@ waits-lives k c e j w n = go (j .state) w
     go Cleanup w = true-false false w refl
 
 -- those that remain, beside the jobs after
-module _ (m : Model) (c : ℕ) (s : Select) (ks : List Job) (v : Valid m) (l : Leaving m c s) (g : Moved (m .settings) c (remaining (m .settings) c s (m .jobs)) ks) where
+module _ (m : Model) (c : ℕ) (s : Select) (ks : List Job) (v : Valid m) (l : Leaving m c s)
+    (g : Moved (m .settings) c (remaining (m .settings) c s (m .jobs)) ks) where
   abbrev left : List Job
   left = remaining (m .settings) c s (m .jobs)
 
@@ -248,7 +249,7 @@ outcome-joins m o (joins w f l) i = one (in-cons i)
     s = planned m w
 
     new : Newcomer
-    new = record { ticket = m .next; nodes = w .nodes; promise = s }
+    new = record { ticket = m .next; nodes = w .nodes; promise = s; tenant = w .tenant }
 
     one : (o ≡ new) ⊎ In o [] → (o .ticket ≡ m .next) × StartsBy (o .ticket) (o .promise) (submitted m w s)
     one (inr k) = in-nil k
@@ -331,6 +332,7 @@ conservative-lawful = record {
   kind-is = λ m v. v .kind;
   all-live = λ m v. all-live m (v .sound);
   capacity = λ m v. v .sound .capacity;
+  shares = λ m v t. v .sound .shares t;
   valid = call-valid;
   settings = λ m c v. outcome-settings m (outcome m c v);
   clock = λ m c v. outcome-clock m (outcome m c v);

@@ -9,7 +9,7 @@ use mathlib.Core.Bool.{Bool, true, false, not, _&&_, _||_, cond}
 use mathlib.Core.List.{List, [], _∷_, _++_, map, map-map}
 use lib.Dec.{leb, ltb, eqb}
 use lib.ListN.{length, length-append, length-map}
-use borrow.Author.Tests.{leb-false, le-leb, le-ltb, eqb-true, ne-eqb}
+use borrow.Author.Tests.{le-leb, le-ltb, eqb-true, ne-eqb}
 use Rattle.lists.specs.Tests.{case, true-false, and-right-false, on}
 use Rattle.lists.specs.Lists.{keep, any, sum, elem, In, here, there, in-left, in-map, in-keep, keep-keep, keep-cong, keep-none, keep-map, map-cong}
 use Rattle.walltime.specs.WallTime.{wallTime}
@@ -27,19 +27,21 @@ use Rattle.scheduler.specs.declared.Departure.the-variants.{Complete, Cancel}
 use Rattle.scheduler.specs.declared.Select.{Select}
 use Rattle.scheduler.specs.declared.Select.the-variants as select
 use Rattle.scheduler.specs.Limits as limit
+use Rattle.scheduler.specs.Limits.{lastTicket, outside}
+use Rattle.scheduler.specs.Tenants.{known}
 use Rattle.scheduler.specs.States.{live?, waiting?, running?, cleaning?, holding?}
 use Rattle.scheduler.specs.Jobs.{fresh, jobAt, cleaning, isWaiting, isRunning, isCleaning, departsAs}
 use Rattle.scheduler.specs.declared.Settings.{Settings}
-use Rattle.scheduler.specs.Settings.{horizon, cleanup, runTime, holdTime, until}
+use Rattle.scheduler.specs.Settings.{horizon, quota, longest, cleanup, runTime, holdTime, until}
 use Rattle.scheduler.specs.Times.{cleanup-is, hold-is, end-is, until-is, until-cleaning}
 use Rattle.scheduler.specs.Table as table
-use Rattle.scheduler.specs.Table.{ticketOf, ticketsOf, ends, staying, ceased, remaining}
+use Rattle.scheduler.specs.Table.{liveOf, ticketOf, ticketsOf, ends, staying, ceased, remaining}
 use Rattle.scheduler.specs.Model.{Model, ending}
 use Rattle.scheduler.specs.Answers.{Result, verdict, accepts, refuse}
 use Rattle.scheduler.specs.Refusals.{judged, submitTests, departRefusal, tickRefusal}
 use Rattle.jobs.specs.Order.{Asc, asc-keep, asc-one}
 use Rattle.jobs.specs.Departing.{departs-alone}
-use Rattle.jobs.specs.Soundness.{SoundJob, early, waiting-clean, ceased-ticket, waits-on, remained-waits, sound-leave}
+use Rattle.jobs.specs.Soundness.{SoundJob, Sound, fit-room, submit-fit, early, waiting-clean, ceased-ticket, waits-on, remained-waits, sound-leave}
 use Rattle.history.specs.Calls.{Call, submit, depart, complete, cancel, tick, unchanged}
 use Rattle.history.specs.News.{News, newsOf}
 use Rattle.history.specs.Tickets.{nextAfter}
@@ -253,7 +255,8 @@ starts-stay m now =
     one j =
         case (isWaiting j)
         (λ w. rw (waits-on now u j w, waits-stays w))
-        (λ w. and-right-false (not (table.leaves S u j)) (ap (λ (b : Bool). b && eqb (ceased now u j .start) now) (still w)) ∙ sym (ap (λ (b : Bool). b && eqb (j .start) now) w))
+        (λ w. and-right-false (not (table.leaves S u j)) (ap (λ (b : Bool). b && eqb (ceased now u j .start) now) (still w))
+        ∙ sym (ap (λ (b : Bool). b && eqb (j .start) now) w))
       where
         still : isWaiting j ≡ false → isWaiting (ceased now u j) ≡ false
         still w = case (ends u j) (λ e. rw e) (λ e. rw e w)
@@ -276,8 +279,12 @@ tick-taken m v a = judged-taken (Ticked m) m (tickRefusal m) (ticked m) (record 
   clock-is = refl;
   ended-is = ap ticketsOf (keep-cong (ends u) (overAt now) (m .jobs) (λ j i. over j));
   started-is = begun-turned now (remaining S now u (m .jobs)) ∙ starts-stay m now;
-  jobs-are = ap (map (turned now)) (ap (map (ceased now u)) (keep-cong (λ (j : Job). not (table.leaves S u j)) (λ (j : Job). not (freeNow S now j)) (m .jobs) (λ j i. ap not (goes j)))
-      ∙ map-cong (ceased now u) (endsNow now) (keep (λ (j : Job). not (freeNow S now j)) (m .jobs)) (λ j i. ap (λ (b : Bool). cond b (cleaning now j) j) (over j)));
+  jobs-are =
+      ap (map (turned now))
+      (ap (map (ceased now u))
+      (keep-cong (λ (j : Job). not (table.leaves S u j)) (λ (j : Job). not (freeNow S now j)) (m .jobs) (λ j i. ap not (goes j)))
+      ∙ map-cong (ceased now u) (endsNow now) (keep (λ (j : Job). not (freeNow S now j)) (m .jobs))
+      (λ j i. ap (λ (b : Bool). cond b (cleaning now j) j) (over j)));
 }) a
   where
     S : Settings
@@ -462,7 +469,7 @@ refused-is m (depart h t) = judged-refused m (departRefusal m h t) (departed m h
 refused-is m tick = judged-refused m (tickRefusal m) (ticked m) refl
 refused-is m (unchanged w) = λ a. refl
 
--- 8 is "none known": 64 live jobs make at most 129 points, so the test that comes after "64 stacks live" never refuses
+-- 8 is "none known": 64 live jobs make at most 129 points, so the test that comes after the places never refuses
 few-points : (m : Model) (o : Submission) (s : ℕ) → length (m .jobs) < limit.slots → length (points (withNew m o s)) ≤ maxPoints
 few-points m o s l =
     omega (
@@ -472,20 +479,25 @@ few-points m o s l =
       length-append (m .jobs) (newJob m o s ∷ []),
     )
 
-pub eight-never : (m : Model) (o : Submission) (s : ℕ) → submitRefusal m o s ≡ verdict
+pub eight-never : (m : Model) (o : Submission) (s : ℕ) → Sound m → submitRefusal m o s ≡ verdict
     (submitTests m o ((ltb (horizon (m .settings)) (s + holdTime (m .settings) (o .estimate)), refusal.PastHorizon) ∷ []))
 unfolding submitRefusal verdict
-eight-never m o s =
-    case (leb limit.slots (length (m .jobs)))
-    (λ q. rw q)
-    (λ q. rw (q, le-ltb maxPoints (length (points (withNew m o s))) (few-points m o s (leb-false limit.slots (length (m .jobs)) q))))
+eight-never m o s v =
+    case (accepts (verdict (submitTests m o [])))
+    (λ a. rw (le-ltb maxPoints (length (points (withNew m o s))) (few-points m o s (fit-room m o v (submit-fit m o [] a .0)))))
+    (λ a. case (known (o .tenant)) (λ k. rw k (case (outside 1 (m .settings .nodes) (o .nodes)) (λ x. rw x)
+    (λ x. rw x (case (outside 1 (longest (m .settings)) (o .estimate)) (λ y. rw y)
+    (λ y. rw y (case (leb (quota (m .settings) (o .tenant)) (liveOf (o .tenant) (m .jobs))) (λ z. rw z)
+    (λ z. rw z (case (ltb lastTicket (m .next)) (λ t. rw t) (λ t. true-false true refl (rw (k, x, y, z, t) at a)))))))))) (λ k. rw k))
 
--- Each refusal, with its conditions in document 01's order and no others. 1: "stack nodes 0 or above the rack's"; 2: "estimate ..
--- outside 1 to 10,080"; 4: "64 stacks live"; 5: "ticket 999,999 has been given"; 6: "start + held above 1,000,000", and the clearing
+-- Each refusal, with its conditions in the documents' order and no others. 14: "a house other than A or B"; 1: "stack nodes 0 or above the
+-- rack's"; 2: "estimate .. outside 1 to 10,080"; 15: "the house's places are all live"; 5: "ticket 999,999 has been given"; 6: "start + held
+-- above 1,000,000", and the clearing
 pub submit-refusal : (m : Model) (o : Submission) → Valid m → call m (submit o) .reply .refusal ≡ verdict
-    ((ltb (o .nodes) 1 || ltb (m .settings .nodes) (o .nodes), refusal.NodesOutOfRange)
+    ((not (known (o .tenant)), refusal.UnknownTenant)
+    ∷ (ltb (o .nodes) 1 || ltb (m .settings .nodes) (o .nodes), refusal.NodesOutOfRange)
     ∷ (ltb (o .estimate) 1 || ltb 10080 (o .estimate), refusal.MinutesOutOfRange)
-    ∷ (leb 64 (length (m .jobs)), refusal.Full)
+    ∷ (leb (quota (m .settings) (o .tenant)) (liveOf (o .tenant) (m .jobs)), refusal.QuotaFull)
     ∷ (ltb 999999 (m .next), refusal.NoTicketLeft)
     ∷ (ltb 1000000 (planned m o + (wallTime (o .estimate) + m .settings .cleanup)), refusal.PastHorizon)
     ∷ [])
@@ -493,7 +505,7 @@ unfolding call submitted runTime
 submit-refusal m o v =
     let s = planned m o in
     judged-refusal m (submitRefusal m o s) (submitted m o s) refl
-    ∙ eight-never m o s
+    ∙ eight-never m o s (v .sound)
     ∙ ap (λ (h : ℕ). verdict (submitTests m o ((ltb (horizon (m .settings)) (s + h), refusal.PastHorizon) ∷ [])))
     (hold-is (m .settings) (o .estimate) ∙ ap (λ (k : ℕ). wallTime (o .estimate) + k) (cleanup-is (m .settings) (v .sound .cleanup-to)))
 

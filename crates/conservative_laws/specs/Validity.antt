@@ -10,7 +10,7 @@ use mathlib.Core.Logic.{_⊎_, inl, inr}
 use lib.Dec.{ltb, eqb}
 use lib.ListN.{length}
 use borrow.Author.Tests.{ltb-false, eqb-true, eqb-false, not-false}
-use Rattle.lists.specs.Tests.{case, true-false, both, le-or}
+use Rattle.lists.specs.Tests.{case, true-false, both, le-or, on}
 use Rattle.lists.specs.Lists.{keep, any, sum, In, here, there, in-nil, in-cons, in-append, keep-in, keep-none, sum-append, sum-map, sum-keep, sum-le}
 use Rattle.spans.specs.declared.Span.{Span}
 use Rattle.spans.specs.Spans.{takes, used, free, earliest, Fits, Earliest}
@@ -20,6 +20,8 @@ use Rattle.scheduler.specs.declared.Kind.the-variants.{Conservative}
 use Rattle.scheduler.specs.declared.State.{State}
 use Rattle.scheduler.specs.declared.State.the-variants.{Waiting, Running}
 use Rattle.scheduler.specs.declared.Job.{Job}
+use Rattle.scheduler.specs.declared.Tenant.{Tenant}
+use Rattle.scheduler.specs.Tenants.{sameTenant}
 use Rattle.scheduler.specs.declared.Submission.{Submission}
 use Rattle.scheduler.specs.declared.Refusal.{Refusal}
 use Rattle.scheduler.specs.declared.Refusal.the-variants as refusal
@@ -34,7 +36,7 @@ use Rattle.scheduler.specs.declared.Settings.{Settings}
 use Rattle.scheduler.specs.Settings.{refusedSettings, horizon, holdTime, until}
 use Rattle.scheduler.specs.Times.{run-pos, hold-pos, end-is, until-is, until-end, until-cleaned, until-at, until-still, until-fresh}
 use Rattle.scheduler.specs.Table as table
-use Rattle.scheduler.specs.Table.{nodesHeld, ticketsOf, ends, staying, ceased, remaining}
+use Rattle.scheduler.specs.Table.{nodesHeld, liveOf, ticketsOf, ends, staying, ceased, remaining}
 use Rattle.scheduler.specs.Model.{Model, ending, empty, without}
 use Rattle.scheduler.specs.Answers.{Result, accepts, refuse, refusing}
 use Rattle.scheduler.specs.Refusals.{notThere, departRefusal, tickRefusal}
@@ -100,6 +102,13 @@ module _ (R : Job → Job → Type 0) where
   zip-length [] (k ∷ ks) z = absurd z
   zip-length (j ∷ js) [] z = absurd z
   zip-length (j ∷ js) (k ∷ ks) z = ap suc (zip-length js ks (z .1))
+
+  pub zip-live : (t : Tenant) (js ks : List Job) → ((j k : Job) → R j k → k .tenant ≡ j .tenant) → Zip R js ks → liveOf t ks ≡ liveOf t js
+  zip-live t [] [] f z = refl
+  zip-live t [] (k ∷ ks) f z = absurd z
+  zip-live t (j ∷ js) [] f z = absurd z
+  zip-live t (j ∷ js) (k ∷ ks) f z =
+      omega (arith, ap (λ (x : Tenant). on (sameTenant x t) 1) (f j k (z .0)), zip-live t js ks f (z .1))
 
   pub zip-tickets : (js ks : List Job) → ((j k : Job) → R j k → k .ticket ≡ j .ticket) → Zip R js ks → ticketsOf js ≡ ticketsOf ks
   zip-tickets [] [] f z = refl
@@ -190,6 +199,10 @@ pub follows-ticket : (now : ℕ) (j k : Job) → Follows now j k → k .ticket �
 follows-ticket now j k (stays e) = refl
 follows-ticket now j k (moves s e a b) = refl
 
+pub follows-tenant : (now : ℕ) (j k : Job) → Follows now j k → k .tenant ≡ j .tenant
+follows-tenant now j k (stays e) = refl
+follows-tenant now j k (moves s e a b) = refl
+
 pub follows-promise : (now : ℕ) (j k : Job) → Follows now j k → k .promise ≡ j .promise
 follows-promise now j k (stays e) = refl
 follows-promise now j k (moves s e a b) = refl
@@ -221,6 +234,7 @@ follows-sound S now j k o (moves s e a b) = record {
   runs = λ r. omega (arith, state-now running? refl now s r, end-is S (placed now s j), run-pos S (j .estimate) (o .estimate-from));
   cleaned = λ r. true-false (cleaning? (stateAt now s)) r (state-clean now s);
   no-end = λ r. refl;
+  tenant-is = o .tenant-is;
 }
 
 -- the jobs after a call, beside those that stay
@@ -270,7 +284,8 @@ module _ (S : Settings) (now : ℕ) where
           → Follows now j (placed now s j) × ((t : ℕ) → now ≤ t → takes t (span S (placed now s j)) + used t (spans S others) ≤ S .nodes)
       at q = (
         moves s q (E .later) (E .smallest (j .start) (omega (arith, w q)) (old q (w q))),
-        room-with (S .nodes) (spans S others) (span S (placed now s j)) now (j .nodes) h s refl (until-at S (stateAt now s) s j (state-clean now s)) refl E (λ t a. omega (arith, f t a)),
+        room-with (S .nodes) (spans S others) (span S (placed now s j)) now (j .nodes) h s refl
+            (until-at S (stateAt now s) s j (state-clean now s)) refl E (λ t a. omega (arith, f t a)),
       )
 
   pass-follows : (done js : List Job) → ((j : Job) → In j js → j .nodes ≤ S .nodes) → ((j : Job) → In j js → isWaiting j ≡ true → now < j .start)
@@ -420,7 +435,7 @@ joins-valid : (m : Model) (o : Submission) → Valid m → Fit m o → planned m
 unfolding planned
 joins-valid m o v f l = record {
   kind = v .kind;
-  sound = sound-join m o j (v .sound) f one refl
+  sound = sound-join m o j (v .sound) f one refl refl
       (omega (arith, held-used S now (m .jobs ++ (j ∷ [])) each, sum-append held (m .jobs) (j ∷ []), room now (omega arith)));
   room = room;
   promised = λ k i. by-place (λ (x : Job). x .start ≤ x .promise) (v .promised) (omega arith) k i;
@@ -464,6 +479,7 @@ joins-valid m o v f l = record {
       runs = λ r. omega (arith, state-now running? refl now s r, end-is S j, run-pos S (o .estimate) (f .estimate-from));
       cleaned = λ r. true-false (cleaning? (stateAt now s)) r (state-clean now s);
       no-end = λ r. refl;
+      tenant-is = f .tenant-is;
     }
 
     by-place : (P : Job → Type 0) → ((k : Job) → In k (m .jobs) → P k) → P j → (k : Job) → In k (m .jobs ++ (j ∷ [])) → P k
@@ -488,6 +504,7 @@ leaves-valid m c s ks v l g = record {
     nodes-from = old .nodes-from;
     nodes-to = old .nodes-to;
     cleanup-to = old .cleanup-to;
+    quotas = old .quotas;
     clock-to = old .clock-to;
     next-from = old .next-from;
     next-to = old .next-to;
@@ -496,6 +513,7 @@ leaves-valid m c s ks v l g = record {
     below = λ k i. let b = beside k i in omega (arith, old .below (b .0) (b .1), follows-ticket c (b .0) k (b .2));
     each = each;
     capacity = omega (arith, held-used (m .settings) c ks each, g .room c (omega arith));
+    shares = λ t. omega (arith, old .shares t, zip-live (Follows c) t js ks (follows-tenant c) (g .follow));
   };
   room = g .room;
   promised = λ k i.

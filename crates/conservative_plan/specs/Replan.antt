@@ -58,6 +58,7 @@ placed-still now j w l n = λ i. record {
   nodes = j .nodes;
   estimate = j .estimate;
   state = state-is i;
+  tenant = j .tenant;
   start = j .start;
   promise = j .promise;
   end = sym n i;

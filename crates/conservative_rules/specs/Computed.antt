@@ -39,7 +39,11 @@ endOf j = j .end
 
 -- a machine of 2 nodes, whose nodes are cleared for so many minutes
 abbrev cleared : ℕ → ℕ → Model
-cleared k minute = opening (record { settings = record { kind = Conservative; nodes = 2; cleanup = k }; minute = minute; ticket = 1 })
+cleared k minute = opening (record {
+  settings = record { kind = Conservative; nodes = 2; cleanup = k; «quota_a» = 63; «quota_b» = 1 };
+  minute = minute;
+  ticket = 1;
+})
 
 abbrev fresh : ℕ → Model
 fresh minute = cleared 0 minute

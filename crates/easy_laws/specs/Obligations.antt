@@ -218,7 +218,7 @@ moved-joins {m} (submits w f room) o i = one (in-cons i)
     Joins : Newcomer → Type 0
     Joins x = (x .ticket ≡ m .next) × OnCourse (joined m (newJob (m .next) w)) (x .ticket) (boundAt m)
 
-    one : (o ≡ record { ticket = m .next; nodes = w .nodes; promise = 0 }) ⊎ In o [] → Joins o
+    one : (o ≡ record { ticket = m .next; nodes = w .nodes; promise = 0; tenant = w .tenant }) ⊎ In o [] → Joins o
     one (inl q) = subst Joins (sym q) (refl, join-course m w)
     one (inr k) = in-nil k
 moved-joins (departs h t a) o i = in-nil i
@@ -335,6 +335,7 @@ easy-lawful = record {
   kind-is = λ m v. v .ready .kind;
   all-live = λ m v. all-live m (v .ready .sound);
   capacity = λ m v. v .ready .sound .capacity;
+  shares = λ m v t. v .ready .sound .shares t;
   valid = call-valid;
   settings = λ m c v. either m c v
       (λ (t : CallAccepted m c (call m c)). settles-settings (t .trace) ∙ moved-settings (t .moved))

@@ -4,7 +4,7 @@
 use Prim.Native.Nat.{ℕ, zero, suc, _+_, _*_, _≤_, _<_}
 use native.Mathlib.Omega.{arith}
 use mathlib.Core.Path.{_≡_, refl, sym, ap, ap₂, subst, _∙_}
-use mathlib.Core.Bool.{Bool, true, false, _&&_, _||_, cond}
+use mathlib.Core.Bool.{Bool, true, false, not, _&&_, _||_, cond}
 use mathlib.Core.Option.{Option, none, some}
 use mathlib.Core.List.{List, [], _∷_, _++_}
 use mathlib.Core.Logic.{_⊎_, inl, inr, ⊎-elim}
@@ -23,11 +23,12 @@ use Rattle.scheduler.specs.declared.Departure.the-variants.{Complete, Cancel}
 use Rattle.scheduler.specs.declared.Select.{Select}
 use Rattle.scheduler.specs.declared.Select.the-variants as select
 use Rattle.scheduler.specs.Limits.{lastTicket, outside}
+use Rattle.scheduler.specs.Tenants.{known}
 use Rattle.scheduler.specs.Jobs.{isWaiting, isRunning, isCleaning, departsAs, held}
 use Rattle.scheduler.specs.declared.Settings.{Settings}
-use Rattle.scheduler.specs.Settings.{horizon, slots, longest, cleanup, runTime, holdTime, unit, endOf}
+use Rattle.scheduler.specs.Settings.{horizon, quota, longest, cleanup, runTime, holdTime, unit, endOf}
 use Rattle.scheduler.specs.Times.{until-is, until-cleaning}
-use Rattle.scheduler.specs.Table.{ticketOf, ticketsOf, endedOf}
+use Rattle.scheduler.specs.Table.{liveOf, ticketOf, ticketsOf, endedOf}
 use Rattle.scheduler.specs.Model.{Model, ending, joined}
 use Rattle.scheduler.specs.Answers.{Result, Forecast, verdict, accepts, refuse}
 use Rattle.scheduler.specs.Refusals.{notThere, departRefusal, tickRefusal}
@@ -255,13 +256,14 @@ refused-same m (depart h t) a = judged-refused m (departRefusal m h t) (advanced
 refused-same m tick a = judged-refused m (tickRefusal m) (advanced m (suc (m .clock)) (ending m)) (finished-none m _ _ _) a
 refused-same m (unchanged r) a = refl
 
--- Each refusal of a submission, with its conditions in document 01's order and no others. 1: "stack nodes 0 or above the rack's"; 2:
--- "estimate .. outside 1 to 10,080"; 4: "64 stacks live"; 5: "ticket 999,999 has been given"; 6: "now + r × 10,080 + held above it, r
--- being the number waiting before plus one", and by document 02, No. 3, with the clearing in both
+-- Each refusal of a submission, with its conditions in the documents' order and no others. 14: "a house other than A or B"; 1: "stack nodes
+-- 0 or above the rack's"; 2: "estimate .. outside 1 to 10,080"; 15: "the house's places are all live"; 5: "ticket 999,999 has been given";
+-- 6: "now + r × 10,080 + held above it, r being the number waiting before plus one", and by document 02, No. 3, with the clearing in both
 pub submit-refusal : (m : Model) (o : Submission) → call m (submit o) .reply .refusal ≡ verdict
-    ((ltb (o .nodes) 1 || ltb (m .settings .nodes) (o .nodes), refusal.NodesOutOfRange)
+    ((not (known (o .tenant)), refusal.UnknownTenant)
+    ∷ (ltb (o .nodes) 1 || ltb (m .settings .nodes) (o .nodes), refusal.NodesOutOfRange)
     ∷ (ltb (o .estimate) 1 || ltb 10080 (o .estimate), refusal.MinutesOutOfRange)
-    ∷ (leb 64 (length (m .jobs)), refusal.Full)
+    ∷ (leb (quota (m .settings) (o .tenant)) (liveOf (o .tenant) (m .jobs)), refusal.QuotaFull)
     ∷ (ltb 999999 (m .next), refusal.NoTicketLeft)
     ∷ (
       ltb 1000000 (m .clock + suc (length (keep isWaiting (m .jobs))) * (10080 + cleanup (m .settings)) + (wallTime (o .estimate) + cleanup (m .settings))),
@@ -277,7 +279,6 @@ Because m o refusal.None = Fit m o × (latestEnd m (o .estimate) ≤ horizon (m 
 Because m o refusal.NodesOutOfRange = (o .nodes < 1) ⊎ (m .settings .nodes < o .nodes)
 Because m o refusal.MinutesOutOfRange = (o .estimate < 1) ⊎ (longest (m .settings) < o .estimate)
 Because m o refusal.OpeningOutOfRange = ⊥
-Because m o refusal.Full = slots (m .settings) ≤ length (m .jobs)
 Because m o refusal.NoTicketLeft = lastTicket < m .next
 Because m o refusal.PastHorizon = horizon (m .settings) < latestEnd m (o .estimate)
 Because m o refusal.NotRunning = ⊥
@@ -286,23 +287,42 @@ Because m o refusal.Malformed = ⊥
 Because m o refusal.TooShort = ⊥
 Because m o refusal.NotWaiting = ⊥
 Because m o refusal.CleanupOutOfRange = ⊥
+Because m o refusal.QuotasOutOfRange = ⊥
+Because m o refusal.UnknownTenant = known (o .tenant) ≡ false
+Because m o refusal.QuotaFull = quota (m .settings) (o .tenant) ≤ liveOf (o .tenant) (m .jobs)
 
 pub submit-because : (m : Model) (o : Submission) → Because m o (submitRefusal m o)
 unfolding submitRefusal verdict
 submit-because m o =
-    case (outside 1 (m .settings .nodes) (o .nodes)) (λ a. rw a (beyond 1 (m .settings .nodes) (o .nodes) a)) (λ a.
+    case (known (o .tenant)) (λ k.
+    rw k (case (outside 1 (m .settings .nodes) (o .nodes)) (λ a. rw a (beyond 1 (m .settings .nodes) (o .nodes) a)) (λ a.
     rw a (case (outside 1 (longest (m .settings)) (o .estimate)) (λ b. rw b (beyond 1 (longest (m .settings)) (o .estimate) b)) (λ b.
-    rw b (case (leb (slots (m .settings)) (length (m .jobs))) (λ c. rw c (leb-true (slots (m .settings)) (length (m .jobs)) c)) (λ c.
+    rw b (case (leb places mine) (λ c. rw c (leb-true places mine c)) (λ c.
     rw c (case (ltb lastTicket (m .next)) (λ d. rw d (ltb-true lastTicket (m .next) d)) (λ d.
     rw d (case (ltb (horizon (m .settings)) (latestEnd m (o .estimate))) (λ f. rw f (ltb-true (horizon (m .settings)) (latestEnd m (o .estimate)) f)) (λ f.
     rw f (
-      fit (inside 1 (m .settings .nodes) (o .nodes) a) (inside 1 (longest (m .settings)) (o .estimate) b) (leb-false (slots (m .settings)) (length (m .jobs)) c)
+      fit k (inside 1 (m .settings .nodes) (o .nodes) a) (inside 1 (longest (m .settings)) (o .estimate) b) (leb-false places mine c)
           (ltb-false lastTicket (m .next) d),
       ltb-false (horizon (m .settings)) (latestEnd m (o .estimate)) f,
-    ))))))))))
+    )))))))))))) (λ k. rw k k)
   where
-    fit : (1 ≤ o .nodes) × (o .nodes ≤ m .settings .nodes) → (1 ≤ o .estimate) × (o .estimate ≤ longest (m .settings)) → length (m .jobs) < slots (m .settings) → m .next ≤ lastTicket → Fit m o
-    fit a b c d = record { nodes-from = a .0; nodes-to = a .1; estimate-from = b .0; estimate-to = b .1; room = c; ticket-left = d }
+    places : ℕ
+    places = quota (m .settings) (o .tenant)
+
+    mine : ℕ
+    mine = liveOf (o .tenant) (m .jobs)
+
+    fit : known (o .tenant) ≡ true → (1 ≤ o .nodes) × (o .nodes ≤ m .settings .nodes) → (1 ≤ o .estimate) × (o .estimate ≤ longest (m .settings))
+        → mine < places → m .next ≤ lastTicket → Fit m o
+    fit k a b c d = record {
+      nodes-from = a .0;
+      nodes-to = a .1;
+      estimate-from = b .0;
+      estimate-to = b .1;
+      tenant-is = k;
+      share = c;
+      ticket-left = d;
+    }
 
     beyond : (low high x : ℕ) → outside low high x ≡ true → (x < low) ⊎ (high < x)
     beyond low high x q = ⊎-elim (λ (z : ltb x low ≡ true). inl (ltb-true x low z)) (λ (z : ltb high x ≡ true). inr (ltb-true high x z))
@@ -315,11 +335,12 @@ pub submit-accepts : (m : Model) (o : Submission) → Fit m o → latestEnd m (o
 unfolding submitRefusal verdict
 submit-accepts m o f l =
     rw (
+      f .tenant-is,
       le-ltb (o .nodes) 1 (f .nodes-from),
       le-ltb (m .settings .nodes) (o .nodes) (f .nodes-to),
       le-ltb (o .estimate) 1 (f .estimate-from),
       le-ltb (longest (m .settings)) (o .estimate) (f .estimate-to),
-      lt-leb (slots (m .settings)) (length (m .jobs)) (f .room),
+      lt-leb (quota (m .settings) (o .tenant)) (liveOf (o .tenant) (m .jobs)) (f .share),
       le-ltb lastTicket (m .next) (f .ticket-left),
       le-ltb (horizon (m .settings)) (latestEnd m (o .estimate)) l,
     )

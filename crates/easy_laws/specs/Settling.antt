@@ -20,7 +20,7 @@ use Rattle.scheduler.specs.Jobs.{isWaiting, isRunning, isHolding, held}
 use Rattle.scheduler.specs.declared.Settings.{Settings}
 use Rattle.scheduler.specs.Settings.{horizon, holdTime, unit, until}
 use Rattle.scheduler.specs.Times.{run-pos, hold-pos, end-is, until-at}
-use Rattle.scheduler.specs.Table.{ticketOf, ticketsOf}
+use Rattle.scheduler.specs.Table.{ofTenant, ticketOf, ticketsOf}
 use Rattle.scheduler.specs.Model.{Model}
 use Rattle.jobs.specs.Order.{Asc, asc-in, asc-same, asc-one}
 use Rattle.jobs.specs.Soundness.{Sound, SoundJob, holds-short}
@@ -205,6 +205,7 @@ sound-begin m j s c room = record {
   nodes-from = s .nodes-from;
   nodes-to = s .nodes-to;
   cleanup-to = s .cleanup-to;
+  quotas = s .quotas;
   clock-to = s .clock-to;
   next-from = s .next-from;
   next-to = s .next-to;
@@ -217,6 +218,7 @@ sound-begin m j s c room = record {
       let t = sum-mark held (m .clock) 1 (m .jobs) (s .asc) (c .isin) in
       let z : held j ≡ 0 = rw (idle j (c .waits)) in
       omega (arith, s .capacity, c .fits);
+  shares = λ t. omega (arith, s .shares t, sum-mark (λ (k : Job). on (ofTenant t k) 1) (m .clock) 1 (m .jobs) (s .asc) (c .isin));
 }
   where
     started : (k : Job) → In k (m .jobs) → k ≡ j → SoundJob (m .settings) (m .clock) (begun (m .clock) k)
@@ -233,6 +235,7 @@ sound-begin m j s c room = record {
           runs = λ r. omega (arith, end-is (m .settings) (begun (m .clock) k), run-pos (m .settings) (k .estimate) (f .estimate-from));
           cleaned = λ r. true-false false r refl;
           no-end = λ r. refl;
+          tenant-is = f .tenant-is;
         }
 
 -- ## The settling, as it goes

@@ -145,7 +145,7 @@ module _ (m : Model) (v : Valid m) where
   join-ready : (o : Submission) → Fit m o → latestEnd m (o .estimate) ≤ horizon (m .settings) → Ready (joined m (newJob (m .next) o))
   join-ready o f room = record {
     kind = v .ready .kind;
-    sound = sound-join m o (newJob (m .next) o) (v .ready .sound) f fresh refl (omega (arith, v .ready .sound .capacity));
+    sound = sound-join m o (newJob (m .next) o) (v .ready .sound) f fresh refl refl (omega (arith, v .ready .sound .capacity));
     promises = each (λ (k : Job). k .promise ≡ 0) (v .ready .promises) refl;
     starts = each (λ (k : Job). isWaiting k ≡ true → k .start ≡ 0) (v .ready .starts) (λ w. refl);
     room =
@@ -178,6 +178,7 @@ module _ (m : Model) (v : Valid m) where
         runs = λ r. true-false false r refl;
         cleaned = λ r. true-false false r refl;
         no-end = λ r. refl;
+        tenant-is = f .tenant-is;
       }
 
 pub moved-ready : {m : Model} {c : Call} {mid : Model} {t : ℕ} {ts : List ℕ} → OwnPart m c mid t ts → Valid m → Ready mid
@@ -192,7 +193,7 @@ moved-settings (ticks l) = refl
 
 -- who comes by it
 abbrev pub joiner : {m : Model} {c : Call} {mid : Model} {t : ℕ} {ts : List ℕ} → OwnPart m c mid t ts → List Newcomer
-joiner {m} (submits o f room) = record { ticket = m .next; nodes = o .nodes; promise = 0 } ∷ []
+joiner {m} (submits o f room) = record { ticket = m .next; nodes = o .nodes; promise = 0; tenant = o .tenant } ∷ []
 joiner (departs h t a) = []
 joiner (ticks l) = []
 

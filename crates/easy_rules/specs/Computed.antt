@@ -1,12 +1,15 @@
--- Document 01's slips of the Loose Desk, one where two jobs might pass the head in one call, and document 02's clearing, computed from the
--- definitions.
+-- Document 01's slips of the Loose Desk, one where two jobs might pass the head in one call, and document 02's clearing and houses,
+-- computed from the definitions.
 -- Assumes nothing.
 use mathlib.Core.Path.{_≡_, refl}
 use mathlib.Core.List.{List, [], _∷_, map}
 use mathlib.Core.Option.{none, some}
 use Prim.Native.Nat.{ℕ}
+use lib.ListN.{replicate}
 use Rattle.scheduler.specs.declared.Kind.the-variants.{Easy}
 use Rattle.scheduler.specs.declared.Job.{Job}
+use Rattle.scheduler.specs.declared.Tenant.the-variants.{Nobody, B}
+use Rattle.scheduler.specs.declared.Submission.{Submission}
 use Rattle.scheduler.specs.declared.Refusal.{Refusal}
 use Rattle.scheduler.specs.declared.Refusal.the-variants as refusal
 use Rattle.scheduler.specs.Model.{Model}
@@ -14,12 +17,17 @@ use Rattle.scheduler.specs.Answers.{verdict}
 use Rattle.scheduler.specs.Settings as times
 use Rattle.scheduler.specs.Refusals as refusals
 use Rattle.scheduler.specs.Opening.{openingRefusal, opening}
-use Rattle.history.specs.Calls.{Call, submit, order, complete, cancel, tick, after}
+use Rattle.history.specs.Calls.{Call, submit, orderOf, order, complete, cancel, tick, after}
 use Rattle.easy_rules.specs.Easy.{rank, shadow, extra, qualifies, pick, settle, forecast, finished, submitRefusal, advanced, call}
 
+-- 63 places are A's and one is B's
 abbrev cleared : (cleanup nodes minute : ℕ) → Model
 cleared cleanup nodes minute =
-    opening (record { settings = record { kind = Easy; nodes = nodes; cleanup = cleanup }; minute = minute; ticket = 1 })
+    opening (record {
+      settings = record { kind = Easy; nodes = nodes; cleanup = cleanup; «quota_a» = 63; «quota_b» = 1 };
+      minute = minute;
+      ticket = 1;
+    })
 
 abbrev fresh : ℕ → ℕ → Model
 fresh nodes minute = cleared 0 nodes minute
@@ -67,6 +75,24 @@ over-at-1 = after call short (tick ∷ complete 1 ∷ [])
 abbrev longest : ℕ → Refusal
 longest minute = call (cleared 30 1 minute) (submit (order 1 10080)) .reply .refusal
 
+-- the answer to a submission
+abbrev asking : Model → Submission → Refusal
+asking m o = call m (submit o) .reply .refusal
+
+-- document 02, No. 4: A's places are all taken, by jobs that run and jobs that wait
+abbrev crowded : Model
+crowded = after call (fresh 10 0) (replicate 63 (submit (order 1 5)))
+
+-- B's place is taken by a job that waits; by one that runs; and by that one once it is over, in cleanup until 2
+abbrev b-waiting : Model
+b-waiting = after call waited-for (submit (orderOf B 3 21) ∷ [])
+
+abbrev b-running : Model
+b-running = after call (cleared 2 10 0) (submit (orderOf B 1 5) ∷ [])
+
+abbrev b-over : Model
+b-over = after call b-running (complete 1 ∷ tick ∷ [])
+
 pub examples : (call (call (fresh 10 0) (submit (order 6 20)) .model) (submit (order 8 10)) .reply .head ≡ some (record { ticket = 2; minute = 20 }))
     -- "on the Loose Desk the promise, and a waiting stack's start, are 0"
     × (stored (after call (fresh 10 5) (submit (order 6 20) ∷ submit (order 8 10) ∷ [])) ≡ (5, 0, 0) ∷ (0, 0, 0) ∷ [])
@@ -110,6 +136,17 @@ pub examples : (call (call (fresh 10 0) (submit (order 6 20)) .model) (submit (o
     -- the last minute: now + r × (10,080 + clearing) + held + clearing. At 979,810 the sum without the last summand is 1,000,000
     × (longest 979780 ≡ refusal.None)
     × (longest 979810 ≡ refusal.PastHorizon)
+    -- document 02, No. 4: "only its share and its live stacks' number decide a lack of places", running, waiting or in cleanup
+    × (asking crowded (order 1 5) ≡ refusal.QuotaFull)
+    × (asking crowded (orderOf B 1 5) ≡ refusal.None)
+    × (asking b-waiting (orderOf B 1 5) ≡ refusal.QuotaFull)
+    × (asking b-waiting (order 1 5) ≡ refusal.None)
+    × (asking b-running (orderOf B 1 5) ≡ refusal.QuotaFull)
+    × (asking b-over (orderOf B 1 5) ≡ refusal.QuotaFull)
+    × (asking (after call b-over (tick ∷ [])) (orderOf B 1 5) ≡ refusal.None)
+    -- 14 comes first, and 2 before 15
+    × (asking crowded (orderOf Nobody 0 0) ≡ refusal.UnknownTenant)
+    × (asking crowded (order 1 0) ≡ refusal.MinutesOutOfRange)
 unfolding
     opening
     openingRefusal
@@ -133,6 +170,15 @@ unfolding
     advanced
     call
 examples = (
+  refl,
+  refl,
+  refl,
+  refl,
+  refl,
+  refl,
+  refl,
+  refl,
+  refl,
   refl,
   refl,
   refl,

@@ -142,8 +142,8 @@ newJob t o = fresh t o Waiting 0 0
 abbrev pub rank : Model → ℕ
 rank m = suc (length (queue (m .jobs)))
 
--- "intake 1, 2, 4, 5, 6"; 6: "now + r × 10,080 + held above it", and by document 02, No. 3, "r × (10,080 + clearing)" and "Held time plus
--- clearing"
+-- "intake 1, 2, .. 5, 6", and by document 02, No. 4, 14 first and 15 "in place of 4"; 6: "now + r × 10,080 + held above it", and by No. 3,
+-- "r × (10,080 + clearing)" and "Held time plus clearing"
 unfoldable pub submitRefusal : Model → Submission → Refusal
 submitRefusal m o =
     verdict

@@ -77,7 +77,7 @@ module _ {D A : Type 0} (Made : D → Call → A → D → Type 0) (desk : Model
   -- from an opening on, the book of the calls made and the answers received has the guarantees (document 01: "demand 3")
   pub made-keeps : (o : Opening) {cs : List Call} {xs : List A} {e : D} → MadeAll Made (desk (opening o)) cs xs e
       → (e ≡ desk (after call (opening o) cs)) × (xs ≡ map (λ (x : Event). answered (x .reply)) (events call (opening o) cs))
-      × Guarantee (o .settings .kind) (opening o .settings .nodes) (bookOf (opening o) (eventsOf cs (map said xs)))
+      × Guarantee (o .settings .kind) (opening o .settings) (bookOf (opening o) (eventsOf cs (map said xs)))
   made-keeps o {cs} l =
       let r = made-all-is (opening o) (opening-valid o) refl l in
       (r .0, r .1, rw (r .2) (demand3 o cs))

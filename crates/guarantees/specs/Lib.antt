@@ -8,3 +8,4 @@ pub mod Chain
 pub mod Tickets
 pub mod Withdrawn
 pub mod Cleanup
+pub mod Quotas

@@ -32,7 +32,7 @@ opening-empty o = by (accepts (openingRefusal o))
 pub demand3 : Demand3
 demand3 o cs = by (o .settings .kind) refl
   where
-    by : (k : Kind) → o .settings .kind ≡ k → Guarantee k (opening o .settings .nodes) (bookOf (opening o) (events call (opening o) cs))
+    by : (k : Kind) → o .settings .kind ≡ k → Guarantee k (opening o .settings) (bookOf (opening o) (events call (opening o) cs))
     by Conservative e = from-blank conservative-lawful (opening o) cs (conservative.opening-valid o e) (opening-empty o)
     by Easy e = from-blank easy-lawful (opening o) cs (easy.opening-valid o e) (opening-empty o)
 

@@ -46,13 +46,13 @@ cleanup-is-set o = cleanup-is (opening o .settings) (opening-sound o .cleanup-to
 -- bounds and forecasts are kept, every head hears one, and running jobs never hold more nodes than the machine has. ("After every
 -- call": every front of a list is a list.)
 abbrev pub Demand3 : Type 0
-Demand3 = (o : Opening) (cs : List Call) → Guarantee (o .settings .kind) (opening o .settings .nodes) (bookOf (opening o) (events call (opening o) cs))
+Demand3 = (o : Opening) (cs : List Call) → Guarantee (o .settings .kind) (opening o .settings) (bookOf (opening o) (events call (opening o) cs))
 
 -- the same with waits, "as its steps or as one refused call", after each single step
 abbrev pub Demand3WithWaits : Type 0
 Demand3WithWaits =
     (o : Opening) (qs : List Command) (i : ℕ)
-    → Guarantee (o .settings .kind) (opening o .settings .nodes) (bookOf (opening o) (events call (opening o) (take i (allCalls call (opening o) qs))))
+    → Guarantee (o .settings .kind) (opening o .settings) (bookOf (opening o) (events call (opening o) (take i (allCalls call (opening o) qs))))
 
 module _ {k : Kind} {Valid : Model → Type 0} {OnCourse : Model → ℕ → ℕ → Type 0} (L : Lawful k (rulesOf k) Valid OnCourse) where
   -- a valid model of the kind goes by the kind's rules
@@ -65,13 +65,13 @@ module _ {k : Kind} {Valid : Model → Type 0} {OnCourse : Model → ℕ → ℕ
       (ap (λ (es : List Event). record { call = c; reply = rulesOf k m c .reply } ∷ es) (same-events (rulesOf k m c .model) cs (L .valid m c v)))
 
   -- from any book that agrees with a valid model
-  pub from-seed : (m : Model) (b : Book) (cs : List Call) → Valid m → Agrees k OnCourse m b → Guarantee k (m .settings .nodes) (bookFrom m b (events call m cs))
+  pub from-seed : (m : Model) (b : Book) (cs : List Call) → Valid m → Agrees k OnCourse m b → Guarantee k (m .settings) (bookFrom m b (events call m cs))
   from-seed m b cs v a =
       let g = guaranteed L (unit (m .settings)) (cleanup (m .settings)) m b cs (record { valid = v; agrees = a; unit-is = refl; cleanup-is = refl }) in
-      rw (same-events m cs v) (subst (λ (S : Settings). Guarantee k (S .nodes) (bookFrom m b (events (rulesOf k) m cs))) (settings-after L m cs v) g)
+      rw (same-events m cs v) (subst (λ (S : Settings). Guarantee k S (bookFrom m b (events (rulesOf k) m cs))) (settings-after L m cs v) g)
 
   -- a model with no job agrees with the blank book
-  pub from-blank : (m : Model) (cs : List Call) → Valid m → m .jobs ≡ [] → Guarantee k (m .settings .nodes) (bookOf m (events call m cs))
+  pub from-blank : (m : Model) (cs : List Call) → Valid m → m .jobs ≡ [] → Guarantee k (m .settings) (bookOf m (events call m cs))
   from-blank m cs v e = from-seed m (blank m) cs v (record {
     clock-is = refl;
     jobs-are = rw e;

@@ -21,7 +21,7 @@ use Rattle.scheduler.specs.Model.{Model, ending, joined, without}
 use Rattle.scheduler.specs.declared.Refusal.{Refusal}
 use Rattle.scheduler.specs.Answers.{Result, refuse}
 use Rattle.scheduler.specs.Refusals.{departRefusal, tickRefusal}
-use Rattle.jobs.specs.Soundness.{submit-fit}
+use Rattle.jobs.specs.Soundness.{Sound, fit-room, submit-fit}
 use Rattle.jobs.specs.Judgement.{judged-by}
 use Rattle.history.specs.Calls.{Call, submit, depart, tick, unchanged}
 use Rattle.conservative_rules.specs.Conservative as conservative
@@ -77,7 +77,7 @@ leaving-fits m clock s h = finished-fits m (without m clock s) 0 _ (left-few s (
 refused-fits : (m : Model) (r : Refusal) → FitsAnswer (refuse m r)
 refused-fits m r = record { ended = omega arith; started = omega arith }
 
-fits-by : (k : Kind) (m : Model) (c : Call) → length (m .jobs) ≤ 64 → FitsAnswer (rulesOf k m c)
+fits-by : (k : Kind) (m : Model) (c : Call) → Sound m → FitsAnswer (rulesOf k m c)
 unfolding
     conservative.call
     conservative.submitRefusal
@@ -92,20 +92,20 @@ fits-by Conservative m (submit o) h =
     judged-by FitsAnswer m (conservative.submitRefusal m o s) (conservative.submitted m o s)
     (λ a. record { ended = omega arith; started = case (eqb s (m .clock)) (λ q. rw q (omega arith)) (λ q. rw q (omega arith)) })
     (λ a. refused-fits m _)
-fits-by Conservative m (depart i t) h = judged-by FitsAnswer m (departRefusal m i t) (conservative.departed m i t) (λ a. advanced-fits m _ _ _ h)
+fits-by Conservative m (depart i t) h = judged-by FitsAnswer m (departRefusal m i t) (conservative.departed m i t) (λ a. advanced-fits m _ _ _ (h .few))
     (λ a. refused-fits m _)
-fits-by Conservative m tick h = judged-by FitsAnswer m (tickRefusal m) (conservative.ticked m) (λ a. advanced-fits m _ _ _ h) (λ a. refused-fits m _)
+fits-by Conservative m tick h = judged-by FitsAnswer m (tickRefusal m) (conservative.ticked m) (λ a. advanced-fits m _ _ _ (h .few)) (λ a. refused-fits m _)
 fits-by Conservative m (unchanged r) h = refused-fits m _
 fits-by Easy m (submit o) h =
     let j = easy.newJob (m .next) o in
     judged-by FitsAnswer m (easy.submitRefusal m o) (easy.finished m (joined m j) (m .next) [])
-    (λ a. finished-fits m (joined m j) (m .next) [] (omega arith) (omega (arith, submit-fit m o _ a .0 .room, length-append (m .jobs) (j ∷ []))))
+    (λ a. finished-fits m (joined m j) (m .next) [] (omega arith) (omega (arith, fit-room m o h (submit-fit m o _ a .0), length-append (m .jobs) (j ∷ []))))
     (λ a. refused-fits m _)
 fits-by Easy m (depart i t) h = judged-by FitsAnswer m (departRefusal m i t) (easy.advanced m (m .clock) (select.Departing i t))
-    (λ a. leaving-fits m _ (select.Departing i t) h) (λ a. refused-fits m _)
+    (λ a. leaving-fits m _ (select.Departing i t) (h .few)) (λ a. refused-fits m _)
 fits-by Easy m tick h = judged-by FitsAnswer m (tickRefusal m) (easy.advanced m (suc (m .clock)) (ending m))
-    (λ a. leaving-fits m _ (ending m) h) (λ a. refused-fits m _)
+    (λ a. leaving-fits m _ (ending m) (h .few)) (λ a. refused-fits m _)
 fits-by Easy m (unchanged r) h = refused-fits m _
 
-pub call-fits : (m : Model) (c : Call) → length (m .jobs) ≤ 64 → FitsAnswer (call m c)
+pub call-fits : (m : Model) (c : Call) → Sound m → FitsAnswer (call m c)
 call-fits m c h = fits-by (m .settings .kind) m c h

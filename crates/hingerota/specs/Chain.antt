@@ -67,7 +67,7 @@ module _ (m : Model) (v : Valid m) where
 -- made and the answers received has the guarantees (document 01: "demand 3").
 pub host-keeps : (o : Opening) (cs : List Call) (xs : List Answer) (e : Desk) → MadeAll HostMade (opens o .desk) cs xs e
     → (e ≡ mirror (store (after call (opening o) cs))) × (xs ≡ map (λ (x : Event). mirrorAnswer (answerOf x)) (events call (opening o) cs))
-    × Guarantee (o .settings .kind) (opening o .settings .nodes) (bookOf (opening o) (eventsOf cs (map hostReply xs)))
+    × Guarantee (o .settings .kind) (opening o .settings) (bookOf (opening o) (eventsOf cs (map hostReply xs)))
 unfolding opened
 host-keeps o cs xs e l =
     made-keeps HostMade (λ m. mirror (store m)) (λ r. mirrorAnswer (answer r)) hostReply (λ m c a d v. made-is m v)

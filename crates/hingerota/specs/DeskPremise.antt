@@ -39,11 +39,19 @@ opens o = mirrorOpened (opened o)
 abbrev pub gives : Desk → Call → Outcome
 gives d c = mirrorOutcome (outcome (call (view (read d)) c))
 
+-- what a host's opening asks, of a kind
+abbrev openingOf : Kind → host-opening.Opening → Opening
+openingOf k o = record {
+  settings = record { kind = k; nodes = o .nodes; cleanup = o .cleanup; «quota_a» = o .«quota_a»; «quota_b» = o .«quota_b» };
+  minute = o .minute;
+  ticket = o .ticket;
+}
+
 abbrev pub promiseOpening : host-opening.Opening → Opening
-promiseOpening o = record { settings = record { kind = Conservative; nodes = o .nodes; cleanup = o .cleanup }; minute = o .minute; ticket = o .ticket }
+promiseOpening o = openingOf Conservative o
 
 abbrev pub looseOpening : host-opening.Opening → Opening
-looseOpening o = record { settings = record { kind = Easy; nodes = o .nodes; cleanup = o .cleanup }; minute = o .minute; ticket = o .ticket }
+looseOpening o = openingOf Easy o
 
 mirror-handed : (s : Scheduler) → Premise s → Handed (mirror s)
 mirror-handed s h = record { mirrored = ap mirror (sym (read-mirror s)); premise = subst Premise (sym (read-mirror s)) h }

@@ -1,6 +1,7 @@
 -- A scheduler, what it answers and what an opening gives, in numbers: what a host program holds. A function that is exported can hold no
 -- enum, so a kind, a state and a refusal are numbers there. Document 01: "A record has ticket, nodes, estimate, state, start and promise";
--- document 02, No. 3: a record in cleanup, "and no other, keeps its end".
+-- document 02, No. 3: a record in cleanup, "and no other, keeps its end"; No. 4: "Each record
+-- carries its house", its letter here.
 -- Assumes nothing.
 use mathlib.Core.Path.{_≡_, refl}
 use mathlib.Core.List.{List, [], _∷_, map}
@@ -11,6 +12,9 @@ use Rattle.scheduler.specs.declared.Kind.{Kind}
 use Rattle.scheduler.specs.declared.Kind.the-variants.{Conservative, Easy}
 use Rattle.scheduler.specs.declared.State.{State}
 use Rattle.scheduler.specs.declared.State.the-variants.{Unused, Waiting, Running, Cleanup}
+use Rattle.scheduler.specs.declared.Tenant.{Tenant}
+use Rattle.scheduler.specs.declared.Tenant.the-variants.{Nobody, A, B}
+use Rattle.scheduler.specs.Tenants.{tenantOf, letterOf}
 use Rattle.scheduler.specs.declared.Job.{Job}
 use Rattle.scheduler.specs.declared.Scheduler.{Scheduler}
 use Rattle.scheduler.specs.declared.Submission.{Submission}
@@ -49,6 +53,7 @@ mirrorJob j = record {
   nodes = j .nodes;
   estimate = j .estimate;
   state = stateNumber (j .state);
+  tenant = letterOf (j .tenant);
   start = j .start;
   promise = j .promise;
   end = j .end;
@@ -63,6 +68,8 @@ mirror d = record {
   kind = kindNumber (d .settings .kind);
   nodes = d .settings .nodes;
   cleanup = d .settings .cleanup;
+  «quota_a» = d .settings .«quota_a»;
+  «quota_b» = d .settings .«quota_b»;
   clock = d .clock;
   next = d .next;
   jobs = map mirrorJob (d .jobs);
@@ -70,7 +77,7 @@ mirror d = record {
 
 -- what a host's order asks
 abbrev pub wanted : Order → Submission
-wanted o = record { nodes = o .nodes; estimate = o .estimate }
+wanted o = record { nodes = o .nodes; estimate = o .estimate; tenant = tenantOf (o .tenant) }
 
 -- ## Read back. A number that is no kind is read as the Promise Desk, and one that is no state as unused
 
@@ -86,6 +93,7 @@ readRecord r = record {
   nodes = r .nodes;
   estimate = r .estimate;
   state = stateOf (r .state);
+  tenant = tenantOf (r .tenant);
   start = r .start;
   promise = r .promise;
   end = r .end;
@@ -93,7 +101,7 @@ readRecord r = record {
 
 unfoldable pub read : Desk → Scheduler
 read d = record {
-  settings = record { kind = kindOf (d .kind); nodes = d .nodes; cleanup = d .cleanup };
+  settings = record { kind = kindOf (d .kind); nodes = d .nodes; cleanup = d .cleanup; «quota_a» = d .«quota_a»; «quota_b» = d .«quota_b» };
   clock = d .clock;
   next = d .next;
   jobs = map readRecord (d .jobs);
@@ -111,12 +119,18 @@ state-back Waiting = refl
 state-back Running = refl
 state-back Cleanup = refl
 
+tenant-back : (t : Tenant) → tenantOf (letterOf t) ≡ t
+tenant-back Nobody = refl
+tenant-back A = refl
+tenant-back B = refl
+
 pub job-back : (j : Job) → readRecord (mirrorJob j) ≡ j
 job-back j = λ i. record {
   ticket = j .ticket;
   nodes = j .nodes;
   estimate = j .estimate;
   state = state-back (j .state) i;
+  tenant = tenant-back (j .tenant) i;
   start = j .start;
   promise = j .promise;
   end = j .end;
@@ -129,7 +143,13 @@ jobs-back (j ∷ js) = λ i. job-back j i ∷ jobs-back js i
 pub read-mirror : (d : Scheduler) → read (mirror d) ≡ d
 unfolding read mirror
 read-mirror d = λ i. record {
-  settings = record { kind = kind-back (d .settings .kind) i; nodes = d .settings .nodes; cleanup = d .settings .cleanup };
+  settings = record {
+    kind = kind-back (d .settings .kind) i;
+    nodes = d .settings .nodes;
+    cleanup = d .settings .cleanup;
+    «quota_a» = d .settings .«quota_a»;
+    «quota_b» = d .settings .«quota_b»;
+  };
   clock = d .clock;
   next = d .next;
   jobs = jobs-back (d .jobs) i;
@@ -158,7 +178,6 @@ refusalOf n =
     cond (eqb n 1) refusal.NodesOutOfRange
     (cond (eqb n 2) refusal.MinutesOutOfRange
     (cond (eqb n 3) refusal.OpeningOutOfRange
-    (cond (eqb n 4) refusal.Full
     (cond (eqb n 5) refusal.NoTicketLeft
     (cond (eqb n 6) refusal.PastHorizon
     (cond (eqb n 7) refusal.NotRunning
@@ -166,7 +185,10 @@ refusalOf n =
     (cond (eqb n 9) refusal.Malformed
     (cond (eqb n 10) refusal.TooShort
     (cond (eqb n 11) refusal.NotWaiting
-    (cond (eqb n 12) refusal.CleanupOutOfRange refusal.None)))))))))))
+    (cond (eqb n 12) refusal.CleanupOutOfRange
+    (cond (eqb n 13) refusal.QuotasOutOfRange
+    (cond (eqb n 14) refusal.UnknownTenant
+    (cond (eqb n 15) refusal.QuotaFull refusal.None)))))))))))))
 
 abbrev pub readTickets : Tickets → scheduler-tickets.Tickets
 readTickets t = record { count = t .count; list = t .list }
@@ -187,7 +209,6 @@ refusal-back refusal.None = refl
 refusal-back refusal.NodesOutOfRange = refl
 refusal-back refusal.MinutesOutOfRange = refl
 refusal-back refusal.OpeningOutOfRange = refl
-refusal-back refusal.Full = refl
 refusal-back refusal.NoTicketLeft = refl
 refusal-back refusal.PastHorizon = refl
 refusal-back refusal.NotRunning = refl
@@ -196,6 +217,9 @@ refusal-back refusal.Malformed = refl
 refusal-back refusal.TooShort = refl
 refusal-back refusal.NotWaiting = refl
 refusal-back refusal.CleanupOutOfRange = refl
+refusal-back refusal.QuotasOutOfRange = refl
+refusal-back refusal.UnknownTenant = refl
+refusal-back refusal.QuotaFull = refl
 
 pub read-answer : (a : scheduler-answer.Answer) → readAnswer (mirrorAnswer a) ≡ a
 read-answer a = λ i. record {

@@ -17,30 +17,36 @@ use scheduler::Scheduler;
 use scheduler::Settings;
 use scheduler::State;
 use scheduler::Submission;
+use scheduler::Tenant;
 
-// What a desk is opened with: the machine's nodes, the first minute, the first ticket, and for how many minutes nodes stay taken after a run.
+// What a desk is opened with: the machine's nodes, the first minute, the first ticket, and for how many minutes nodes stay taken after a run, and
+// how many live jobs A and B may have.
 #[repr(C)]
 pub struct Opening {
     pub nodes: u32,
     pub minute: u32,
     pub ticket: u32,
     pub cleanup: u32,
+    pub quota_a: u32,
+    pub quota_b: u32,
 }
 
-// What is asked for a job.
+// What is asked for a job; the tenant is a letter, A (65) or B (66).
 #[repr(C)]
 pub struct Order {
     pub nodes: u32,
     pub estimate: u32,
+    pub tenant: u32,
 }
 
-// A job in numbers: state 0 unused, 1 waiting, 2 running, 3 in cleanup.
+// A job in numbers: state 0 unused, 1 waiting, 2 running, 3 in cleanup; the tenant's letter, 0 if unused.
 #[repr(C)]
 pub struct Record {
     pub ticket: u32,
     pub nodes: u16,
     pub estimate: u16,
     pub state: u32,
+    pub tenant: u32,
     pub start: u32,
     pub promise: u32,
     pub end: u32,
@@ -52,6 +58,8 @@ pub struct Desk {
     pub kind: u32,
     pub nodes: u32,
     pub cleanup: u32,
+    pub quota_a: u32,
+    pub quota_b: u32,
     pub clock: u32,
     pub next: u32,
     pub jobs: [Record; 64],
@@ -158,6 +166,7 @@ fn read_record(r: Record) -> Job
         nodes: r.nodes,
         estimate: r.estimate,
         state: state_of(r.state),
+        tenant: Tenant::of_letter(r.tenant),
         start: r.start,
         promise: r.promise,
         end: r.end,
@@ -168,11 +177,13 @@ fn mirror_job(j: Job) -> Record
     ensures { λ r. ⌜ r ≡ mirrorJob j ⌝ }
 {
     let s = j.state;
+    let whose = j.tenant;
     Record {
         ticket: j.ticket,
         nodes: j.nodes,
         estimate: j.estimate,
         state: state_number(s),
+        tenant: whose.letter(),
         start: j.start,
         promise: j.promise,
         end: j.end,
@@ -196,6 +207,8 @@ fn read(d: Desk) -> Scheduler
             kind: kind,
             nodes: d.nodes,
             cleanup: d.cleanup,
+            quota_a: d.quota_a,
+            quota_b: d.quota_b,
         },
         clock: d.clock,
         next: d.next,
@@ -220,6 +233,8 @@ fn mirror(s: Scheduler) -> Desk
         kind: kind_number(kind),
         nodes: s.settings.nodes,
         cleanup: s.settings.cleanup,
+        quota_a: s.settings.quota_a,
+        quota_b: s.settings.quota_b,
         clock: s.clock,
         next: s.next,
         jobs: jobs,
@@ -303,6 +318,7 @@ fn submit(d: Desk, order: Order) -> Outcome
     let s = Submission {
         nodes: order.nodes,
         estimate: order.estimate,
+        tenant: Tenant::of_letter(order.tenant),
     };
     mirror_outcome(calls::submit(read(d), s))
 }
@@ -370,6 +386,8 @@ pub extern "C" fn hingerota_open_promise(opening: Opening) -> Opened
             kind: Kind::Conservative,
             nodes: opening.nodes,
             cleanup: opening.cleanup,
+            quota_a: opening.quota_a,
+            quota_b: opening.quota_b,
         },
         minute: opening.minute,
         ticket: opening.ticket,
@@ -386,6 +404,8 @@ pub extern "C" fn hingerota_open_loose(opening: Opening) -> Opened
             kind: Kind::Easy,
             nodes: opening.nodes,
             cleanup: opening.cleanup,
+            quota_a: opening.quota_a,
+            quota_b: opening.quota_b,
         },
         minute: opening.minute,
         ticket: opening.ticket,

@@ -7,6 +7,7 @@ use Prim.Native.Nat.{ℕ, suc, _+_, _*_, min}
 use lib.Dec.{eqb, ltb}
 use lib.ListN.{length}
 use Rattle.lists.specs.Lists.{keep, elem}
+use Rattle.scheduler.specs.declared.Tenant.{Tenant}
 use Rattle.scheduler.specs.Answers.{Forecast}
 use Rattle.history.specs.Calls.{Event}
 use Rattle.history.specs.News.{Newcomer, News, news, clockAfter}
@@ -28,6 +29,8 @@ pub record Entry : Type 0 where
   pub ticket : ℕ
   pub nodes : ℕ
   pub promise : ℕ
+  -- the house that its intake named
+  pub tenant : Tenant
   -- "Its bound is the clock at intake + r × 10,080."
   pub bound : ℕ
   pub fate : Fate
@@ -84,6 +87,7 @@ entry u b o = record {
   ticket = o .ticket;
   nodes = o .nodes;
   promise = o .promise;
+  tenant = o .tenant;
   bound = b .clock + rank (b .entries) * u;
   fate = waiting;
   headed = false;
@@ -107,6 +111,7 @@ withFate x f = record {
   ticket = x .ticket;
   nodes = x .nodes;
   promise = x .promise;
+  tenant = x .tenant;
   bound = x .bound;
   fate = f;
   headed = x .headed;
@@ -151,6 +156,7 @@ hearing f x = record {
   ticket = x .ticket;
   nodes = x .nodes;
   promise = x .promise;
+  tenant = x .tenant;
   bound = x .bound;
   fate = x .fate;
   headed = true;

@@ -11,18 +11,28 @@ use lib.ListN.{replicate}
 use Rattle.lists.specs.Lists.{sum, In, here, there, in-nil}
 use Rattle.scheduler.specs.declared.Kind.the-variants.{Conservative, Easy}
 use Rattle.scheduler.specs.declared.Refusal.the-variants as refusal
+use Rattle.scheduler.specs.declared.Settings.{Settings}
+use Rattle.scheduler.specs.declared.Tenant.{Tenant}
+use Rattle.scheduler.specs.declared.Tenant.the-variants.{A, B}
 use Rattle.scheduler.specs.Answers.{Forecast}
-use Rattle.history.specs.Calls.{submit, order, cancel, tick, Event}
+use Rattle.history.specs.Calls.{submit, orderOf, cancel, tick, Event}
 use Rattle.history.specs.News.{news}
 use Rattle.history.specs.Book.{Book, Entry, waiting, start, enter, enterAll}
-use Rattle.history.specs.Guarantee.{StartedBy, Kept, held-nodes, Guarantee}
+use Rattle.history.specs.Guarantee.{StartedBy, Kept, held-nodes, live-jobs, Guarantee}
 
 -- a submission accepted under a ticket, with a promise, the tickets that start and a forecast
-abbrev taken : ℕ → ℕ → ℕ → List ℕ → Option Forecast → Event
-taken t n p ss f = record {
-  call = submit (order n 5);
+abbrev takenFor : Tenant → ℕ → ℕ → ℕ → List ℕ → Option Forecast → Event
+takenFor h t n p ss f = record {
+  call = submit (orderOf h n 5);
   reply = record { refusal = refusal.None; ticket = t; promise = p; ended = []; started = ss; head = f };
 }
+
+abbrev taken : ℕ → ℕ → ℕ → List ℕ → Option Forecast → Event
+taken = takenFor A
+
+-- a machine of 10 nodes, with 63 places for A and one for B
+abbrev ten : Settings
+ten = record { kind = Easy; nodes = 10; cleanup = 0; «quota_a» = 63; «quota_b» = 1 }
 
 -- a tick, with the tickets that end and those that start
 abbrev turned : List ℕ → List ℕ → Event
@@ -48,22 +58,22 @@ never x b e s = let q = s .started in absurd (let z : _≡_ {A = ℕ} 0 1 = cc i
 too-late : (x : Entry) (b : ℕ) → start (x .fate) ≡ some (suc b) → StartedBy x b → ⊥
 too-late x b e s = let q = s .started in let m : s .minute ≡ suc b = cc in absurd (omega (arith, m, s .by))
 
-pub promise-broken : Guarantee Conservative 10 (book (taken 1 4 2 [] none ∷ idle ∷ idle ∷ [])) → ⊥
+pub promise-broken : Guarantee Conservative ten (book (taken 1 4 2 [] none ∷ idle ∷ idle ∷ [])) → ⊥
 unfolding enter
 promise-broken g = never _ 2 refl (g .promises refl _ (here refl) .starts refl (omega arith))
 
-pub promise-late : Guarantee Conservative 10 (book (taken 1 4 1 [] none ∷ idle ∷ ticked (1 ∷ []) ∷ [])) → ⊥
+pub promise-late : Guarantee Conservative ten (book (taken 1 4 1 [] none ∷ idle ∷ ticked (1 ∷ []) ∷ [])) → ⊥
 unfolding enter
 promise-late g = too-late _ 1 refl (g .promises refl _ (here refl) .starts refl (omega arith))
 
 -- the same once its run has ended: its start is not forgotten
-pub promise-late-ended : Guarantee Conservative 10 (book (taken 1 4 1 [] none ∷ idle ∷ ticked (1 ∷ []) ∷ turned (1 ∷ []) [] ∷ [])) → ⊥
+pub promise-late-ended : Guarantee Conservative ten (book (taken 1 4 1 [] none ∷ idle ∷ ticked (1 ∷ []) ∷ turned (1 ∷ []) [] ∷ [])) → ⊥
 unfolding enter
 promise-late-ended g = too-late _ 1 refl (g .promises refl _ (here refl) .starts refl (omega arith))
 
 -- one that waits on, minute after minute
 late : Entry
-late = record { ticket = 1; nodes = 4; promise = 0; bound = 10080; fate = waiting; headed = true; forecast = none }
+late = record { ticket = 1; nodes = 4; promise = 0; tenant = A; bound = 10080; fate = waiting; headed = true; forecast = none }
 
 abbrev waiting-at : ℕ → Book
 waiting-at c = record { clock = c; entries = late ∷ []; strays = [] }
@@ -81,54 +91,54 @@ at-bound-is : at-bound ≡ waiting-at 10080
 unfolding enter late
 at-bound-is = waits-on 10080 0
 
-pub bound-broken : Guarantee Easy 10 at-bound → ⊥
+pub bound-broken : Guarantee Easy ten at-bound → ⊥
 unfolding late
 bound-broken g =
-    let h : Guarantee Easy 10 (waiting-at 10080) = subst (Guarantee Easy 10) at-bound-is g in
+    let h : Guarantee Easy ten (waiting-at 10080) = subst (Guarantee Easy ten) at-bound-is g in
     never late 10080 refl (h .bounds refl late (here refl) .starts refl (omega arith))
 
-pub bound-late : Guarantee Easy 10 (enter 10080 0 at-bound (news (ticked (1 ∷ [])))) → ⊥
+pub bound-late : Guarantee Easy ten (enter 10080 0 at-bound (news (ticked (1 ∷ [])))) → ⊥
 unfolding enter late
 bound-late g =
-    let h : Guarantee Easy 10 (enter 10080 0 (waiting-at 10080) (news (ticked (1 ∷ [])))) =
-    subst (λ (b : Book). Guarantee Easy 10 (enter 10080 0 b (news (ticked (1 ∷ []))))) at-bound-is g in
+    let h : Guarantee Easy ten (enter 10080 0 (waiting-at 10080) (news (ticked (1 ∷ [])))) =
+    subst (λ (b : Book). Guarantee Easy ten (enter 10080 0 b (news (ticked (1 ∷ []))))) at-bound-is g in
     too-late _ 10080 refl (h .bounds refl _ (here refl) .starts refl (omega arith))
 
 abbrev soon : Option Forecast
 soon = some (record { ticket = 1; minute = 1 })
 
-pub forecast-broken : Guarantee Easy 10 (book (taken 1 4 0 [] soon ∷ idle ∷ [])) → ⊥
+pub forecast-broken : Guarantee Easy ten (book (taken 1 4 0 [] soon ∷ idle ∷ [])) → ⊥
 unfolding enter
 forecast-broken g = never _ 1 refl (g .forecasts refl _ 1 (here refl) refl .starts refl (omega arith))
 
-pub forecast-late : Guarantee Easy 10 (book (taken 1 4 0 [] soon ∷ idle ∷ ticked (1 ∷ []) ∷ [])) → ⊥
+pub forecast-late : Guarantee Easy ten (book (taken 1 4 0 [] soon ∷ idle ∷ ticked (1 ∷ []) ∷ [])) → ⊥
 unfolding enter
 forecast-late g = too-late _ 1 refl (g .forecasts refl _ 1 (here refl) refl .starts refl (omega arith))
 
-pub head-unheard : Guarantee Easy 10 (book (taken 1 4 0 [] none ∷ [])) → ⊥
+pub head-unheard : Guarantee Easy ten (book (taken 1 4 0 [] none ∷ [])) → ⊥
 unfolding enter
 head-unheard g = let f = g .heads refl _ (here refl) refl refl in absurd (let z : _≡_ {A = ℕ} 0 1 = cc (f .1) in omega arith)
 
-pub nodes-exceeded : Guarantee Easy 10 (book (taken 1 6 0 (1 ∷ []) none ∷ taken 2 5 0 (2 ∷ []) none ∷ [])) → ⊥
+pub nodes-exceeded : Guarantee Easy ten (book (taken 1 6 0 (1 ∷ []) none ∷ taken 2 5 0 (2 ∷ []) none ∷ [])) → ⊥
 unfolding enter
 nodes-exceeded g = let w = g .within in absurd (omega arith)
 
 -- ## Withdrawals
 
 -- withdrawn in the minute that it was told, and not before
-pub promise-withdrawn : Guarantee Conservative 10 (book (taken 1 4 2 [] none ∷ idle ∷ idle ∷ dropped 1 [] ∷ [])) → ⊥
+pub promise-withdrawn : Guarantee Conservative ten (book (taken 1 4 2 [] none ∷ idle ∷ idle ∷ dropped 1 [] ∷ [])) → ⊥
 unfolding enter
 promise-withdrawn g = let l : 2 < 2 = g .promises refl _ (here refl) .before 2 refl in omega arith
 
-pub bound-withdrawn : Guarantee Easy 10 (enter 10080 0 at-bound (news (dropped 1 []))) → ⊥
+pub bound-withdrawn : Guarantee Easy ten (enter 10080 0 at-bound (news (dropped 1 []))) → ⊥
 unfolding enter late
 bound-withdrawn g =
-    let h : Guarantee Easy 10 (enter 10080 0 (waiting-at 10080) (news (dropped 1 []))) =
-    subst (λ (b : Book). Guarantee Easy 10 (enter 10080 0 b (news (dropped 1 [])))) at-bound-is g in
+    let h : Guarantee Easy ten (enter 10080 0 (waiting-at 10080) (news (dropped 1 []))) =
+    subst (λ (b : Book). Guarantee Easy ten (enter 10080 0 b (news (dropped 1 [])))) at-bound-is g in
     let l : 10080 < 10080 = h .bounds refl _ (here refl) .before 10080 refl in
     omega arith
 
-pub forecast-withdrawn : Guarantee Easy 10 (book (taken 1 4 0 [] soon ∷ idle ∷ dropped 1 [] ∷ [])) → ⊥
+pub forecast-withdrawn : Guarantee Easy ten (book (taken 1 4 0 [] soon ∷ idle ∷ dropped 1 [] ∷ [])) → ⊥
 unfolding enter
 forecast-withdrawn g = let l : 1 < 1 = g .forecasts refl _ 1 (here refl) refl .before 1 refl in omega arith
 
@@ -147,15 +157,15 @@ strayed : (ts : List ℕ) (t : ℕ) → _≡_ {A = List ℕ} (t ∷ ts) [] → �
 strayed ts t q = let z : _≡_ {A = ℕ} 0 1 = cc in omega arith
 
 -- one that was withdrawn starts after all; one is withdrawn that has started; both at once
-pub withdrawn-starts : Guarantee Easy 10 (book (taken 1 4 0 [] none ∷ dropped 1 [] ∷ ticked (1 ∷ []) ∷ [])) → ⊥
+pub withdrawn-starts : Guarantee Easy ten (book (taken 1 4 0 [] none ∷ dropped 1 [] ∷ ticked (1 ∷ []) ∷ [])) → ⊥
 unfolding enter
 withdrawn-starts g = strayed [] 1 (g .starts)
 
-pub started-withdrawn : Guarantee Easy 10 (book (taken 1 4 0 (1 ∷ []) none ∷ dropped 1 [] ∷ [])) → ⊥
+pub started-withdrawn : Guarantee Easy ten (book (taken 1 4 0 (1 ∷ []) none ∷ dropped 1 [] ∷ [])) → ⊥
 unfolding enter
 started-withdrawn g = strayed [] 1 (g .starts)
 
-pub withdrawn-and-started : Guarantee Easy 10 (book (taken 1 4 0 [] none ∷ dropped 1 (1 ∷ []) ∷ [])) → ⊥
+pub withdrawn-and-started : Guarantee Easy ten (book (taken 1 4 0 [] none ∷ dropped 1 (1 ∷ []) ∷ [])) → ⊥
 unfolding enter
 withdrawn-and-started g = strayed [] 1 (g .starts)
 
@@ -165,7 +175,7 @@ withdrawn-and-started g = strayed [] 1 (g .starts)
 abbrev cleared : List Event → Book
 cleared es = enterAll 10080 5 (record { clock = 0; entries = []; strays = [] }) (taken 1 6 0 (1 ∷ []) none ∷ turned (1 ∷ []) [] ∷ idle ∷ idle ∷ idle ∷ es)
 
-pub nodes-still-taken : Guarantee Easy 10 (cleared (idle ∷ taken 2 5 0 (2 ∷ []) none ∷ [])) → ⊥
+pub nodes-still-taken : Guarantee Easy ten (cleared (idle ∷ taken 2 5 0 (2 ∷ []) none ∷ [])) → ⊥
 unfolding enter
 nodes-still-taken g = let w = g .within in absurd (omega arith)
 
@@ -173,3 +183,22 @@ nodes-still-taken g = let w = g .within in absurd (omega arith)
 pub nodes-free-again : sum held-nodes (cleared (idle ∷ idle ∷ taken 2 5 0 (2 ∷ []) none ∷ []) .entries) ≡ 5
 unfolding enter
 nodes-free-again = refl
+
+-- ## Places
+
+-- B has one place: a second job of its comes while the first waits, or while its nodes are not free yet
+pub places-exceeded : Guarantee Easy ten (book (takenFor B 1 1 0 [] none ∷ takenFor B 2 1 0 [] none ∷ [])) → ⊥
+unfolding enter
+places-exceeded g = let w = g .shares B in absurd (omega arith)
+
+abbrev cleared-B : List Event → Book
+cleared-B es = enterAll 10080 5 (record { clock = 0; entries = []; strays = [] }) (takenFor B 1 6 0 (1 ∷ []) none ∷ turned (1 ∷ []) [] ∷ idle ∷ idle ∷ idle ∷ es)
+
+pub place-still-taken : Guarantee Easy ten (cleared-B (idle ∷ takenFor B 2 1 0 [] none ∷ [])) → ⊥
+unfolding enter
+place-still-taken g = let w = g .shares B in absurd (omega arith)
+
+-- a minute later it is free, and a job of A's takes none of B's
+pub place-free-again : live-jobs B (cleared-B (idle ∷ idle ∷ takenFor B 2 1 0 [] none ∷ taken 3 1 0 [] none ∷ []) .entries) ≡ 1
+unfolding enter
+place-free-again = refl

@@ -7,6 +7,8 @@ use Prim.Native.Nat.{ℕ}
 use lib.ListN.{replicate}
 use Rattle.scheduler.specs.declared.Refusal.{Refusal}
 use Rattle.scheduler.specs.declared.Submission.{Submission}
+use Rattle.scheduler.specs.declared.Tenant.{Tenant}
+use Rattle.scheduler.specs.declared.Tenant.the-variants.{A}
 use Rattle.scheduler.specs.declared.Departure.{Departure}
 use Rattle.scheduler.specs.declared.Departure.the-variants.{Complete, Cancel}
 use Rattle.scheduler.specs.declared.Request.{Request}
@@ -24,8 +26,12 @@ pub data Call : Type 0 where
   unchanged : Refusal → Call
 
 -- what a line or an example asks: so many nodes, for an estimate
+abbrev pub orderOf : Tenant → (nodes estimate : ℕ) → Submission
+orderOf t n e = record { nodes = n; estimate = e; tenant = t }
+
+-- document 02, No. 4: "Document 01's examples are now read with .. all stacks A's"
 abbrev pub order : (nodes estimate : ℕ) → Submission
-order n e = record { nodes = n; estimate = e }
+order n e = orderOf A n e
 
 abbrev pub complete : ℕ → Call
 complete t = depart Complete t

@@ -9,6 +9,7 @@ use Rattle.lists.specs.Tests.{case, true-false}
 use Rattle.lists.specs.Lists.{elem, In, in-nil}
 use Rattle.scheduler.specs.declared.Departure.the-variants.{Complete, Cancel}
 use Rattle.scheduler.specs.declared.Refusal.{Refusal}
+use Rattle.scheduler.specs.declared.Tenant.{Tenant}
 use Rattle.scheduler.specs.Answers.{Reply, Forecast, accepts, refusing}
 use Rattle.history.specs.Calls.{Call, submit, depart, tick, unchanged, Event}
 
@@ -17,6 +18,7 @@ pub record Newcomer : Type 0 where
   pub ticket : ℕ
   pub nodes : ℕ
   pub promise : ℕ
+  pub tenant : Tenant
 
 pub record News : Type 0 where
   -- a minute has passed
@@ -36,7 +38,7 @@ passes tick = true
 passes (unchanged w) = false
 
 abbrev comes : Call → Reply → List Newcomer
-comes (submit o) r = record { ticket = r .ticket; nodes = o .nodes; promise = r .promise } ∷ []
+comes (submit o) r = record { ticket = r .ticket; nodes = o .nodes; promise = r .promise; tenant = o .tenant } ∷ []
 comes (depart h t) r = []
 comes tick r = []
 comes (unchanged w) r = []

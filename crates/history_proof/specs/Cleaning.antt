@@ -38,7 +38,8 @@ cleans-job Cleanup b n = refl
 clock-up : (e : News) (c : ℕ) → c ≤ clockAfter e c
 clock-up e c = case (e .passed) (λ q. rw q (omega arith)) (λ q. rw q (omega arith))
 
-module _ {k : Kind} {R : Rules} {Valid : Model → Type 0} {OnCourse : Model → ℕ → ℕ → Type 0} (L : Lawful k R Valid OnCourse) (m : Model) (c : Call) (v : Valid m) where
+module _ {k : Kind} {R : Rules} {Valid : Model → Type 0} {OnCourse : Model → ℕ → ℕ → Type 0} (L : Lawful k R Valid OnCourse)
+    (m : Model) (c : Call) (v : Valid m) where
   pub clock-rises : m .clock ≤ R m c .model .clock
   clock-rises = omega (arith, L .clock m c v, clock-up (said R m c) (m .clock))
 

@@ -33,8 +33,8 @@ use Rattle.history_proof.specs.Obligations.{JobShown, shown, fateBy, liv
 use Rattle.history_proof.specs.Obligations.{Queued}
 
 pub shown-with : (x : JobShown) (f : Fate) → f ≡ x .fate
-    → _≡_ {A = JobShown} (record { ticket = x .ticket; nodes = x .nodes; promise = x .promise; fate = f }) x
-shown-with x f e = λ i. record { ticket = x .ticket; nodes = x .nodes; promise = x .promise; fate = e i }
+    → _≡_ {A = JobShown} (record { ticket = x .ticket; nodes = x .nodes; promise = x .promise; tenant = x .tenant; fate = f }) x
+shown-with x f e = λ i. record { ticket = x .ticket; nodes = x .nodes; promise = x .promise; tenant = x .tenant; fate = e i }
 
 -- a job that waits does not run
 pub waits-runs : (s : State) → waiting? s ≡ true → running? s ≡ false

@@ -115,7 +115,8 @@ module _ {k : Kind} {R : Rules} {Valid : Model → Type 0} {OnCourse : Model →
 
     -- who is gone after the call: a ticket given before it that no job has that lives on, but in cleanup
     gone-after : (t : ℕ) → t < m .next
-        → ((i : Job) → In i (m .jobs) → i .ticket ≡ t → lives lasts (m′ .clock) r i ≡ true → (isCleaning i ≡ true) ⊎ ((isRunning i ≡ true) × (elem t (r .ended) ≡ true)))
+        → ((i : Job) → In i (m .jobs) → i .ticket ≡ t → lives lasts (m′ .clock) r i ≡ true
+        → (isCleaning i ≡ true) ⊎ ((isRunning i ≡ true) × (elem t (r .ended) ≡ true)))
         → Gone m′ t
     gone-after t l f = record { given = omega (arith, T .next m c v, next-up (r .came) (m .next)); absent = λ j i e. by j e (from j i) }
       where
@@ -126,7 +127,8 @@ module _ {k : Kind} {R : Rules} {Valid : Model → Type 0} {OnCourse : Model →
             ∙ ap (λ (x : JobShown). cleans (x .fate)) q
             ∙ cleans-on lasts (m′ .clock) r (i .ticket) (i .state) (i .start) (i .end) (named (sym u) (f i k u y)) y
           where
-            named : {x y : ℕ} {A : Type 0} → x ≡ y → A ⊎ ((isRunning i ≡ true) × (elem x (r .ended) ≡ true)) → A ⊎ ((isRunning i ≡ true) × (elem y (r .ended) ≡ true))
+            named : {x y : ℕ} {A : Type 0} → x ≡ y → A ⊎ ((isRunning i ≡ true) × (elem x (r .ended) ≡ true))
+                → A ⊎ ((isRunning i ≡ true) × (elem y (r .ended) ≡ true))
             named e (inl a) = inl a
             named e (inr (b, z)) = inr (b, subst (λ (t : ℕ). elem t (r .ended) ≡ true) e z)
         by j e (now q) = absurd (omega arith)

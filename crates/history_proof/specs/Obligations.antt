@@ -14,9 +14,10 @@ use Rattle.scheduler.specs.declared.Kind.the-variants.{Conservative, Easy}
 use Rattle.scheduler.specs.declared.State.{State}
 use Rattle.scheduler.specs.declared.State.the-variants.{Unused, Waiting, Running, Cleanup}
 use Rattle.scheduler.specs.declared.Job.{Job}
+use Rattle.scheduler.specs.declared.Tenant.{Tenant}
 use Rattle.scheduler.specs.Jobs.{isWaiting, isRunning}
-use Rattle.scheduler.specs.Settings.{cleanup, unit}
-use Rattle.scheduler.specs.Table.{nodesHeld, ticketsOf}
+use Rattle.scheduler.specs.Settings.{cleanup, unit, quota}
+use Rattle.scheduler.specs.Table.{nodesHeld, liveOf, ticketsOf}
 use Rattle.scheduler.specs.Model.{Model, Live}
 use Rattle.scheduler.specs.Answers.{Forecast}
 use Rattle.jobs.specs.Soundness.{Sound}
@@ -31,6 +32,7 @@ pub record JobShown : Type 0 where
   pub ticket : ℕ
   pub nodes : ℕ
   pub promise : ℕ
+  pub tenant : Tenant
   pub fate : Fate
 
 abbrev pub fateBy : State → (start end : ℕ) → Fate
@@ -40,7 +42,7 @@ fateBy Running s e = running s
 fateBy Cleanup s e = cleaning s e
 
 abbrev pub shown : Job → JobShown
-shown j = record { ticket = j .ticket; nodes = j .nodes; promise = j .promise; fate = fateBy (j .state) (j .start) (j .end) }
+shown j = record { ticket = j .ticket; nodes = j .nodes; promise = j .promise; tenant = j .tenant; fate = fateBy (j .state) (j .start) (j .end) }
 
 abbrev pub live : Fate → Bool
 live waiting = true
@@ -54,7 +56,7 @@ isLive x = live (x .fate)
 
 -- after an event that left the clock at c, where nodes stay taken for k minutes
 abbrev pub remark : (k c : ℕ) → News → JobShown → JobShown
-remark k c e x = record { ticket = x .ticket; nodes = x .nodes; promise = x .promise; fate = fateAfter k c e (x .ticket) (x .fate) }
+remark k c e x = record { ticket = x .ticket; nodes = x .nodes; promise = x .promise; tenant = x .tenant; fate = fateAfter k c e (x .ticket) (x .fate) }
 
 -- the jobs that are live after it
 abbrev pub shownAfter : (k c : ℕ) → News → List JobShown → List JobShown
@@ -62,7 +64,7 @@ shownAfter k c e xs = keep isLive (map (remark k c e) xs)
 
 -- the jobs that come
 abbrev pub newly : Newcomer → JobShown
-newly o = record { ticket = o .ticket; nodes = o .nodes; promise = o .promise; fate = waiting }
+newly o = record { ticket = o .ticket; nodes = o .nodes; promise = o .promise; tenant = o .tenant; fate = waiting }
 
 abbrev pub comers : News → List JobShown
 comers e = map newly (e .came)
@@ -138,6 +140,7 @@ pub record Lawful (k : Kind) (R : Rules) (Valid : Model → Type 0) (OnCourse : 
   pub kind-is : (m : Model) → Valid m → m .settings .kind ≡ k
   pub all-live : (m : Model) → Valid m → All Live (m .jobs)
   pub capacity : (m : Model) → Valid m → nodesHeld (m .jobs) ≤ m .settings .nodes
+  pub shares : (m : Model) → Valid m → (t : Tenant) → liveOf t (m .jobs) ≤ quota (m .settings) t
   -- each call hands back a valid model with the same settings
   pub valid : (m : Model) (c : Call) → Valid m → Valid (R m c .model)
   pub settings : (m : Model) (c : Call) → Valid m → R m c .model .settings ≡ m .settings

@@ -30,7 +30,7 @@ use Rattle.history.specs.Book.{over, entryTicket, queued, headOf, is, given, he
 use Rattle.history.specs.Guarantee as guarantee
 use Rattle.history.specs.Guarantee.{StartedBy, Guarantee}
 use Rattle.history_proof.specs.Seen.{seen, isLiveEntry, keep-seen, marked-seen, Heard, same, first-time, heard-by, heard-seen}
-use Rattle.history_proof.specs.Seen.{drop-ended, in-elem, queue, queue-seen, came-seen, same-queue, same-nodes}
+use Rattle.history_proof.specs.Seen.{drop-ended, in-elem, queue, queue-seen, came-seen, same-queue, same-nodes, same-shares}
 use Rattle.history_proof.specs.Obligations.{JobShown, shown, isLive, remark, comers, deadline, boundAt, waitingTickets, lowestWaiting, said, Aim, by}
 use Rattle.history_proof.specs.Obligations.{For, Meets, Kept, Keeps, Queued, Comes, Lawful}
 
@@ -346,7 +346,7 @@ module _ {k : Kind} {R : Rules} {Valid : Model → Type 0} {OnCourse : Model →
           before = λ w q. let p : some y ≡ some w = sym (ap withdrawal e) ∙ q in let z : y ≡ w = cc in omega (arith, o);
         }
 
-    pub agrees-guarantee : Guarantee k (m .settings .nodes) b
+    pub agrees-guarantee : Guarantee k (m .settings) b
     agrees-guarantee = record {
       promises = λ q x i. keeps-to x (x .promise) (by-kind Conservative q x (a .deadlines x i));
       bounds = λ q x i. keeps-to x (x .bound) (by-kind Easy q x (a .deadlines x i));
@@ -354,6 +354,7 @@ module _ {k : Kind} {R : Rules} {Valid : Model → Type 0} {OnCourse : Model →
       heads = λ q x i w h. a .heard-one q x i (a .heads x i w h);
       starts = a .none-stray;
       within = omega (arith, same-nodes (m .jobs) (b .entries) (a .jobs-are), L .capacity m v);
+      shares = λ t. omega (arith, same-shares t (m .jobs) (b .entries) (a .jobs-are), L .shares m v t);
     }
       where
         by-kind : (κ : Kind) → k ≡ κ → (x : Entry) → OnTime OnCourse m (x .ticket) (x .fate) (deadlineOf k x)
@@ -361,7 +362,7 @@ module _ {k : Kind} {R : Rules} {Valid : Model → Type 0} {OnCourse : Model →
         by-kind κ q x o = subst (λ (j : Kind). OnTime OnCourse m (x .ticket) (x .fate) (deadlineOf j x)) q o
 
   -- from any book that agrees with a valid model, after every list of calls
-  pub guaranteed : (u p : ℕ) (m : Model) (b : Book) (cs : List Call) → InStep u p m b → Guarantee k (after R m cs .settings .nodes) (enterAll u p b (events R m cs))
+  pub guaranteed : (u p : ℕ) (m : Model) (b : Book) (cs : List Call) → InStep u p m b → Guarantee k (after R m cs .settings) (enterAll u p b (events R m cs))
   guaranteed u p m b cs f =
       let g = follows u p m b cs f in
       agrees-guarantee (after R m cs) (enterAll u p b (events R m cs)) (g .valid) (g .agrees)

@@ -1,7 +1,7 @@
 -- What the entries of a book show is what jobs of a model show: the live ones after a call, who waits, and the nodes held.
 -- Assumes nothing.
 use mathlib.Core.Path.{_≡_, refl, sym, ap, _∙_}
-use mathlib.Core.Bool.{Bool, true, false, not, _&&_}
+use mathlib.Core.Bool.{Bool, true, false, not, _&&_, _||_}
 use mathlib.Core.List.{List, [], _∷_, _++_, map, map-map, map-append}
 use mathlib.Core.Logic.{_⊎_, inl, inr}
 use mathlib.Core.Option.{Option}
@@ -14,18 +14,20 @@ use Rattle.lists.specs.Lists.{keep-map, map-cong}
 use Rattle.scheduler.specs.declared.State.{State}
 use Rattle.scheduler.specs.declared.State.the-variants.{Unused, Waiting, Running, Cleanup}
 use Rattle.scheduler.specs.declared.Job.{Job}
+use Rattle.scheduler.specs.declared.Tenant.{Tenant}
+use Rattle.scheduler.specs.Tenants.{sameTenant}
 use Rattle.scheduler.specs.Jobs as jobs
 use Rattle.scheduler.specs.States.{live?, waiting?, holding?}
-use Rattle.scheduler.specs.Table.{nodesHeld, ticketsOf}
+use Rattle.scheduler.specs.Table.{nodesHeld, ofTenant, liveOf, ticketsOf}
 use Rattle.scheduler.specs.Model.{Live}
 use Rattle.scheduler.specs.Answers.{Forecast}
 use Rattle.history.specs.News.{Newcomer, News}
 use Rattle.history.specs.Book.{Fate, waiting, running, cleaning, ended, withdrawn, Entry, Book, entry, waits, holds, isWaiting, fateAfter, marked, entryTicket, is, hearing, heard}
-use Rattle.history.specs.Guarantee.{held-nodes}
+use Rattle.history.specs.Guarantee.{held-nodes, counts, live-jobs}
 use Rattle.history_proof.specs.Obligations.{JobShown, fateBy, shown, live, isLive, remark, newly}
 
 abbrev pub seen : Entry → JobShown
-seen x = record { ticket = x .ticket; nodes = x .nodes; promise = x .promise; fate = x .fate }
+seen x = record { ticket = x .ticket; nodes = x .nodes; promise = x .promise; tenant = x .tenant; fate = x .fate }
 
 abbrev pub isLiveEntry : Entry → Bool
 isLiveEntry x = live (x .fate)
@@ -153,6 +155,34 @@ holds-job Unused b n = refl
 holds-job Waiting b n = refl
 holds-job Running b n = refl
 holds-job Cleanup b n = refl
+
+-- the live jobs of a tenant, by the book and by the model
+abbrev shown-live : Tenant → JobShown → ℕ
+shown-live t x = on ((waits (x .fate) || holds (x .fate)) && sameTenant (x .tenant) t) 1
+
+counts-live : (f : Fate) → (waits f || holds f) ≡ live f
+counts-live waiting = refl
+counts-live (running s) = refl
+counts-live (cleaning s m) = refl
+counts-live (ended s) = refl
+counts-live (withdrawn w) = refl
+
+live-job : (s : State) (b n : ℕ) → live (fateBy s b n) ≡ true
+live-job Unused b n = refl
+live-job Waiting b n = refl
+live-job Running b n = refl
+live-job Cleanup b n = refl
+
+pub same-shares : (t : Tenant) (js : List Job) (xs : List Entry) → map seen (keep isLiveEntry xs) ≡ map shown js → live-jobs t xs ≡ liveOf t js
+same-shares t js xs e =
+    sym (sum-kept (λ (x : Entry). on (counts t x) 1) isLiveEntry xs
+    (λ x q. ap (λ (b : Bool). on (b && sameTenant (x .tenant) t) 1) (counts-live (x .fate) ∙ q)))
+    ∙ sym (sum-map (shown-live t) seen (keep isLiveEntry xs))
+    ∙ ap (sum (shown-live t)) e
+    ∙ sum-map (shown-live t) shown js
+    ∙ sum-cong (λ (j : Job). shown-live t (shown j)) (λ (j : Job). on (ofTenant t j) 1) js
+    (λ j i. ap (λ (b : Bool). on (b && sameTenant (j .tenant) t) 1)
+    (counts-live (fateBy (j .state) (j .start) (j .end)) ∙ live-job (j .state) (j .start) (j .end)))
 
 -- the nodes held, by the book and by the model
 pub same-nodes : (js : List Job) (xs : List Entry) → map seen (keep isLiveEntry xs) ≡ map shown js → sum held-nodes xs ≡ nodesHeld js

@@ -5,7 +5,6 @@ use mathlib.Core.Path.{_≡_, refl}
 use mathlib.Core.Bool.{Bool, true, false, cond}
 use mathlib.Core.List.{List, []}
 use lib.Dec.{ltb}
-use lib.ListN.{length}
 use Rattle.lists.specs.Tests.{case, true-false}
 use Rattle.scheduler.specs.declared.Settings.{Settings}
 use Rattle.scheduler.specs.declared.Submission.{Submission}
@@ -17,7 +16,7 @@ use Rattle.scheduler.specs.declared.Select.{Select}
 use Rattle.scheduler.specs.declared.Select.the-variants as select
 use Rattle.scheduler.specs.Limits.{horizon}
 use Rattle.scheduler.specs.Settings.{cleanup}
-use Rattle.scheduler.specs.Table.{tickets, endedOf}
+use Rattle.scheduler.specs.Table.{liveOf, tickets, endedOf}
 use Rattle.scheduler.specs.Model.{Model, ending, store, view, without}
 use Rattle.scheduler.specs.Answers.{verdict, accepts}
 use Rattle.scheduler.specs.Refusals.{testsBy, notThere, departRefusal, tickRefusal}
@@ -81,7 +80,7 @@ unfoldable pub refusalBy : Settings → (live next : ℕ) → Submission → Ref
 refusalBy S live next o = verdict (testsBy S live next o [])
 
 abbrev pub sharedRefusal : Model → Submission → Refusal
-sharedRefusal m o = refusalBy (m .settings) (length (m .jobs)) (m .next) o
+sharedRefusal m o = refusalBy (m .settings) (liveOf (o .tenant) (m .jobs)) (m .next) o
 
 -- of an early completion or a withdrawal, by whether the job was found
 abbrev pub refusedUnless : Departure → Bool → Refusal

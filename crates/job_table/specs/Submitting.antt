@@ -4,7 +4,7 @@ use Prim.Native.Nat.{ℕ, _+_, _<_}
 use native.Mathlib.Numerals.{add-one}
 use mathlib.Core.Path.{_≡_, refl, ap, _∙_}
 use mathlib.Core.Bool.{Bool, cond}
-use mathlib.Core.List.{List, [], _∷_}
+use mathlib.Core.List.{List}
 use lib.Dec.{leb, ltb}
 use lib.ListN.{length, set}
 use Rattle.lists.specs.Tests.{case}
@@ -15,22 +15,25 @@ use Rattle.scheduler.specs.declared.Submission.{Submission}
 use Rattle.scheduler.specs.declared.Refusal.{Refusal}
 use Rattle.scheduler.specs.declared.Scheduler.{Scheduler}
 use Rattle.scheduler.specs.Limits.{slots, longestEstimate, lastTicket, outside}
+use Rattle.scheduler.specs.Tenants.{known}
+use Rattle.scheduler.specs.Settings.{quota}
 use Rattle.scheduler.specs.Jobs.{unused}
 use Rattle.scheduler.specs.Table.{withJobs}
-use Rattle.scheduler.specs.Model.{Model, store, view, joined}
+use Rattle.scheduler.specs.Model.{store, view, joined}
 use Rattle.scheduler.specs.Answers.{verdict, accepts}
 use Rattle.scheduler.specs.Refusals.{testsBy}
 use Rattle.job_table.specs.Parts.{refusalBy}
 
--- the kind's own tests decide where the four that both share refuse nothing
+-- the kind's own tests decide where the five that both share refuse nothing
 pub tests-more : (S : Settings) (live next : ℕ) (o : Submission) (more : List (Bool × Refusal))
     → verdict (testsBy S live next o more) ≡ cond (accepts (refusalBy S live next o)) (verdict more) (refusalBy S live next o)
 unfolding verdict refusalBy
 tests-more S live next o more =
-    case (outside 1 (S .nodes) (o .nodes)) (λ a. rw a)
+    case (known (o .tenant)) (λ k. rw k (case (outside 1 (S .nodes) (o .nodes)) (λ a. rw a)
     (λ a. rw a (case (outside 1 longestEstimate (o .estimate)) (λ b. rw b)
-    (λ b. rw b (case (leb slots live) (λ c. rw c)
-    (λ c. rw c (case (ltb lastTicket next) (λ d. rw d) (λ d. rw d)))))))
+    (λ b. rw b (case (leb (quota S (o .tenant)) live) (λ c. rw c)
+    (λ c. rw c (case (ltb lastTicket next) (λ d. rw d) (λ d. rw d)))))))))
+    (λ k. rw k)
 
 abbrev pub withNext : Scheduler → ℕ → Scheduler
 withNext d t = record { settings = d .settings; clock = d .clock; next = t; jobs = d .jobs }

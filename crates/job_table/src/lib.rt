@@ -7,11 +7,13 @@ use scheduler::Refusal;
 use scheduler::Scheduler;
 use scheduler::Settings;
 use scheduler::Submission;
+use scheduler::Tenant;
 use scheduler::Tickets;
 ghost use mathlib.Core.Path.{_≡_};
 ghost use lib.ListN.{length};
 ghost use Rattle.lists.specs.Lists.{keep};
 ghost use Rattle.scheduler.specs.Jobs.{isWaiting};
+ghost use Rattle.scheduler.specs.Table.{liveOf};
 ghost use Rattle.scheduler.specs.Model.{view};
 ghost use Rattle.jobs.specs.Soundness.{Sound};
 ghost use Rattle.jobs.specs.Premise.{Holds};
@@ -67,18 +69,41 @@ pub fn waiting(d: Scheduler) -> usize
     n
 }
 
-// What a submission is refused for, whatever the kind, in document 01's order: 1, 2, 4, 5.
+// How many live jobs this tenant has.
+pub fn live_of(d: Scheduler, tenant: Tenant) -> usize
+    requires { ⌜ Holds Sound d ⌝ }
+    ensures { λ r. ⌜ r ≡ liveOf tenant (view d .jobs) ⌝ }
+{
+    let end = first_unused(d);
+    let mut n: usize = 0;
+    let mut i: usize = 0;
+    while i < end {
+        let j = d.jobs[i];
+        let whose = j.tenant;
+        if whose.is(tenant) {
+            n += 1;
+        }
+        i += 1;
+    }
+    n
+}
+
+// What a submission is refused for, whatever the kind, in this order: 14, 1, 2, 15, 5. Its tenant has so many live jobs.
 pub fn submit_refusal(s: Submission, settings: Settings, live: usize, next: u32) -> Refusal
     ensures { λ r. ⌜ r ≡ refusalBy settings live next s ⌝ }
 {
+    let tenant = s.tenant;
+    if !tenant.is_known() {
+        return Refusal::UnknownTenant;
+    }
     if scheduler::outside_range(s.nodes, 1, settings.nodes) {
         return Refusal::NodesOutOfRange;
     }
     if scheduler::outside_range(s.estimate, 1, Scheduler::LONGEST_ESTIMATE) {
         return Refusal::MinutesOutOfRange;
     }
-    if Scheduler::LIVE <= live {
-        return Refusal::Full;
+    if settings.quota(tenant) as usize <= live {
+        return Refusal::QuotaFull;
     }
     if Scheduler::LAST_TICKET < next {
         return Refusal::NoTicketLeft;

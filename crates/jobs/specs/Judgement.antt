@@ -14,7 +14,6 @@ accepts-none refusal.None e = refl
 accepts-none refusal.NodesOutOfRange e = true-false false e refl
 accepts-none refusal.MinutesOutOfRange e = true-false false e refl
 accepts-none refusal.OpeningOutOfRange e = true-false false e refl
-accepts-none refusal.Full e = true-false false e refl
 accepts-none refusal.NoTicketLeft e = true-false false e refl
 accepts-none refusal.PastHorizon e = true-false false e refl
 accepts-none refusal.NotRunning e = true-false false e refl
@@ -23,6 +22,9 @@ accepts-none refusal.Malformed e = true-false false e refl
 accepts-none refusal.TooShort e = true-false false e refl
 accepts-none refusal.NotWaiting e = true-false false e refl
 accepts-none refusal.CleanupOutOfRange e = true-false false e refl
+accepts-none refusal.QuotasOutOfRange e = true-false false e refl
+accepts-none refusal.UnknownTenant e = true-false false e refl
+accepts-none refusal.QuotaFull e = true-false false e refl
 
 -- what holds of an outcome where no test refuses it, and of the refusal where one does, holds of the call
 pub judged-by : (P : Result → Type 0) (m : Model) (r : Refusal) (o : Result) → (accepts r ≡ true → P o) → (accepts r ≡ false → P (refuse m r))

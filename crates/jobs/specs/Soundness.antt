@@ -4,17 +4,19 @@ use Prim.Native.Nat.{ℕ, suc, _+_, _≤_, _<_}
 use native.Mathlib.Omega.{arith}
 use mathlib.Core.Path.{_≡_, refl, sym, ap, subst, _∙_}
 use mathlib.Core.Bool.{Bool, true, false, not, cond, _&&_, _||_}
-use mathlib.Core.List.{List, [], _∷_, map, map-map}
+use mathlib.Core.List.{List, [], _∷_, _++_, map, map-map}
 use mathlib.Core.Logic.{_⊎_, inl, inr}
 use lib.Dec.{eqb, leb, ltb}
 use lib.ListN.{length, length-append, length-map}
-use borrow.Author.Tests.{leb-false, ltb-false, eqb-false, not-true}
-use Rattle.lists.specs.Tests.{case, true-false, both, neither}
-use Rattle.lists.specs.Lists.{All, In, all-of, in-append, in-cons, in-nil, keep-in, length-keep-le, sum-append, sum-keep, sum-map, sum-cong}
+use borrow.Author.Tests.{leb-false, ltb-false, eqb-true, eqb-false, not-true, not-false}
+use Rattle.lists.specs.Tests.{case, true-false, both, neither, on}
+use Rattle.lists.specs.Lists.{All, In, here, there, all-of, in-append, in-cons, in-nil, keep-in, length-keep-le, sum-append, sum-keep, sum-map, sum-cong}
 use Rattle.lists.specs.Lists.{in-map, map-in, in-keep, keep-all, map-same, map-cong}
 use Rattle.scheduler.specs.declared.State.{State}
 use Rattle.scheduler.specs.declared.State.the-variants.{Unused, Waiting, Running, Cleanup}
 use Rattle.scheduler.specs.declared.Job.{Job}
+use Rattle.scheduler.specs.declared.Tenant.{Tenant}
+use Rattle.scheduler.specs.declared.Tenant.the-variants.{Nobody, A, B}
 use Rattle.scheduler.specs.declared.Submission.{Submission}
 use Rattle.scheduler.specs.declared.Refusal.{Refusal}
 use Rattle.scheduler.specs.declared.Refusal.the-variants as refusal
@@ -24,13 +26,14 @@ use Rattle.scheduler.specs.declared.Departure.the-variants.{Complete, Cancel}
 use Rattle.scheduler.specs.declared.Select.{Select}
 use Rattle.scheduler.specs.declared.Select.the-variants as select
 use Rattle.scheduler.specs.Limits as limit
-use Rattle.scheduler.specs.Limits.{maxNodes, lastTicket, longestCleanup, outside}
+use Rattle.scheduler.specs.Limits.{maxNodes, lastTicket, longestCleanup, outside, misdivided}
 use Rattle.scheduler.specs.States.{waiting?, running?, cleaning?, holding?}
+use Rattle.scheduler.specs.Tenants.{known, sameTenant}
 use Rattle.scheduler.specs.Jobs.{isLive, isRunning, isWaiting, isCleaning, isHolding, held, cleaning}
 use Rattle.scheduler.specs.declared.Settings.{Settings}
-use Rattle.scheduler.specs.Settings.{refusedSettings, horizon, slots, longest, cleanup, unit, endOf, until}
+use Rattle.scheduler.specs.Settings.{refusedSettings, horizon, slots, quota, longest, cleanup, unit, endOf, until}
 use Rattle.scheduler.specs.Times.{until-is, until-end, until-cleaning, until-cleaned, hold-unit, cleanup-unit}
-use Rattle.scheduler.specs.Table.{nodesHeld, ticketOf, ticketsOf, ends, withdraws, releases, leaves, staying, ceased, remaining}
+use Rattle.scheduler.specs.Table.{nodesHeld, ofTenant, liveOf, ticketOf, ticketsOf, ends, withdraws, releases, leaves, staying, ceased, remaining}
 use Rattle.scheduler.specs.Model.{Model, ending, Live, empty, joined, without}
 use Rattle.scheduler.specs.Answers.{verdict, accepts}
 use Rattle.scheduler.specs.Refusals.{submitTests}
@@ -51,6 +54,8 @@ pub record SoundJob (S : Settings) (clock : ℕ) (j : Job) : Type 0 where
   -- "its record, and no other, keeps its end"
   pub cleaned : isCleaning j ≡ true → (j .start ≤ j .end) × (j .end ≤ clock)
   pub no-end : isCleaning j ≡ false → j .end ≡ 0
+  -- "Each record carries its house"
+  pub tenant-is : known (j .tenant) ≡ true
 
 -- who holds nodes runs or is in cleanup, and nobody does two of these
 pub running-holds : (s : State) → running? s ≡ true → holding? s ≡ true
@@ -111,6 +116,8 @@ pub record Sound (m : Model) : Type 0 where
   pub nodes-from : 1 ≤ m .settings .nodes
   pub nodes-to : m .settings .nodes ≤ maxNodes
   pub cleanup-to : m .settings .cleanup ≤ longestCleanup
+  -- "the 64 places are divided between them"
+  pub quotas : m .settings .«quota_a» + m .settings .«quota_b» ≡ slots (m .settings)
   pub clock-to : m .clock ≤ horizon (m .settings)
   pub next-from : 1 ≤ m .next
   pub next-to : m .next ≤ suc lastTicket
@@ -119,18 +126,42 @@ pub record Sound (m : Model) : Type 0 where
   pub below : (j : Job) → In j (m .jobs) → j .ticket < m .next
   pub each : (j : Job) → In j (m .jobs) → SoundJob (m .settings) (m .clock) j
   pub capacity : nodesHeld (m .jobs) ≤ m .settings .nodes
+  -- "No house ever has more live than its places"
+  pub shares : (t : Tenant) → liveOf t (m .jobs) ≤ quota (m .settings) t
 
 pub all-live : (m : Model) → Sound m → All Live (m .jobs)
 all-live m s = all-of Live (m .jobs) (λ j i. s .each j i .is-live)
 
+tenant-same : (s t : Tenant) → sameTenant s t ≡ true → s ≡ t
+tenant-same Nobody Nobody e = refl
+tenant-same Nobody A e = true-false false e refl
+tenant-same Nobody B e = true-false false e refl
+tenant-same A Nobody e = true-false false e refl
+tenant-same A A e = refl
+tenant-same A B e = true-false false e refl
+tenant-same B Nobody e = true-false false e refl
+tenant-same B A e = true-false false e refl
+tenant-same B B e = refl
+
+-- every job is one of the two tenants'
+pub both-tenants : (js : List Job) → ((j : Job) → In j js → known (j .tenant) ≡ true) → length js ≡ liveOf A js + liveOf B js
+both-tenants [] f = refl
+both-tenants (j ∷ js) f = omega (arith, one (j .tenant) (f j (here refl)), both-tenants js (λ x i. f x (there i)))
+  where
+    one : (t : Tenant) → known t ≡ true → 1 ≡ on (sameTenant t A) 1 + on (sameTenant t B) 1
+    one Nobody k = true-false false k refl
+    one A k = refl
+    one B k = refl
+
 -- ## Opening
 
-sound-empty : (S : Settings) (c t : ℕ) → 1 ≤ S .nodes → S .nodes ≤ maxNodes → S .cleanup ≤ longestCleanup → c ≤ limit.horizon → 1 ≤ t → t ≤ lastTicket
-    → Sound (empty S c t)
-sound-empty S c t a b k d e f = record {
+sound-empty : (S : Settings) (c t : ℕ) → 1 ≤ S .nodes → S .nodes ≤ maxNodes → S .cleanup ≤ longestCleanup → S .«quota_a» + S .«quota_b» ≡ limit.slots
+    → c ≤ limit.horizon → 1 ≤ t → t ≤ lastTicket → Sound (empty S c t)
+sound-empty S c t a b k g d e f = record {
   nodes-from = a;
   nodes-to = b;
   cleanup-to = k;
+  quotas = g;
   clock-to = d;
   next-from = e;
   next-to = omega arith;
@@ -139,6 +170,7 @@ sound-empty S c t a b k d e f = record {
   below = λ j i. in-nil i;
   each = λ j i. in-nil i;
   capacity = omega arith;
+  shares = λ t. omega arith;
 }
 
 pub opening-sound : (o : Opening) → Sound (opening o)
@@ -148,19 +180,27 @@ opening-sound o =
     (λ p. rw p refused)
     (λ p. rw p (case (ltb limit.horizon (o .minute) || outside 1 lastTicket (o .ticket))
     (λ q. rw q refused)
-    (λ q. rw q (case (ltb longestCleanup (o .settings .cleanup)) (λ k. rw k refused) (λ k. rw k (taken p q k))))))
+    (λ q. rw q (case (ltb longestCleanup (o .settings .cleanup))
+    (λ k. rw k refused)
+    (λ k. rw k (case (misdivided (o .settings .«quota_a») (o .settings .«quota_b»)) (λ g. rw g refused) (λ g. rw g (taken p q k g))))))))
   where
     refused : Sound (empty (refusedSettings (o .settings .kind)) 0 1)
-    refused = sound-empty (refusedSettings (o .settings .kind)) 0 1 (omega arith) (omega arith) (omega arith) (omega arith) (omega arith) (omega arith)
+    refused =
+        sound-empty (refusedSettings (o .settings .kind)) 0 1 (omega arith) (omega arith) (omega arith) refl (omega arith) (omega arith) (omega arith)
 
     taken : outside 1 maxNodes (o .settings .nodes) ≡ false → (ltb limit.horizon (o .minute) || outside 1 lastTicket (o .ticket)) ≡ false
-        → ltb longestCleanup (o .settings .cleanup) ≡ false → Sound (empty (o .settings) (o .minute) (o .ticket))
-    taken p q k =
+        → ltb longestCleanup (o .settings .cleanup) ≡ false → misdivided (o .settings .«quota_a») (o .settings .«quota_b») ≡ false
+        → Sound (empty (o .settings) (o .minute) (o .ticket))
+    taken p q k g =
+        let S = o .settings in
+        let w = neither (not (eqb (S .«quota_a» + S .«quota_b») limit.slots) || eqb (S .«quota_a») 0) (eqb (S .«quota_b») 0) g in
+        let x = neither (not (eqb (S .«quota_a» + S .«quota_b») limit.slots)) (eqb (S .«quota_a») 0) (w .0) in
+        let y : S .«quota_a» + S .«quota_b» ≡ limit.slots = eqb-true (S .«quota_a» + S .«quota_b») limit.slots (not-false _ (x .0)) in
         let a = neither (ltb (o .settings .nodes) 1) (ltb maxNodes (o .settings .nodes)) p in
         let b = neither (ltb limit.horizon (o .minute)) (outside 1 lastTicket (o .ticket)) q in
         let c = neither (ltb (o .ticket) 1) (ltb lastTicket (o .ticket)) (b .1) in
         sound-empty (o .settings) (o .minute) (o .ticket) (ltb-false (o .settings .nodes) 1 (a .0)) (ltb-false maxNodes (o .settings .nodes) (a .1))
-        (ltb-false longestCleanup (o .settings .cleanup) k) (ltb-false limit.horizon (o .minute) (b .0)) (ltb-false (o .ticket) 1 (c .0))
+        (ltb-false longestCleanup (o .settings .cleanup) k) y (ltb-false limit.horizon (o .minute) (b .0)) (ltb-false (o .ticket) 1 (c .0))
         (ltb-false lastTicket (o .ticket) (c .1))
 
 -- ## Submission
@@ -171,8 +211,22 @@ pub record Fit (m : Model) (o : Submission) : Type 0 where
   pub nodes-to : o .nodes ≤ m .settings .nodes
   pub estimate-from : 1 ≤ o .estimate
   pub estimate-to : o .estimate ≤ longest (m .settings)
-  pub room : length (m .jobs) < slots (m .settings)
+  pub tenant-is : known (o .tenant) ≡ true
+  pub share : liveOf (o .tenant) (m .jobs) < quota (m .settings) (o .tenant)
   pub ticket-left : m .next ≤ lastTicket
+
+-- so there is a slot: a tenant that has places left, and the other within its own, leave one of the 64
+pub fit-room : (m : Model) (o : Submission) → Sound m → Fit m o → length (m .jobs) < slots (m .settings)
+fit-room m o s f =
+    by (o .tenant) (f .tenant-is) (f .share)
+  where
+    both : length (m .jobs) ≡ liveOf A (m .jobs) + liveOf B (m .jobs)
+    both = both-tenants (m .jobs) (λ j i. s .each j i .tenant-is)
+
+    by : (t : Tenant) → known t ≡ true → liveOf t (m .jobs) < quota (m .settings) t → length (m .jobs) < slots (m .settings)
+    by Nobody k l = true-false false k refl
+    by A k l = omega (arith, both, l, s .shares B, s .quotas)
+    by B k l = omega (arith, both, l, s .shares A, s .quotas)
 
 -- a test that is passed leaves the tests after it
 pub passed : (b : Bool) (r : Refusal) (ts : List (Bool × Refusal)) → accepts r ≡ false → accepts (verdict ((b, r) ∷ ts)) ≡ true
@@ -184,9 +238,10 @@ passed false r ts n e = (refl, e)
 pub submit-fit : (m : Model) (o : Submission) (more : List (Bool × Refusal)) → accepts (verdict (submitTests m o more)) ≡ true
     → Fit m o × (accepts (verdict more) ≡ true)
 submit-fit m o more h =
-    let a = passed (outside 1 (m .settings .nodes) (o .nodes)) refusal.NodesOutOfRange _ refl h in
+    let z = passed (not (known (o .tenant))) refusal.UnknownTenant _ refl h in
+    let a = passed (outside 1 (m .settings .nodes) (o .nodes)) refusal.NodesOutOfRange _ refl (z .1) in
     let b = passed (outside 1 (longest (m .settings)) (o .estimate)) refusal.MinutesOutOfRange _ refl (a .1) in
-    let c = passed (leb (slots (m .settings)) (length (m .jobs))) refusal.Full _ refl (b .1) in
+    let c = passed (leb (quota (m .settings) (o .tenant)) (liveOf (o .tenant) (m .jobs))) refusal.QuotaFull _ refl (b .1) in
     let d = passed (ltb lastTicket (m .next)) refusal.NoTicketLeft _ refl (c .1) in
     let a′ = neither (ltb (o .nodes) 1) (ltb (m .settings .nodes) (o .nodes)) (a .0) in
     let b′ = neither (ltb (o .estimate) 1) (ltb (longest (m .settings)) (o .estimate)) (b .0) in (
@@ -195,28 +250,43 @@ submit-fit m o more h =
         nodes-to = ltb-false (m .settings .nodes) (o .nodes) (a′ .1);
         estimate-from = ltb-false (o .estimate) 1 (b′ .0);
         estimate-to = ltb-false (longest (m .settings)) (o .estimate) (b′ .1);
-        room = leb-false (slots (m .settings)) (length (m .jobs)) (c .0);
+        tenant-is = not-false (known (o .tenant)) (z .0);
+        share = leb-false (quota (m .settings) (o .tenant)) (liveOf (o .tenant) (m .jobs)) (c .0);
         ticket-left = ltb-false lastTicket (m .next) (d .0);
       },
       d .1,
     )
 
 pub sound-join : (m : Model) (o : Submission) (j : Job) → Sound m → Fit m o → SoundJob (m .settings) (m .clock) j → j .ticket ≡ m .next
-    → nodesHeld (m .jobs) + held j ≤ m .settings .nodes → Sound (joined m j)
-sound-join m o j s f sj t c = record {
+    → j .tenant ≡ o .tenant → nodesHeld (m .jobs) + held j ≤ m .settings .nodes → Sound (joined m j)
+sound-join m o j s f sj t u c = record {
   nodes-from = s .nodes-from;
   nodes-to = s .nodes-to;
   cleanup-to = s .cleanup-to;
+  quotas = s .quotas;
   clock-to = s .clock-to;
   next-from = omega arith;
   next-to = omega (arith, f .ticket-left);
-  few = omega (arith, f .room, length-append (m .jobs) (j ∷ []));
+  few = omega (arith, fit-room m o s f, length-append (m .jobs) (j ∷ []));
   asc = asc-append 1 (m .next) (m .jobs) j (s .asc) (s .below) (s .next-from) t;
   below = λ k i. low k (in-append (m .jobs) i);
   each = λ k i. one k (in-append (m .jobs) i);
   capacity = omega (arith, c, sum-append held (m .jobs) (j ∷ []));
+  shares = share;
 }
   where
+    share : (t : Tenant) → liveOf t (m .jobs ++ (j ∷ [])) ≤ quota (m .settings) t
+    share t =
+        case (ofTenant t j)
+        (λ q. let same : o .tenant ≡ t = sym u ∙ tenant-same (j .tenant) t q in
+        omega (
+          arith,
+          sum-append (λ (x : Job). on (ofTenant t x) 1) (m .jobs) (j ∷ []),
+          ap (λ (b : Bool). on b 1) q,
+          subst (λ (t : Tenant). liveOf t (m .jobs) < quota (m .settings) t) same (f .share),
+        ))
+        (λ q. omega (arith, sum-append (λ (x : Job). on (ofTenant t x) 1) (m .jobs) (j ∷ []), ap (λ (b : Bool). on b 1) q, s .shares t))
+
     last : (k : Job) → In k (j ∷ []) → k ≡ j
     last k i = go (in-cons i)
       where
@@ -309,6 +379,9 @@ ceased-waits now s j w = case (ends s j) (λ e. true-false false (rw e at w) ref
 pub waits-on : (now : ℕ) (s : Select) (j : Job) → isWaiting j ≡ true → ceased now s j ≡ j
 waits-on now s j w = case (ends s j) (λ e. true-false (isRunning j) (ends-runs s j e) (waiting-still (j .state) w)) (λ e. rw e)
 
+pub ceased-tenant : (now : ℕ) (s : Select) (j : Job) → ceased now s j .tenant ≡ j .tenant
+ceased-tenant now s j = case (ends s j) (λ e. rw e) (λ e. rw e)
+
 pub ceased-held : (now : ℕ) (s : Select) (j : Job) → held (ceased now s j) ≡ held j
 ceased-held now s j =
     case (ends s j) (λ e. rw (e, running-holds (j .state) (ends-runs s j e))) (λ e. rw e)
@@ -352,6 +425,7 @@ sound-leave m c s v l = record {
   nodes-from = v .nodes-from;
   nodes-to = v .nodes-to;
   cleanup-to = v .cleanup-to;
+  quotas = v .quotas;
   clock-to = clock-low l;
   next-from = v .next-from;
   next-to = v .next-to;
@@ -375,10 +449,22 @@ sound-leave m c s v l = record {
         sum-cong (λ (j : Job). held (ceased c s j)) held (staying S s (m .jobs)) (λ j i. ceased-held c s j),
         sum-keep held (leaves S s) (m .jobs),
       );
+  shares = λ t.
+      omega (
+        arith,
+        v .shares t,
+        sum-map (mine t) (ceased c s) (staying S s (m .jobs)),
+        sum-cong (λ (j : Job). mine t (ceased c s j)) (mine t) (staying S s (m .jobs)) (λ j i.
+            ap (λ (x : Tenant). on (sameTenant x t) 1) (ceased-tenant c s j)),
+        sum-keep (mine t) (leaves S s) (m .jobs),
+      );
 }
   where
     S : Settings
     S = m .settings
+
+    mine : Tenant → Job → ℕ
+    mine t j = on (ofTenant t j) 1
 
     clock-low : {c : ℕ} {s : Select} → Leaving m c s → c ≤ horizon (m .settings)
     clock-low (early h t) = v .clock-to
@@ -402,11 +488,12 @@ sound-leave m c s v l = record {
           runs = λ h. true-false false h refl;
           cleaned = λ h. (omega (arith, w .holds (running-holds (k .state) r), leaving-clock m c s l), omega arith);
           no-end = λ h. true-false true refl h;
+          tenant-is = w .tenant-is;
         }
 
     -- it does not
-    on : (k : Job) → SoundJob S (m .clock) k → ends s k ≡ false → releases s k ≡ false → SoundJob S c k
-    on k w e p = record {
+    goes-on : (k : Job) → SoundJob S (m .clock) k → ends s k ≡ false → releases s k ≡ false → SoundJob S c k
+    goes-on k w e p = record {
       is-live = w .is-live;
       nodes-from = w .nodes-from;
       nodes-to = w .nodes-to;
@@ -417,6 +504,7 @@ sound-leave m c s v l = record {
       runs = λ h. runs-on m c s l k w h e;
       cleaned = λ h. (w .cleaned h .0, omega (arith, w .cleaned h .1, leaving-clock m c s l));
       no-end = w .no-end;
+      tenant-is = w .tenant-is;
     }
       where
         later : isHolding k ≡ true → c < until S k
@@ -428,4 +516,4 @@ sound-leave m c s v l = record {
     one j (k, i, q, e) =
         let w = v .each k i in
         let p = stays S s k q in
-        subst (SoundJob S c) (sym e) (case (ends s k) (λ y. rw y (cleaned k w y (p .2 y))) (λ y. rw y (on k w y (p .1))))
+        subst (SoundJob S c) (sym e) (case (ends s k) (λ y. rw y (cleaned k w y (p .2 y))) (λ y. rw y (goes-on k w y (p .1))))

@@ -62,6 +62,6 @@ module _ (m : Model) (v : Valid m) where
 -- the calls made and the answers received has the guarantees (document 01: "demand 3").
 pub mixed-keeps : (o : Opening) (cs : List Call) (xs : List Answer) (e : Scheduler) → MadeAll Made (opened o .scheduler) cs xs e
     → (e ≡ store (after call (opening o) cs)) × (xs ≡ map answerOf (events call (opening o) cs))
-    × Guarantee (o .settings .kind) (opening o .settings .nodes) (bookOf (opening o) (eventsOf cs (map replyOf xs)))
+    × Guarantee (o .settings .kind) (opening o .settings) (bookOf (opening o) (eventsOf cs (map replyOf xs)))
 unfolding opened
 mixed-keeps o cs xs e l = made-keeps Made store answer replyOf (λ m c a d v. made-is m v) reply-back o l

@@ -15,6 +15,7 @@ use scheduler::Outcome;
 use scheduler::Scheduler;
 use scheduler::Settings;
 use scheduler::Submission;
+use scheduler::Tenant;
 use scheduler::Tickets;
 use spans::Point;
 
@@ -135,13 +136,14 @@ fn print_answer(clock: u32, a: Answer) {
     io::write_all(STDOUT_FILENO, b"\n");
 }
 
-fn submit(d: Scheduler, nodes: u32, estimate: u32) -> Scheduler
+fn submit(d: Scheduler, nodes: u32, estimate: u32, tenant: Tenant) -> Scheduler
     requires { ⌜ Premise d ⌝ }
     ensures { λ r. ⌜ Premise r ⌝ }
 {
     let s = Submission {
         nodes: nodes,
         estimate: estimate,
+        tenant: tenant,
     };
     let o = lent_submit(d, s);
     let e = o.scheduler;
@@ -215,7 +217,7 @@ fn print_kind(kind: Kind) {
     ;
 }
 
-// The refusal, and the scheduler handed back: its kind, nodes, cleanup, clock, next ticket and number of live jobs.
+// The refusal, and the scheduler handed back: its kind, nodes, cleanup, quotas, clock, next ticket and number of live jobs.
 fn print_opened(opened: Opened)
     requires { ⌜ Holds Sound (opened .scheduler) ⌝ }
 {
@@ -227,13 +229,15 @@ fn print_opened(opened: Opened)
     print_kind(kind);
     print(d.settings.nodes);
     print(d.settings.cleanup);
+    print(d.settings.quota_a);
+    print(d.settings.quota_b);
     print(d.clock);
     print(d.next);
     print_count(job_table::first_unused(d));
     io::write_all(STDOUT_FILENO, b"\n");
 }
 
-fn open(kind: Kind, nodes: u32, minute: u32, cleanup: u32) -> Scheduler
+fn open(kind: Kind, nodes: u32, minute: u32, cleanup: u32, quota_a: u32) -> Scheduler
     ensures { λ r. ⌜ Premise r ⌝ }
 {
     let opened = Scheduler::open(Opening {
@@ -241,6 +245,8 @@ fn open(kind: Kind, nodes: u32, minute: u32, cleanup: u32) -> Scheduler
             kind: kind,
             nodes: nodes,
             cleanup: cleanup,
+            quota_a: quota_a,
+            quota_b: 1,
         },
         minute: minute,
         ticket: 1,
@@ -251,15 +257,15 @@ fn open(kind: Kind, nodes: u32, minute: u32, cleanup: u32) -> Scheduler
 
 fn main() {
     // conservative: the list is longer than the profile, then as long, then too short
-    let d = open(Kind::Conservative, 10, 0, 0);
+    let d = open(Kind::Conservative, 10, 0, 0, 63);
     show(d);
-    let d1 = submit(d, 6, 20);
-    let d2 = submit(d1, 8, 10);
-    let d3 = submit(d2, 4, 25);
+    let d1 = submit(d, 6, 20, Tenant::A);
+    let d2 = submit(d1, 8, 10, Tenant::A);
+    let d3 = submit(d2, 4, 25, Tenant::A);
     show(d3);
-    let d4 = submit(d3, 1, 5);
+    let d4 = submit(d3, 1, 5, Tenant::A);
     show(d4);
-    let d5 = submit(d4, 11, 5);
+    let d5 = submit(d4, 11, 5, Tenant::A);
     let d6 = complete(d5, 2);
     let d7 = complete(d6, 1);
     let d8 = tick(d7);
@@ -269,34 +275,42 @@ fn main() {
     let d10 = cancel(d9, 3);
     show(d10);
     // EASY: no profile
-    let e = open(Kind::Easy, 10, 0, 0);
-    let e1 = submit(e, 6, 20);
-    let e2 = submit(e1, 8, 10);
-    let e3 = submit(e2, 3, 21);
-    let e4 = submit(e3, 2, 100);
-    let e5 = submit(e4, 1, 0);
+    let e = open(Kind::Easy, 10, 0, 0, 63);
+    let e1 = submit(e, 6, 20, Tenant::A);
+    let e2 = submit(e1, 8, 10, Tenant::A);
+    let e3 = submit(e2, 3, 21, Tenant::A);
+    let e4 = submit(e3, 2, 100, Tenant::A);
+    let e5 = submit(e4, 1, 0, Tenant::A);
     show(e5);
     let e6 = complete(e5, 1);
     let e7 = complete(e6, 1);
     let e8 = tick(e7);
     // the head is withdrawn, and the next hears its forecast
-    let e9 = submit(e8, 5, 10);
+    let e9 = submit(e8, 5, 10, Tenant::A);
     let e10 = cancel(e9, 4);
     let e11 = cancel(e10, 3);
     // at the last minute no clock moves
-    let f = open(Kind::Conservative, 10, 1000000, 0);
+    let f = open(Kind::Conservative, 10, 1000000, 0, 63);
     let f1 = tick(f);
     show(f1);
     // a refused opening hands back an empty scheduler of its kind, which takes jobs
-    let g = open(Kind::Conservative, 0, 5, 7);
-    let g1 = submit(g, 1, 5);
-    let h = open(Kind::Easy, 1025, 5, 7);
-    let h1 = submit(h, 1, 5);
-    open(Kind::Easy, 10, 5, 31);
+    let g = open(Kind::Conservative, 0, 5, 7, 63);
+    let g1 = submit(g, 1, 5, Tenant::A);
+    let h = open(Kind::Easy, 1025, 5, 7, 63);
+    let h1 = submit(h, 1, 5, Tenant::A);
+    open(Kind::Easy, 10, 5, 31, 63);
+    open(Kind::Conservative, 10, 5, 0, 62);
     // nodes stay taken after a run, and a job in cleanup runs no longer
-    let k = open(Kind::Conservative, 10, 0, 7);
-    let k1 = submit(k, 6, 20);
+    let k = open(Kind::Conservative, 10, 0, 7, 63);
+    let k1 = submit(k, 6, 20, Tenant::A);
     let k2 = complete(k1, 1);
     show(k2);
     let k3 = complete(k2, 1);
+    // B has one place, and its job in cleanup takes it; a tenant that is neither has none
+    let l = open(Kind::Easy, 10, 0, 7, 63);
+    let l1 = submit(l, 1, 5, Tenant::B);
+    let l2 = complete(l1, 1);
+    let l3 = submit(l2, 1, 5, Tenant::B);
+    let l4 = submit(l3, 1, 5, Tenant::A);
+    let l5 = submit(l4, 11, 5, Tenant::Nobody);
 }

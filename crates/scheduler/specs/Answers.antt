@@ -21,7 +21,6 @@ code refusal.None = 0
 code refusal.NodesOutOfRange = 1
 code refusal.MinutesOutOfRange = 2
 code refusal.OpeningOutOfRange = 3
-code refusal.Full = 4
 code refusal.NoTicketLeft = 5
 code refusal.PastHorizon = 6
 code refusal.NotRunning = 7
@@ -30,6 +29,9 @@ code refusal.Malformed = 9
 code refusal.TooShort = 10
 code refusal.NotWaiting = 11
 code refusal.CleanupOutOfRange = 12
+code refusal.QuotasOutOfRange = 13
+code refusal.UnknownTenant = 14
+code refusal.QuotaFull = 15
 
 -- "Where several apply, order": the first test that holds decides
 unfoldable pub verdict : List (Bool × Refusal) → Refusal

@@ -8,6 +8,7 @@ use Rattle.scheduler.specs.declared.Settings.{Settings}
 use Rattle.scheduler.specs.declared.State.{State}
 use Rattle.scheduler.specs.declared.State.the-variants.{Unused, Cleanup}
 use Rattle.scheduler.specs.declared.Job.{Job}
+use Rattle.scheduler.specs.declared.Tenant.the-variants.{Nobody}
 use Rattle.scheduler.specs.declared.Submission.{Submission}
 use Rattle.scheduler.specs.declared.Departure.{Departure}
 use Rattle.scheduler.specs.declared.Departure.the-variants.{Complete, Cancel}
@@ -18,7 +19,7 @@ use Rattle.scheduler.specs.Settings.{endOf, until}
 
 -- "unused ones all zero"
 abbrev pub unused : Job
-unused = record { ticket = 0; nodes = 0; estimate = 0; state = Unused; start = 0; promise = 0; end = 0 }
+unused = record { ticket = 0; nodes = 0; estimate = 0; state = Unused; tenant = Nobody; start = 0; promise = 0; end = 0 }
 
 abbrev pub isLive : Job → Bool
 isLive j = live? (j .state)
@@ -57,11 +58,29 @@ releasedAt S t j = isCleaning j && eqb (until S j) t
 
 -- a job that comes in: what is asked for it, under its ticket
 abbrev pub fresh : (ticket : ℕ) → Submission → State → (start promise : ℕ) → Job
-fresh t o s start promise = record { ticket = t; nodes = o .nodes; estimate = o .estimate; state = s; start = start; promise = promise; end = 0 }
+fresh t o s start promise = record {
+  ticket = t;
+  nodes = o .nodes;
+  estimate = o .estimate;
+  state = s;
+  tenant = o .tenant;
+  start = start;
+  promise = promise;
+  end = 0;
+}
 
 -- the same job in a state, with a start
 abbrev pub jobAt : State → (start : ℕ) → Job → Job
-jobAt s start j = record { ticket = j .ticket; nodes = j .nodes; estimate = j .estimate; state = s; start = start; promise = j .promise; end = 0 }
+jobAt s start j = record {
+  ticket = j .ticket;
+  nodes = j .nodes;
+  estimate = j .estimate;
+  state = s;
+  tenant = j .tenant;
+  start = start;
+  promise = j .promise;
+  end = 0;
+}
 
 -- the same job once its run has ended: "its record, and no other, keeps its end"
 abbrev pub cleaning : (end : ℕ) → Job → Job
@@ -70,6 +89,7 @@ cleaning m j = record {
   nodes = j .nodes;
   estimate = j .estimate;
   state = Cleanup;
+  tenant = j .tenant;
   start = j .start;
   promise = j .promise;
   end = m;

@@ -1,5 +1,6 @@
 pub mod Limits
 pub mod States
+pub mod Tenants
 pub mod Jobs
 pub mod Table
 pub mod Settings
@@ -9,3 +10,4 @@ pub mod Answers
 pub mod Refusals
 pub mod Opening
 pub mod TableLaws
+pub mod Computed

@@ -1,8 +1,8 @@
 -- The limits, each number named once. Document 01: "The limits belong to the desk and are named once, with it."
 -- Assumes nothing.
-use mathlib.Core.Bool.{Bool, _||_}
-use Prim.Native.Nat.{ℕ}
-use lib.Dec.{ltb}
+use mathlib.Core.Bool.{Bool, not, _||_}
+use Prim.Native.Nat.{ℕ, _+_}
+use lib.Dec.{eqb, ltb}
 use Rattle.walltime.specs.WallTime as wall
 use Rattle.scheduler.specs.declared.Limits.{Limits}
 
@@ -14,7 +14,7 @@ maxNodes = 1024
 abbrev pub horizon : ℕ
 horizon = 1000000
 
--- "At most 64 stacks are live, running and waiting together."
+-- "At most 64 stacks are live, running and waiting together."; document 02, No. 4: "the 64 places are divided between them"
 abbrev pub slots : ℕ
 slots = 64
 
@@ -50,6 +50,10 @@ limits = record {
   «longest_hold» = longestHold;
   «last_ticket» = lastTicket;
 }
+
+-- 13: "the places do not sum to 64 or one is 0"
+abbrev pub misdivided : ℕ → ℕ → Bool
+misdivided a b = not (eqb (a + b) slots) || eqb a 0 || eqb b 0
 
 -- x is outside low to high
 abbrev pub outside : ℕ → ℕ → ℕ → Bool

@@ -4,7 +4,6 @@ use mathlib.Core.Bool.{Bool, not, cond}
 use mathlib.Core.List.{List, [], _∷_}
 use Prim.Native.Nat.{ℕ, suc, _+_}
 use lib.Dec.{leb, ltb}
-use lib.ListN.{length}
 use Rattle.lists.specs.Lists.{any}
 use Rattle.scheduler.specs.declared.Refusal.{Refusal}
 use Rattle.scheduler.specs.declared.Refusal.the-variants as refusal
@@ -15,7 +14,9 @@ use Rattle.scheduler.specs.declared.Submission.{Submission}
 use Rattle.scheduler.specs.declared.Select.the-variants as select
 use Rattle.scheduler.specs.Limits.{longestWait, lastTicket, outside}
 use Rattle.scheduler.specs.Jobs.{picks}
-use Rattle.scheduler.specs.Settings.{horizon, slots, longest}
+use Rattle.scheduler.specs.Settings.{horizon, quota, longest}
+use Rattle.scheduler.specs.Tenants.{known}
+use Rattle.scheduler.specs.Table.{liveOf}
 use Rattle.scheduler.specs.Model.{Model}
 use Rattle.scheduler.specs.Answers.{Result, verdict, accepts, refuse}
 
@@ -23,18 +24,20 @@ use Rattle.scheduler.specs.Answers.{Result, verdict, accepts, refuse}
 abbrev pub judged : Model → Refusal → Result → Result
 judged m r o = cond (accepts r) o (refuse m r)
 
--- of a submission, by what they look at: "intake 1, 2, 4, 5" and what the kind adds. 1: "stack nodes 0 or above the rack's"; 2:
--- "estimate outside 1 to 10,080"; 4: "64 stacks live"; 5: "ticket 999,999 has been given"
+-- of a submission, by what they look at: "intake 1, 2, .. 5" and what the kind adds. 1: "stack nodes 0 or above the rack's"; 2:
+-- "estimate outside 1 to 10,080"; 5: "ticket 999,999 has been given". Document 02, No. 4: 14, "a house other than A or B, first at
+-- intake"; 15, "the house's places are all live, in place of 4"; `live` are the live jobs of the submission's tenant
 abbrev pub testsBy : Settings → (live next : ℕ) → Submission → List (Bool × Refusal) → List (Bool × Refusal)
 testsBy S live next o more =
-    (outside 1 (S .nodes) (o .nodes), refusal.NodesOutOfRange)
+    (not (known (o .tenant)), refusal.UnknownTenant)
+    ∷ (outside 1 (S .nodes) (o .nodes), refusal.NodesOutOfRange)
     ∷ (outside 1 (longest S) (o .estimate), refusal.MinutesOutOfRange)
-    ∷ (leb (slots S) live, refusal.Full)
+    ∷ (leb (quota S (o .tenant)) live, refusal.QuotaFull)
     ∷ (ltb lastTicket next, refusal.NoTicketLeft)
     ∷ more
 
 abbrev pub submitTests : Model → Submission → List (Bool × Refusal) → List (Bool × Refusal)
-submitTests m o more = testsBy (m .settings) (length (m .jobs)) (m .next) o more
+submitTests m o more = testsBy (m .settings) (liveOf (o .tenant) (m .jobs)) (m .next) o more
 
 -- 7: "the ended ticket is not running: waiting, over or never given"; 11: "the withdrawn ticket is not waiting"
 abbrev pub notThere : Departure → Refusal

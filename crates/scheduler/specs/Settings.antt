@@ -6,12 +6,14 @@ use Rattle.walltime.specs.WallTime.{wallTime}
 use Rattle.scheduler.specs.declared.Kind.{Kind}
 use Rattle.scheduler.specs.declared.Settings.{Settings}
 use Rattle.scheduler.specs.declared.Job.{Job}
+use Rattle.scheduler.specs.declared.Tenant.{Tenant}
+use Rattle.scheduler.specs.declared.Tenant.the-variants.{Nobody, A, B}
 use Rattle.scheduler.specs.Limits as limit
 use Rattle.scheduler.specs.States.{cleaning?}
 
--- "A refused opening hands back an empty desk of its kind with 1 node"; nodes that are not cleared
+-- "A refused opening hands back an empty desk of its kind with 1 node"; nodes that are not cleared, and 63 places and 1
 abbrev pub refusedSettings : Kind → Settings
-refusedSettings k = record { kind = k; nodes = 1; cleanup = 0 }
+refusedSettings k = record { kind = k; nodes = 1; cleanup = 0; «quota_a» = 63; «quota_b» = 1 }
 
 -- "Minutes of the clock: 0 to 1,000,000, the last minute."
 abbrev pub horizon : Settings → ℕ
@@ -20,6 +22,12 @@ horizon S = limit.horizon
 -- "At most 64 stacks are live, running and waiting together."
 abbrev pub slots : Settings → ℕ
 slots S = limit.slots
+
+-- document 02, No. 4: "No house ever has more live than its places"
+abbrev pub quota : Settings → Tenant → ℕ
+quota S Nobody = 0
+quota S A = S .«quota_a»
+quota S B = S .«quota_b»
 
 -- "Estimate of a stack: 1 to 10,080 minutes."
 abbrev pub longest : Settings → ℕ

@@ -5,6 +5,7 @@ use mathlib.Core.List.{List, [], _∷_, map}
 use Prim.Native.Nat.{ℕ}
 use lib.Dec.{eqb}
 use lib.ListN.{length}
+use Rattle.lists.specs.Tests.{on}
 use Rattle.lists.specs.Lists.{keep, sum}
 use Rattle.lists.specs.Pads.{pad}
 use Rattle.scheduler.specs.declared.Job.{Job}
@@ -13,6 +14,8 @@ use Rattle.scheduler.specs.declared.Departure.the-variants.{Complete, Ca
 use Rattle.scheduler.specs.declared.Select.{Select}
 use Rattle.scheduler.specs.declared.Select.the-variants as select
 use Rattle.scheduler.specs.declared.Tickets.{Tickets}
+use Rattle.scheduler.specs.declared.Tenant.{Tenant}
+use Rattle.scheduler.specs.Tenants.{sameTenant}
 use Rattle.scheduler.specs.declared.Settings.{Settings}
 use Rattle.scheduler.specs.Limits.{slots}
 use Rattle.scheduler.specs.Settings.{cleanup}
@@ -25,6 +28,13 @@ withJobs d js = record { settings = d .settings; clock = d .clock; next = d .nex
 -- the nodes that all jobs hold now
 abbrev pub nodesHeld : List Job → ℕ
 nodesHeld js = sum held js
+
+-- the live jobs of a tenant, running, waiting and in cleanup
+abbrev pub ofTenant : Tenant → Job → Bool
+ofTenant t j = sameTenant (j .tenant) t
+
+abbrev pub liveOf : Tenant → List Job → ℕ
+liveOf t js = sum (λ (j : Job). on (ofTenant t j) 1) js
 
 abbrev pub ticketOf : Job → ℕ
 ticketOf j = j .ticket

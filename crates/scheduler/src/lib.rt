@@ -1,9 +1,10 @@
 // The scheduler of one machine (document 01: "desk", "rack"): its limits, its jobs by value, opening, and what calls answer.
 ghost use mathlib.Core.Path.{_≡_};
 ghost use Prim.Native.Nat.{_≤_};
-ghost use Rattle.scheduler.specs.Limits.{maxNodes, longestEstimate, limits, outside};
+ghost use Rattle.scheduler.specs.Limits.{maxNodes, longestEstimate, limits, outside, misdivided};
 ghost use Rattle.scheduler.specs.Jobs.{unused, fresh, jobAt, cleaning, isRunning, isCleaning, releasedAt, picks};
-ghost use Rattle.scheduler.specs.Settings.{refusedSettings, cleanup, runTime, holdTime, unit};
+ghost use Rattle.scheduler.specs.Tenants.{known, number, sameTenant, tenantOf, letterOf};
+ghost use Rattle.scheduler.specs.Settings.{refusedSettings, quota, cleanup, runTime, holdTime, unit};
 ghost use Rattle.scheduler.specs.Table.{tickets, oneIf};
 ghost use Rattle.scheduler.specs.Model.{store, empty};
 ghost use Rattle.scheduler.specs.Answers.{code, accepts, refusedAnswer, refusedOutcome, noTickets};
@@ -22,6 +23,13 @@ pub enum State {
     Cleanup,
 }
 
+// Whose job it is (document 02, No. 4: the "houses" A and B). An unused slot is nobody's, nor is what a submission names neither by.
+pub enum Tenant {
+    Nobody,
+    A,
+    B,
+}
+
 // A live job (document 01: "stack", "record"), or an unused slot, which is all zero. A job in cleanup has run: it keeps its end, which is 0 in
 // every other, and its nodes stay taken. Nodes and estimates are within 16 bits: a scheduler copies its 64 jobs wherever it is handed on.
 pub struct Job {
@@ -29,16 +37,20 @@ pub struct Job {
     pub nodes: u16,
     pub estimate: u16,
     pub state: State,
+    pub tenant: Tenant,
     pub start: u32,
     pub promise: u32,
     pub end: u32,
 }
 
-// What an opening fixes: the rules, the machine's nodes, and for how many minutes nodes stay taken after a run ("clearing").
+// What an opening fixes: the rules, the machine's nodes, for how many minutes nodes stay taken after a run ("clearing"), and how many live
+// jobs each tenant may have ("places").
 pub struct Settings {
     pub kind: Kind,
     pub nodes: u32,
     pub cleanup: u32,
+    pub quota_a: u32,
+    pub quota_b: u32,
 }
 
 // The live jobs stand first, in ticket order; the slots after them are unused.
@@ -60,13 +72,12 @@ pub struct Limits {
     pub last_ticket: u32,
 }
 
-// Why a call is refused; `code` gives document 01's number.
+// Why a call is refused; `code` gives the documents' number. (4, "64 stacks live", has gone with the quotas.)
 pub enum Refusal {
     None,
     NodesOutOfRange,
     MinutesOutOfRange,
     OpeningOutOfRange,
-    Full,
     NoTicketLeft,
     PastHorizon,
     NotRunning,
@@ -75,6 +86,9 @@ pub enum Refusal {
     TooShort,
     NotWaiting,
     CleanupOutOfRange,
+    QuotasOutOfRange,
+    UnknownTenant,
+    QuotaFull,
 }
 
 // Tickets in order; the places past the count are 0.
@@ -114,6 +128,7 @@ pub struct Opened {
 pub struct Submission {
     pub nodes: u32,
     pub estimate: u32,
+    pub tenant: Tenant,
 }
 
 // How a job leaves on request: one that runs is over early, one that waits is withdrawn.
@@ -146,6 +161,16 @@ pub fn outside_range(x: u32, low: u32, high: u32) -> bool
     high < x
 }
 
+// Whether one is 0, or they are not 64 together. (Numbers may be any, so that no sum of both is asked for.)
+fn quotas_out_of_range(a: u32, b: u32) -> bool
+    ensures { λ r. ⌜ r ≡ misdivided a b ⌝ }
+{
+    if outside_range(a, 1, 63) {
+        return true;
+    }
+    b != 64 - a
+}
+
 impl Refusal {
     pub fn code(self) -> u32
         ensures { λ r. ⌜ r ≡ code self ⌝ }
@@ -155,7 +180,6 @@ impl Refusal {
             Refusal::NodesOutOfRange => 1,
             Refusal::MinutesOutOfRange => 2,
             Refusal::OpeningOutOfRange => 3,
-            Refusal::Full => 4,
             Refusal::NoTicketLeft => 5,
             Refusal::PastHorizon => 6,
             Refusal::NotRunning => 7,
@@ -164,6 +188,9 @@ impl Refusal {
             Refusal::TooShort => 10,
             Refusal::NotWaiting => 11,
             Refusal::CleanupOutOfRange => 12,
+            Refusal::QuotasOutOfRange => 13,
+            Refusal::UnknownTenant => 14,
+            Refusal::QuotaFull => 15,
         }
     }
 
@@ -221,6 +248,58 @@ impl Answer {
     }
 }
 
+impl Tenant {
+    // Whose letter it is.
+    pub fn of_letter(letter: u32) -> Tenant
+        ensures { λ r. ⌜ r ≡ tenantOf letter ⌝ }
+    {
+        if letter == 65 {
+            return Tenant::A;
+        }
+        if letter == 66 {
+            return Tenant::B;
+        }
+        Tenant::Nobody
+    }
+
+    // Its letter; nobody's is 0.
+    pub fn letter(self) -> u32
+        ensures { λ r. ⌜ r ≡ letterOf self ⌝ }
+    {
+        match self {
+            Tenant::Nobody => 0,
+            Tenant::A => 65,
+            Tenant::B => 66,
+        }
+    }
+
+    pub fn is_known(self) -> bool
+        ensures { λ r. ⌜ r ≡ known self ⌝ }
+    {
+        match self {
+            Tenant::Nobody => false,
+            Tenant::A => true,
+            Tenant::B => true,
+        }
+    }
+
+    fn number(self) -> u32
+        ensures { λ r. ⌜ r ≡ number self ⌝ }
+    {
+        match self {
+            Tenant::Nobody => 0,
+            Tenant::A => 1,
+            Tenant::B => 2,
+        }
+    }
+
+    pub fn is(self, other: Tenant) -> bool
+        ensures { λ r. ⌜ r ≡ sameTenant self other ⌝ }
+    {
+        self.number() == other.number()
+    }
+}
+
 impl Job {
     pub fn unused() -> Job
         ensures { λ r. ⌜ r ≡ unused ⌝ }
@@ -230,6 +309,7 @@ impl Job {
             nodes: 0,
             estimate: 0,
             state: State::Unused,
+            tenant: Tenant::Nobody,
             start: 0,
             promise: 0,
             end: 0,
@@ -241,11 +321,13 @@ impl Job {
         requires { ⌜ (order .nodes ≤ maxNodes) × (order .estimate ≤ longestEstimate) ⌝ }
         ensures { λ r. ⌜ r ≡ fresh ticket order state start promise ⌝ }
     {
+        let tenant = order.tenant;
         Job {
             ticket: ticket,
             nodes: order.nodes as u16,
             estimate: order.estimate as u16,
             state: state,
+            tenant: tenant,
             start: start,
             promise: promise,
             end: 0,
@@ -256,11 +338,13 @@ impl Job {
     pub fn at(self, state: State, start: u32) -> Job
         ensures { λ r. ⌜ r ≡ jobAt state start self ⌝ }
     {
+        let tenant = self.tenant;
         Job {
             ticket: self.ticket,
             nodes: self.nodes,
             estimate: self.estimate,
             state: state,
+            tenant: tenant,
             start: start,
             promise: self.promise,
             end: 0,
@@ -271,11 +355,13 @@ impl Job {
     pub fn cleaning(self, end: u32) -> Job
         ensures { λ r. ⌜ r ≡ cleaning end self ⌝ }
     {
+        let tenant = self.tenant;
         Job {
             ticket: self.ticket,
             nodes: self.nodes,
             estimate: self.estimate,
             state: State::Cleanup,
+            tenant: tenant,
             start: self.start,
             promise: self.promise,
             end: end,
@@ -381,6 +467,17 @@ impl Job {
 }
 
 impl Settings {
+    // How many live jobs this tenant may have.
+    pub fn quota(self, tenant: Tenant) -> u32
+        ensures { λ r. ⌜ r ≡ quota self tenant ⌝ }
+    {
+        match tenant {
+            Tenant::Nobody => 0,
+            Tenant::A => self.quota_a,
+            Tenant::B => self.quota_b,
+        }
+    }
+
     // For how many minutes nodes stay taken after a run. (An opening refuses more than the longest.)
     pub fn cleanup(self) -> u32
         ensures { λ r. ⌜ r ≡ cleanup self ⌝ }
@@ -420,12 +517,14 @@ impl Settings {
             kind: kind,
             nodes: 1,
             cleanup: 0,
+            quota_a: 63,
+            quota_b: 1,
         }
     }
 }
 
 impl Opening {
-    // Why it is refused, in this order: 1, 3, 12.
+    // Why it is refused, in this order: 1, 3, 12, 13.
     fn refusal(self) -> Refusal
         ensures { λ r. ⌜ r ≡ openingRefusal self ⌝ }
     {
@@ -440,6 +539,9 @@ impl Opening {
         }
         if Scheduler::LONGEST_CLEANUP < self.settings.cleanup {
             return Refusal::CleanupOutOfRange;
+        }
+        if quotas_out_of_range(self.settings.quota_a, self.settings.quota_b) {
+            return Refusal::QuotasOutOfRange;
         }
         Refusal::None
     }

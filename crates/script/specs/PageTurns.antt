@@ -168,7 +168,7 @@ module _ (d : Scheduler) (c : Call) (r : Outcome) (e : r ≡ outcome (call (view
   pub call-few : Premise d → (r .answer .ended .count ≤ 64) × (r .answer .started .count ≤ 64)
   unfolding tickets
   call-few h =
-      let f = call-fits (view d) c (premise-sound d h .few) in
+      let f = call-fits (view d) c (premise-sound d h) in
       subst (λ (x : Outcome). (x .answer .ended .count ≤ 64) × (x .answer .started .count ≤ 64)) (sym e) (f .ended, f .started)
 
 -- each way through the loop leaves the lines of the next turn

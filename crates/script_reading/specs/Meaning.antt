@@ -23,8 +23,9 @@ use Rattle.text.specs.Words.{isWord}
 use Rattle.scheduler.specs.declared.Kind.{Kind}
 use Rattle.scheduler.specs.declared.Opening.{Opening}
 use Rattle.scheduler.specs.declared.Departure.{Departure}
-use Rattle.history.specs.Calls.{Command, ask, wait, submit, depart, order, asked}
-use Rattle.script_rules.specs.Reading.{hasForm, numberAt, withNumber, withKind}
+use Rattle.history.specs.Calls.{Command, ask, wait, submit, depart, orderOf, asked}
+use Rattle.scheduler.specs.Tenants.{tenantOf}
+use Rattle.script_rules.specs.Reading.{hasForm, numberAt, withNumber}
 use Rattle.script_reading.specs.declared.FirstLine.{FirstLine}
 use Rattle.script_reading.specs.declared.FirstLine.the-variants as first
 use Rattle.script_reading.specs.declared.Asked.{Asked}
@@ -129,18 +130,15 @@ module _ {A : Type 0} where
 
 -- what the numbers of each line say
 abbrev pub openingOf : Kind → List ℕ → Option Opening
-openingOf k vs =
-    some (record { settings = record { kind = k; nodes = getD vs 0 0; cleanup = getD vs 3 0 }; minute = getD vs 1 0; ticket = getD vs 2 0 })
+openingOf k vs = some (record {
+  settings = record { kind = k; nodes = getD vs 0 0; cleanup = getD vs 3 0; «quota_a» = getD vs 4 0; «quota_b» = getD vs 5 0 };
+  minute = getD vs 1 0;
+  ticket = getD vs 2 0;
+})
 
--- the same, as the code has it: n of them must have been read, and the cleanup is given
-abbrev pub openingBy : Named → Numbers → (n cleanup : ℕ) → Option Opening
-openingBy name r n c =
-    let vs = r .values in
-    withKind (follows name) (λ k. cond (leb n (r .count))
-    (some (record { settings = record { kind = k; nodes = getD vs 0 0; cleanup = c }; minute = getD vs 1 0; ticket = getD vs 2 0 })) none)
-
-abbrev pub submissionOf : List ℕ → Option Command
-submissionOf vs = some (ask (submit (order (getD vs 0 0) (getD vs 1 0))))
+-- a letter, if the last field is one, says whose the job is
+abbrev pub submissionOf : Parsed → List ℕ → Option Command
+submissionOf h vs = withNumber h (λ t. some (ask (submit (orderOf (tenantOf t) (getD vs 0 0) (getD vs 1 0)))))
 
 abbrev pub departureOf : Departure → List ℕ → Option Command
 departureOf h vs = some (ask (depart h (getD vs 0 0)))

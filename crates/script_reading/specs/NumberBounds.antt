@@ -12,16 +12,19 @@ use Rattle.text.specs.declared.Parsed.the-variants.{Is, Not}
 use Rattle.text.specs.NumberLaws.{number-most}
 use Rattle.text.specs.Fields.{fieldOf}
 use Rattle.scheduler.specs.declared.Kind.{Kind}
+use Rattle.scheduler.specs.Tenants.{tenantOf}
 use Rattle.scheduler.specs.declared.Opening.{Opening}
-use Rattle.history.specs.Calls.{Command, ask, wait, submit, depart, order, complete, cancel, tick, unchanged}
-use Rattle.script_rules.specs.Reading.{numberAt, withNumber, withKind, kindOf, hasForm, inWord, endWord, waitWord, dropWord, deskWord, openingIn}
+use Rattle.history.specs.Calls.{Command, ask, wait, submit, depart, orderOf, complete, cancel, tick, unchanged}
+use Rattle.script_rules.specs.Reading.{numberAt, letterAt, withNumber, withKind, kindOf, hasForm, inWord, endWord, waitWord, dropWord, deskWord, openingIn}
 use Rattle.script_rules.specs.Reading.{commandIn}
 
 abbrev pub Small : ℕ → Type 0
 Small n = n ≤ 9999999
 
 abbrev pub SmallOpening : Opening → Type 0
-SmallOpening o = Small (o .settings .nodes) × Small (o .minute) × Small (o .ticket) × Small (o .settings .cleanup)
+SmallOpening o =
+    Small (o .settings .nodes) × Small (o .minute) × Small (o .ticket) × Small (o .settings .cleanup) × Small (o .settings .«quota_a»)
+    × Small (o .settings .«quota_b»)
 
 abbrev pub SmallCommand : Command → Type 0
 SmallCommand (ask (submit o)) = Small (o .nodes) × Small (o .estimate)
@@ -59,21 +62,19 @@ module _ {A : Type 0} (P : A → Type 0) where
 pub opening-small : (s : List ℕ) (o : Opening) → openingIn s ≡ some o → SmallOpening o
 unfolding openingIn
 opening-small s =
-    any-cond SmallOpening (hasForm s 5 deskWord) _ _
+    any-cond SmallOpening (hasForm s 8 deskWord) _ none
     (any-kind SmallOpening (kindOf (fieldOf s 1)) _ (λ κ.
     any-field SmallOpening s 2 _ (λ n small-n. any-field SmallOpening s 3 _ (λ m small-m. any-field SmallOpening s 4 _ (λ t small-t.
-    any-some SmallOpening _ (small-n, small-m, small-t, omega arith))))))
-    (any-cond SmallOpening (hasForm s 6 deskWord) _ none
-    (any-kind SmallOpening (kindOf (fieldOf s 1)) _ (λ κ.
-    any-field SmallOpening s 2 _ (λ n small-n. any-field SmallOpening s 3 _ (λ m small-m. any-field SmallOpening s 4 _ (λ t small-t.
-    any-field SmallOpening s 5 _ (λ c small-c. any-some SmallOpening _ (small-n, small-m, small-t, small-c)))))))
-    (any-none SmallOpening))
+    any-field SmallOpening s 5 _ (λ c small-c. any-field SmallOpening s 6 _ (λ a small-a. any-field SmallOpening s 7 _ (λ b small-b.
+    any-some SmallOpening _ (small-n, small-m, small-t, small-c, small-a, small-b)))))))))
+    (any-none SmallOpening)
 
 pub command-small : (s : List ℕ) (q : Command) → commandIn s ≡ some q → SmallCommand q
 unfolding commandIn
 command-small s =
-    any-cond SmallCommand (hasForm s 3 inWord) _ _
-    (any-field SmallCommand s 1 _ (λ n small-n. any-field SmallCommand s 2 _ (λ e small-e. any-some SmallCommand (ask (submit (order n e))) (small-n, small-e))))
+    any-cond SmallCommand (hasForm s 4 inWord) _ _
+    (any-field SmallCommand s 1 _ (λ n small-n. any-field SmallCommand s 2 _ (λ e small-e. any-number SmallCommand (letterAt s 3) _ (λ h q.
+    any-some SmallCommand (ask (submit (orderOf (tenantOf h) n e))) (small-n, small-e)))))
     (any-cond SmallCommand (hasForm s 2 endWord) _ _
     (any-field SmallCommand s 1 _ (λ t small-t. any-some SmallCommand (ask (complete t)) small-t))
     (any-cond SmallCommand (hasForm s 2 waitWord) _ _ (any-field SmallCommand s 1 _ (λ n small-n. any-some SmallCommand (wait n) small-n))

@@ -1,14 +1,16 @@
 // A line of a script, read into what it asks. Each field goes through the field reader to the number reader: there is no second parser.
 ghost use mathlib.Core.Path.{_≡_};
-ghost use Rattle.script_rules.specs.Reading.{kindOf, openingIn, commandIn};
-ghost use Rattle.script_reading.specs.Meaning.{opens, asks, follows, formFrom, whenRead, openingBy, submissionOf, departureOf, waitOf};
+ghost use Rattle.script_rules.specs.Reading.{withKind, kindOf, openingIn, commandIn};
+ghost use Rattle.script_reading.specs.Meaning.{opens, asks, follows, formFrom, whenRead, openingOf, submissionOf, departureOf, waitOf};
 use scheduler::Departure;
 use scheduler::Kind;
 use scheduler::Opening;
 use scheduler::Request;
 use scheduler::Settings;
 use scheduler::Submission;
+use scheduler::Tenant;
 use text::Numbers;
+use text::Parsed;
 
 // What a script's first line asks.
 pub enum FirstLine {
@@ -51,14 +53,13 @@ fn read_kind(part: &[u8]) -> Named
     Named::Nothing
 }
 
-// The opening that the first line says, where as many numbers as it has have been read.
-fn opening(named: Named, given: Numbers, numbers: usize, cleanup: u32) -> FirstLine
-    ensures { λ r. ⌜ opens r ≡ openingBy named given numbers cleanup ⌝ }
+fn opening(named: Named, given: Numbers) -> FirstLine
+    ensures { λ r. ⌜ opens r ≡ withKind (follows named) (λ k. whenRead 6 given (openingOf k)) ⌝ }
 {
     let Named::Rules(k) = named else {
         return FirstLine::Malformed;
     };
-    if given.count < numbers {
+    if given.count < 6 {
         return FirstLine::Malformed;
     }
     let v = given.values;
@@ -66,23 +67,30 @@ fn opening(named: Named, given: Numbers, numbers: usize, cleanup: u32) -> FirstL
         settings: Settings {
             kind: k,
             nodes: v[0],
-            cleanup: cleanup,
+            cleanup: v[3],
+            quota_a: v[4],
+            quota_b: v[5],
         },
         minute: v[1],
         ticket: v[2],
     })
 }
 
-fn submission(given: Numbers) -> Asked
-    ensures { λ r. ⌜ asks r ≡ whenRead 2 given submissionOf ⌝ }
+fn submission(given: Numbers, house: Parsed) -> Asked
+    ensures { λ r. ⌜ asks r ≡ whenRead 2 given (submissionOf house) ⌝ }
 {
     if given.count < 2 {
         return Asked::Malformed;
     }
+    let Parsed::Is(letter) = house else {
+        return Asked::Malformed;
+    };
     let v = given.values;
+    let tenant = Tenant::of_letter(letter);
     Asked::Call(Request::Submit(Submission {
         nodes: v[0],
         estimate: v[1],
+        tenant: tenant,
     }))
 }
 
@@ -106,21 +114,17 @@ fn waiting(given: Numbers) -> Asked
     Asked::Wait(v[0])
 }
 
-// The first line opens a desk: its kind, nodes, minute and ticket, and its cleanup if that is not left out.
+// The first line opens a desk: its kind, nodes, minute and ticket, its cleanup, and the quotas of both tenants.
 pub fn read_first(line: &[u8]) -> FirstLine
     ensures { λ r. ⌜ opens r ≡ openingIn (now (line .entry)) ⌝ }
 {
     let count = text::field_count(line);
     let first = text::field(line, 0);
-    let word = text::field(line, 1);
-    let named = read_kind(word);
-    let given = text::field_numbers(line, 2);
-    if has_form(count, first, 5, b"desk") {
-        return opening(named, given, 3, 0);
-    }
-    if has_form(count, first, 6, b"desk") {
-        let v = given.values;
-        return opening(named, given, 4, v[3]);
+    if has_form(count, first, 8, b"desk") {
+        let word = text::field(line, 1);
+        let named = read_kind(word);
+        let given = text::field_numbers(line, 2);
+        return opening(named, given);
     }
     FirstLine::Malformed
 }
@@ -132,8 +136,10 @@ pub fn read_later(line: &[u8]) -> Asked
     let count = text::field_count(line);
     let first = text::field(line, 0);
     let given = text::field_numbers(line, 1);
-    if has_form(count, first, 3, b"in") {
-        return submission(given);
+    if has_form(count, first, 4, b"in") {
+        let last = text::field(line, 3);
+        let house = text::capital(last);
+        return submission(given, house);
     }
     if has_form(count, first, 2, b"end") {
         return departure(Departure::Complete, given);

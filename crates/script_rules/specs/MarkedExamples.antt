@@ -21,6 +21,7 @@ use Rattle.history.specs.Calls.{Command, ask, submit, order, Event, events, aft
 use Rattle.conservative_rules.specs.Conservative as conservative
 use Rattle.easy_rules.specs.Easy as easy
 use Rattle.guarantees.specs.Rules.{call}
+use Rattle.text.specs.Letters as letters
 use Rattle.text.specs.Fields.{fieldsOf}
 use Rattle.text.specs.Numbers as numbers
 use Rattle.text.specs.Words.{isWord}
@@ -55,7 +56,7 @@ said e = record {
 
 -- a machine of 10 nodes at minute 0, with ticket 1
 abbrev fresh : Kind → Model
-fresh k = opening.opening (record { settings = record { kind = k; nodes = 10; cleanup = 0 }; minute = 0; ticket = 1 })
+fresh k = opening.opening (record { settings = record { kind = k; nodes = 10; cleanup = 0; «quota_a» = 63; «quota_b» = 1 }; minute = 0; ticket = 1 })
 
 -- what a list of commands is answered
 abbrev play : Kind → List Command → List Said
@@ -90,14 +91,14 @@ took t s h = record { number = 0; took = t; over = []; start = s; head = h }
 -- the day sheet of the example; a space stands for a tab
 abbrev sheet : List ℕ
 sheet =
-    -- desk promise 10 0 1
-    100 ∷ 101 ∷ 115 ∷ 107 ∷ 9 ∷ 112 ∷ 114 ∷ 111 ∷ 109 ∷ 105 ∷ 115 ∷ 101 ∷ 9 ∷ 49 ∷ 48 ∷ 9 ∷ 48 ∷ 9 ∷ 49 ∷ 10 ∷
-    -- in 6 20
-    105 ∷ 110 ∷ 9 ∷ 54 ∷ 9 ∷ 50 ∷ 48 ∷ 10 ∷
-    -- in 8 10
-    105 ∷ 110 ∷ 9 ∷ 56 ∷ 9 ∷ 49 ∷ 48 ∷ 10 ∷
-    -- in 4 25
-    105 ∷ 110 ∷ 9 ∷ 52 ∷ 9 ∷ 50 ∷ 53 ∷ 10 ∷
+    -- desk promise 10 0 1 0 63 1
+    100 ∷ 101 ∷ 115 ∷ 107 ∷ 9 ∷ 112 ∷ 114 ∷ 111 ∷ 109 ∷ 105 ∷ 115 ∷ 101 ∷ 9 ∷ 49 ∷ 48 ∷ 9 ∷ 48 ∷ 9 ∷ 49 ∷ 9 ∷ 48 ∷ 9 ∷ 54 ∷ 51 ∷ 9 ∷ 49 ∷ 10 ∷
+    -- in 6 20 A
+    105 ∷ 110 ∷ 9 ∷ 54 ∷ 9 ∷ 50 ∷ 48 ∷ 9 ∷ 65 ∷ 10 ∷
+    -- in 8 10 A
+    105 ∷ 110 ∷ 9 ∷ 56 ∷ 9 ∷ 49 ∷ 48 ∷ 9 ∷ 65 ∷ 10 ∷
+    -- in 4 25 A
+    105 ∷ 110 ∷ 9 ∷ 52 ∷ 9 ∷ 50 ∷ 53 ∷ 9 ∷ 65 ∷ 10 ∷
     -- end 1
     101 ∷ 110 ∷ 100 ∷ 9 ∷ 49 ∷ 10 ∷
     -- wait 30
@@ -153,6 +154,7 @@ unfolding
     isWord
     numbers.digitsFrom
     numbers.numberOf
+    letters.capitalOf
     numbers.decimalBy
     numbers.decimalOf
     linesOf

@@ -126,7 +126,7 @@ first-events m (c ∷ cs) (suc i) = ap (λ t. record { call = c; reply = call m 
 pub record Keeps (o : Opening) (ls : List Line) : Type 0 where
   pub text : played (opening o) ls ≡ texts (items (opening o) ls)
   pub kept : (i : ℕ)
-      → Guarantee (o .settings .kind) (opening o .settings .nodes) (bookOf (opening o) (take i (told (items (opening o) ls))))
+      → Guarantee (o .settings .kind) (opening o .settings) (bookOf (opening o) (take i (told (items (opening o) ls))))
 
 pub script-keeps : (o : Opening) (ls : List Line) → Keeps o ls
 script-keeps o ls = record {
@@ -135,5 +135,5 @@ script-keeps o ls = record {
       let m = opening o in
       let cs = allCalls call m (commands ls) in
       let same : events call m (take i cs) ≡ take i (told (items m ls)) = sym (first-events m cs i) ∙ ap (take i) (sym (tells m ls)) in
-      subst (λ (es : List Event). Guarantee (o .settings .kind) (m .settings .nodes) (bookOf m es)) same (demand3-with-waits o (commands ls) i);
+      subst (λ (es : List Event). Guarantee (o .settings .kind) (m .settings) (bookOf m es)) same (demand3-with-waits o (commands ls) i);
 }

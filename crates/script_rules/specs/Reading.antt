@@ -1,6 +1,6 @@
 -- What a line says. Document 01: "First line: `desk`, `promise` or `loose`, nodes, minute, ticket. Later: `in` nodes estimate; `end`
--- ticket; `wait` minutes"; "fields parted by one tab"; document 02, No. 1: `drop` ticket; No. 3: "A sixth field of the `desk` line gives
--- the clearing, 0 if left out". Every other line "lacks the form".
+-- ticket; `wait` minutes"; "fields parted by one tab"; document 02, No. 1: `drop` ticket; No. 4: "the `desk` line always has the
+-- clearing, then the places of A and of B, and an `in` line ends with its house". Every other line "lacks the form".
 -- Assumes nothing.
 use mathlib.Core.Bool.{Bool, true, false, cond, _&&_}
 use mathlib.Core.List.{List, [], _∷_}
@@ -12,11 +12,13 @@ use Rattle.text.specs.declared.Parsed.{Parsed}
 use Rattle.text.specs.declared.Parsed.the-variants.{Is, Not}
 use Rattle.text.specs.Fields.{fieldsOf, fieldOf}
 use Rattle.text.specs.Numbers.{numberOf}
+use Rattle.text.specs.Letters.{capitalOf}
 use Rattle.text.specs.Words.{isWord}
+use Rattle.scheduler.specs.Tenants.{tenantOf}
 use Rattle.scheduler.specs.declared.Kind.{Kind}
 use Rattle.scheduler.specs.declared.Kind.the-variants.{Conservative, Easy}
 use Rattle.scheduler.specs.declared.Opening.{Opening}
-use Rattle.history.specs.Calls.{Command, ask, wait, submit, order, complete, cancel}
+use Rattle.history.specs.Calls.{Command, ask, wait, submit, orderOf, complete, cancel}
 use Rattle.script_rules.specs.Lines.{Line}
 
 abbrev pub deskWord : List ℕ
@@ -44,6 +46,10 @@ dropWord = 100 ∷ 114 ∷ 111 ∷ 112 ∷ []
 abbrev pub numberAt : List ℕ → ℕ → Parsed
 numberAt s k = numberOf (fieldOf s k)
 
+-- and as a capital letter
+abbrev pub letterAt : List ℕ → ℕ → Parsed
+letterAt s k = capitalOf (fieldOf s k)
+
 -- n fields, the first of them the word w
 unfoldable pub hasForm : List ℕ → ℕ → List ℕ → Bool
 hasForm s n w = eqb (length (fieldsOf s)) n && isWord w (fieldOf s 0)
@@ -60,26 +66,20 @@ abbrev pub withKind : {A : Type 0} → Option Kind → (Kind → Option A) → O
 withKind (some k) f = f k
 withKind none f = none
 
-abbrev opened : Kind → (nodes minute ticket cleanup : ℕ) → Opening
-opened k n m t c = record { settings = record { kind = k; nodes = n; cleanup = c }; minute = m; ticket = t }
-
 unfoldable pub openingIn : List ℕ → Option Opening
 openingIn s =
     cond
-    (hasForm s 5 deskWord)
+    (hasForm s 8 deskWord)
     (withKind (kindOf (fieldOf s 1)) (λ k. withNumber (numberAt s 2) (λ n. withNumber (numberAt s 3) (λ m. withNumber (numberAt s 4) (λ t.
-    some (opened k n m t 0))))))
-    (cond
-    (hasForm s 6 deskWord)
-    (withKind (kindOf (fieldOf s 1)) (λ k. withNumber (numberAt s 2) (λ n. withNumber (numberAt s 3) (λ m. withNumber (numberAt s 4) (λ t.
-    withNumber (numberAt s 5) (λ c. some (opened k n m t c)))))))
-    none)
+    withNumber (numberAt s 5) (λ c. withNumber (numberAt s 6) (λ a. withNumber (numberAt s 7) (λ b.
+    some (record { settings = record { kind = k; nodes = n; cleanup = c; «quota_a» = a; «quota_b» = b }; minute = m; ticket = t })))))))))
+    none
 
 unfoldable pub commandIn : List ℕ → Option Command
 commandIn s =
     cond
-    (hasForm s 3 inWord)
-    (withNumber (numberAt s 1) (λ n. withNumber (numberAt s 2) (λ e. some (ask (submit (order n e))))))
+    (hasForm s 4 inWord)
+    (withNumber (numberAt s 1) (λ n. withNumber (numberAt s 2) (λ e. withNumber (letterAt s 3) (λ h. some (ask (submit (orderOf (tenantOf h) n e)))))))
     (cond
     (hasForm s 2 endWord)
     (withNumber (numberAt s 1) (λ t. some (ask (complete t))))

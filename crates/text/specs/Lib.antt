@@ -5,6 +5,7 @@ pub mod Numbers
 pub mod NumberLaws
 pub mod LeadingLaws
 pub mod WriterLaws
+pub mod Letters
 pub mod Words
 pub mod WordLaws
 pub mod Lines

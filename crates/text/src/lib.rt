@@ -9,6 +9,7 @@ ghost use Rattle.text.specs.Prefixes.{upto};
 ghost use Rattle.text.specs.Lines.{lineAt};
 ghost use Rattle.text.specs.Numbers.{digitsFrom, numberOf, numbersFrom, decimalOf};
 ghost use Rattle.text.specs.Words.{isWord};
+ghost use Rattle.text.specs.Letters.{capitalOf};
 
 const TAB: u8 = 9;
 
@@ -153,6 +154,23 @@ pub fn field_numbers(line: &[u8], k: usize) -> Numbers
         count: count,
         values: values,
     }
+}
+
+// The one capital letter that a part is, as its byte.
+pub fn capital(part: &[u8]) -> Parsed
+    ensures { λ r. ⌜ r ≡ capitalOf (now (part .entry)) ⌝ }
+{
+    if part.len() != 1 {
+        return Parsed::Not;
+    }
+    let byte = part[0];
+    if byte < 65 {
+        return Parsed::Not;
+    }
+    if 90 < byte {
+        return Parsed::Not;
+    }
+    Parsed::Is(byte as u32)
 }
 
 // Whether a part is this word.

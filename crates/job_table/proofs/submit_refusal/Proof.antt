@@ -5,9 +5,11 @@ use mathlib.Core.Bool.{true, false}
 use mathlib.Core.List.{[], _∷_}
 use lib.Dec.{leb, ltb}
 use borrow.Author.Needs.{needs}
-use borrow.Author.Tests.{le-leb, lt-leb, lt-ltb, le-ltb}
+use borrow.Author.Tests.{le-leb, lt-leb, lt-ltb, le-ltb, not-true, not-false}
 use Rattle.scheduler.specs.declared.Refusal.the-variants as refusal
-use Rattle.scheduler.specs.Limits.{slots, longestEstimate, lastTicket, outside}
+use Rattle.scheduler.specs.Limits.{longestEstimate, lastTicket, outside}
+use Rattle.scheduler.specs.Tenants.{known}
+use Rattle.scheduler.specs.Settings.{quota}
 use Rattle.scheduler.specs.Answers.{verdict}
 use Rattle.job_table.specs.Parts.{refusalBy}
 use Rattle.job_table.proofs.submit_refusal.Statement.{statement}
@@ -16,47 +18,61 @@ use Rattle.job_table.proofs.submit_refusal.Tie as tie
 returns : tie.Need-returns
 unfolding verdict refusalBy
 returns c =
-    let w = c .before in
-    let x = w .before .args in
-    let a : outside 1 (x .settings .nodes) (x .s .nodes) ≡ true = sym (w .outside-range .ensures) ∙ c .if1 .taken in
-    rw a
+    let x = c .before .before .args in
+    let k : known (x .s .tenant) ≡ false = sym (c .before .is-known .ensures) ∙ not-true _ (c .if1 .taken) in
+    rw k
+
+-- the tenant is known
+is-one : (c : tie.Else1) → known (c .before .before .args .s .tenant) ≡ true
+is-one c = sym (c .before .is-known .ensures) ∙ not-false _ (c .if1 .left)
 
 returns-2 : tie.Need-returns-2
 unfolding verdict refusalBy
 returns-2 c =
+    let w = c .before in
+    let x = w .before .before .before .args in
+    let a : outside 1 (x .settings .nodes) (x .s .nodes) ≡ true = sym (w .outside-range .ensures) ∙ c .if2 .taken in
+    rw (is-one (w .before), a)
+
+returns-3 : tie.Need-returns-3
+unfolding verdict refusalBy
+returns-3 c =
     let v = c .before in
     let e = v .before in
     let w = e .before in
-    let x = w .before .args in
-    let a : outside 1 (x .settings .nodes) (x .s .nodes) ≡ false = sym (w .outside-range .ensures) ∙ e .if1 .left in
-    let b : outside 1 longestEstimate (x .s .estimate) ≡ true = sym (v .outside-range2 .ensures) ∙ c .if2 .taken in
-    rw (a, b)
+    let x = w .before .before .before .args in
+    let a : outside 1 (x .settings .nodes) (x .s .nodes) ≡ false = sym (w .outside-range .ensures) ∙ e .if2 .left in
+    let b : outside 1 longestEstimate (x .s .estimate) ≡ true = sym (v .outside-range2 .ensures) ∙ c .if3 .taken in
+    rw (is-one (w .before), a, b)
 
--- nodes and estimate are in range: the tests that are left
-rest : (c : tie.Else2)
-    → let x = c .before .before .before .before .args in
+-- tenant, nodes and estimate pass: the tests that are left
+rest : (q : tie.After-quota)
+    → let x = q .before .before .before .before .before .before .before .args in
     refusalBy (x .settings) (x .live) (x .next) (x .s)
-    ≡ verdict ((leb slots (x .live), refusal.Full) ∷ (ltb lastTicket (x .next), refusal.NoTicketLeft) ∷ [])
+    ≡ verdict ((leb (q .quota .result) (x .live), refusal.QuotaFull) ∷ (ltb lastTicket (x .next), refusal.NoTicketLeft) ∷ [])
 unfolding verdict refusalBy
-rest c =
+rest q =
+    let c = q .before in
     let v = c .before in
     let w = v .before .before in
-    let x = w .before .args in
-    let a : outside 1 (x .settings .nodes) (x .s .nodes) ≡ false = sym (w .outside-range .ensures) ∙ v .before .if1 .left in
-    let b : outside 1 longestEstimate (x .s .estimate) ≡ false = sym (v .outside-range2 .ensures) ∙ c .if2 .left in
-    rw (a, b)
-
-returns-3 : tie.Need-returns-3
-unfolding verdict
-returns-3 c = rw (rest (c .before), le-leb slots _ (c .if3 .taken))
+    let x = w .before .before .before .args in
+    let a : outside 1 (x .settings .nodes) (x .s .nodes) ≡ false = sym (w .outside-range .ensures) ∙ v .before .if2 .left in
+    let b : outside 1 longestEstimate (x .s .estimate) ≡ false = sym (v .outside-range2 .ensures) ∙ c .if3 .left in
+    rw (is-one (w .before), a, b, q .quota .ensures)
 
 returns-4 : tie.Need-returns-4
 unfolding verdict
-returns-4 c = rw (rest (c .before .before), lt-leb slots _ (c .before .if3 .left), lt-ltb lastTicket _ (c .if4 .taken))
+returns-4 c = rw (rest (c .before), le-leb _ _ (c .if4 .taken))
 
 returns-5 : tie.Need-returns-5
 unfolding verdict
-returns-5 c = rw (rest (c .before .before), lt-leb slots _ (c .before .if3 .left), le-ltb lastTicket _ (c .if4 .left))
+returns-5 c = rw (rest (c .before .before), lt-leb _ _ (c .before .if4 .left), lt-ltb lastTicket _ (c .if5 .taken))
+
+returns-6 : tie.Need-returns-6
+unfolding verdict
+returns-6 c = rw (rest (c .before .before), lt-leb _ _ (c .before .if4 .left), le-ltb lastTicket _ (c .if5 .left))
 
 pub submit-refusal-spec : {M : Type 1} → statement M
-submit-refusal-spec = tie.close (tie.spec (λ c κs. search needs) returns (λ c κs. search needs) returns-2 returns-3 returns-4 returns-5)
+submit-refusal-spec =
+    tie.close (tie.spec (λ c κs. search needs) returns (λ c κs. search needs) returns-2 (λ c κs. search needs) returns-3 (λ c κs. search needs)
+    (λ c. search needs) returns-4 returns-5 returns-6)

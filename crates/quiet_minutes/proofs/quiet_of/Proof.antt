@@ -10,7 +10,8 @@ use Rattle.quiet_minutes.proofs.quiet_of.Tie as tie
 add-before : tie.Need-add-before
 add-before c =
     let s = c .before .before .before .before .before in
-    omega (arith, c .before .run-time .ensures, hold-le (s .args .settings) (s .args .job .estimate), hold-is (s .args .settings) (s .args .job .estimate), s .pre .0)
+    let a = s .args in
+    omega (arith, c .before .run-time .ensures, hold-le (a .settings) (a .job .estimate), hold-is (a .settings) (a .job .estimate), s .pre .0)
 
 returns : tie.Need-returns
 returns c =

@@ -1,14 +1,15 @@
 -- `script_reading::read_later` meets its contract: the forms are tried one after the other.
 -- Assumes nothing.
-use mathlib.Core.Path.{_≡_, _∙_}
+use mathlib.Core.Path.{_≡_, sym, ap, _∙_}
 use mathlib.Core.Bool.{Bool, false}
 use mathlib.Core.List.{List}
 use mathlib.Core.Option.{Option}
 use Prim.Native.Nat.{ℕ, _≤_}
 use native.Mathlib.Omega.{arith}
+use Rattle.text.specs.Letters.{capitalOf}
 use Rattle.scheduler.specs.declared.Departure.the-variants.{Complete, Cancel}
 use Rattle.history.specs.Calls.{Command}
-use Rattle.script_rules.specs.Reading.{hasForm, inWord, endWord, waitWord, dropWord, commandIn}
+use Rattle.script_rules.specs.Reading.{hasForm, letterAt, inWord, endWord, waitWord, dropWord, commandIn}
 use Rattle.script_reading.specs.Meaning.{formFrom, form-said, whenRead, withNumbers, with-read, submissionOf, departureOf, waitOf}
 use borrow.Author.Needs.{needs}
 use Rattle.script_reading.proofs.read_later.Statement.{statement}
@@ -26,8 +27,8 @@ form c n w = form-said (line c) n w (c .before .before .field-count .ensures) (c
 says : (c : tie.After-field-numbers) (n : ℕ) (f : List ℕ → Option Command) → n ≤ 8 → whenRead n (c .field-numbers .result) f ≡ withNumbers (line c) 1 n f
 says c n f few = with-read (line c) n 1 f few (c .field-numbers .ensures)
 
-not-in : (c : tie.Else1) → hasForm (line (c .before .before .before)) 3 inWord ≡ false
-not-in c = form (c .before .before .before) 3 inWord (c .before .has-form .ensures) (c .if1 .left)
+not-in : (c : tie.Else1) → hasForm (line (c .before .before .before)) 4 inWord ≡ false
+not-in c = form (c .before .before .before) 4 inWord (c .before .has-form .ensures) (c .if1 .left)
 
 not-end : (c : tie.Else2) → hasForm (line (c .before .before .before .before .before .before)) 2 endWord ≡ false
 not-end c = form (c .before .before .before .before .before .before) 2 endWord (c .before .has-form2 .ensures) (c .if2 .left)
@@ -39,9 +40,12 @@ not-wait c =
 returns : tie.Need-returns
 unfolding commandIn
 returns c =
-    let p = c .before in
+    let l = c .before in
+    let p = l .before .before in
     let n = p .before .before .before in
-    rw (form n 3 inWord (p .before .has-form .ensures) (p .if1 .taken)) (c .submission .ensures ∙ says n 2 submissionOf (omega arith))
+    let h : l .capital .result ≡ letterAt (line n) 3 = l .capital .ensures ∙ ap capitalOf (l .before .field2 .ensures) in
+    rw (form n 4 inWord (p .before .has-form .ensures) (p .if1 .taken), sym h)
+    (c .submission .ensures ∙ says n 2 (submissionOf (l .capital .result)) (omega arith))
 
 returns-2 : tie.Need-returns-2
 unfolding commandIn
@@ -82,5 +86,5 @@ returns-5 c =
 pub read-later-spec : {M : Type 1} → statement M
 read-later-spec =
     tie.close (tie.spec (λ c κs. search needs) (λ c κs. search needs) (λ c κs. search needs) (λ c. search needs) (λ c κs. search needs)
-    (λ c κs. search needs) returns (λ c. search needs) (λ c κs. search needs) (λ c κs. search needs) returns-2 (λ c. search needs)
+    (λ c κs. search needs) (λ c κs. search needs) (λ c κs. search needs) returns (λ c. search needs) (λ c κs. search needs) (λ c κs. search needs) returns-2 (λ c. search needs)
     (λ c κs. search needs) (λ c κs. search needs) returns-3 (λ c. search needs) (λ c κs. search needs) (λ c κs. search needs) returns-4 returns-5)
