@@ -13,19 +13,28 @@ from pathlib import Path
 LIMIT = 65_536
 GROWTH = (8, 16, 32, 64)
 PAIRS = 400
+# A's places are more than most sheets fill. Where all 64 are wanted, the last jobs are B's.
+PLACES = {"A": 63, "B": 1}
+SHARED = {"A": 60, "B": 4}
 
 
 class Sheet:
-    def __init__(self, program, kind, nodes):
+    def __init__(self, program, kind, nodes, places=PLACES):
         self.program = program
         self.text = bytearray()
         self.seen = 0
         self.live = set()
         self.running = set()
-        self.line("desk", kind, nodes, 0, 1)
+        self.houses = {}
+        self.line("desk", kind, nodes, 0, 1, 0, places["A"], places["B"])
 
     def line(self, *fields):
         self.text += "\t".join(map(str, fields)).encode() + b"\n"
+
+    def submit(self, nodes, estimate, house="A"):
+        """No submission is refused, so that tickets are given one after another."""
+        self.line("in", nodes, estimate, house)
+        self.houses[len(self.houses) + 1] = house
 
     def room(self, need):
         return len(self.text) + need <= LIMIT
@@ -48,20 +57,20 @@ class Sheet:
         ended = rng.sample(sorted(self.running), min(most, len(self.running)))
         for ticket in ended:
             self.line("end", ticket)
-        return len(ended)
+        return ended
 
 
 def early_ends(program, kind, seed, nodes, widest, longest):
-    """Some 60 live jobs; thousands of early ends, each followed by a submission, and short waits."""
+    """Some 60 live jobs, all A's; thousands of early ends, each followed by a submission, and short waits."""
     rng = random.Random(seed)
     sheet = Sheet(program, kind, nodes)
     for _ in range(60):
-        sheet.line("in", rng.randint(1, widest), rng.randint(1, longest))
+        sheet.submit(rng.randint(1, widest), rng.randint(1, longest))
     while sheet.room(300):
         sheet.ask()
-        sheet.end_some(rng, 6)
-        for _ in range(60 - len(sheet.live) + 6):
-            sheet.line("in", rng.randint(1, widest), rng.randint(1, longest))
+        ended = sheet.end_some(rng, 6)
+        for _ in range(min(60 + 6, PLACES["A"] + len(ended)) - len(sheet.live)):
+            sheet.submit(rng.randint(1, widest), rng.randint(1, longest))
         if rng.random() < 0.5:
             sheet.line("wait", rng.randint(1, 5))
     return sheet
@@ -75,7 +84,7 @@ def long_waits(program, kind, seed, minutes):
     while clock < minutes and sheet.room(1_000):
         sheet.ask()
         for _ in range(60 - len(sheet.live)):
-            sheet.line("in", rng.randint(1, 16), rng.randint(1_000, 10_080))
+            sheet.submit(rng.randint(1, 16), rng.randint(1_000, 10_080))
         step = min(rng.randint(500, 2_000), minutes - clock)
         sheet.line("wait", step)
         clock += step
@@ -83,20 +92,20 @@ def long_waits(program, kind, seed, minutes):
 
 
 def growth(program, kind, live):
-    """Pairs of texts that differ by one submission, by one early end, and by PAIRS of an early end and a submission."""
+    """Pairs of texts that differ by one submission, by one early end, and by PAIRS of an early end and a submission of the same house."""
     rng = random.Random(live)
-    jobs = [(rng.randint(1, 64), rng.randint(1, 480)) for _ in range(live)]
-    sheet = Sheet(program, kind, 64)
+    jobs = [(rng.randint(1, 64), rng.randint(1, 480), "A" if i < SHARED["A"] else "B") for i in range(live)]
+    sheet = Sheet(program, kind, 64, SHARED)
     for job in jobs[:-1]:
-        sheet.line("in", *job)
+        sheet.submit(*job)
     less = bytes(sheet.text)
-    sheet.line("in", *jobs[-1])
+    sheet.submit(*jobs[-1])
     full = bytes(sheet.text)
     ended = full + b"end\t1\n"
     for _ in range(PAIRS):
         sheet.ask()
-        sheet.end_some(rng, 1)
-        sheet.line("in", rng.randint(1, 64), rng.randint(1, 480))
+        (over,) = sheet.end_some(rng, 1)
+        sheet.submit(rng.randint(1, 64), rng.randint(1, 480), sheet.houses[over])
     return {"less": less, "full": full, "ended": ended, "pairs": bytes(sheet.text)}
 
 

@@ -11,7 +11,7 @@ static const char *const reasons[] = {
     "nodes out of range",
     "an estimate or a wait outside 1 to 10,080",
     "opened past minute 1,000,000, or with a first ticket outside 1 to 999,999",
-    "64 jobs are live",
+    "no such refusal",
     "ticket 999,999 has been given",
     "past the last minute, 1,000,000",
     "the ticket is not running",
@@ -20,6 +20,9 @@ static const char *const reasons[] = {
     "the list is too short",
     "the ticket is not waiting",
     "opened with a cleanup above 30",
+    "opened with places that are not 64 together, or with none for a house",
+    "neither house A nor house B",
+    "the house's places are all live",
 };
 
 static void print_tickets(const char *what, const hingerota_tickets *tickets)
@@ -48,7 +51,9 @@ static void print_answer(const hingerota_desk *desk, const hingerota_answer *ans
 static int play(hingerota_opened opened)
 {
     static const hingerota_order orders[] = {
-        {.nodes = 6, .estimate = 20}, {.nodes = 8, .estimate = 10}, {.nodes = 4, .estimate = 25}, {.nodes = 11, .estimate = 5}};
+        {.nodes = 6, .estimate = 20, .tenant = HINGEROTA_TENANT_A}, {.nodes = 8, .estimate = 10, .tenant = HINGEROTA_TENANT_B},
+        {.nodes = 4, .estimate = 25, .tenant = HINGEROTA_TENANT_A}, {.nodes = 11, .estimate = 5, .tenant = HINGEROTA_TENANT_A},
+        {.nodes = 1, .estimate = 5, .tenant = HINGEROTA_TENANT_B}};
     hingerota_desk *desk = &opened.desk;
     hingerota_answer answer;
 
@@ -58,7 +63,7 @@ static int play(hingerota_opened opened)
     }
     for (size_t i = 0; i < sizeof orders / sizeof orders[0]; i++) {
         answer = hingerota_submit(desk, orders[i]);
-        printf("submit %" PRIu32 " %" PRIu32 ":", orders[i].nodes, orders[i].estimate);
+        printf("submit %" PRIu32 " %" PRIu32 " %c:", orders[i].nodes, orders[i].estimate, (int)orders[i].tenant);
         print_answer(desk, &answer);
     }
 
@@ -82,11 +87,11 @@ static int play(hingerota_opened opened)
 
 int main(void)
 {
-    hingerota_opening opening = {.nodes = 10, .minute = 0, .ticket = 1, .cleanup = 0};
+    hingerota_opening opening = {.nodes = 10, .minute = 0, .ticket = 1, .cleanup = 0, .quota_a = 63, .quota_b = 1};
 
-    printf("promise desk, 10 nodes, minute 0, first ticket 1\n");
+    printf("promise desk, 10 nodes, minute 0, first ticket 1, 63 places for A and 1 for B\n");
     if (play(hingerota_open_promise(opening)))
         return 1;
-    printf("loose desk, 10 nodes, minute 0, first ticket 1\n");
+    printf("loose desk, 10 nodes, minute 0, first ticket 1, 63 places for A and 1 for B\n");
     return play(hingerota_open_loose(opening));
 }

@@ -1,7 +1,7 @@
 //! A host program to copy: one machine of 10 nodes, whose minutes and completions it tells the desk. It prints what the desk answers.
 //! `cargo run --offline --example first_day`
 
-use hingerota_host::{reason, Answer, Desk, Kind, Opening, Order, Point, MOST_POINTS};
+use hingerota_host::{reason, Answer, Desk, Kind, Opening, Order, Point, MOST_POINTS, TENANT_A, TENANT_B};
 
 fn print(desk: &Desk, call: &str, answer: &Answer) {
     print!("{call}:");
@@ -29,14 +29,14 @@ fn print(desk: &Desk, call: &str, answer: &Answer) {
 
 fn main() {
     for (kind, name) in [(Kind::Promise, "promise"), (Kind::Loose, "loose")] {
-        println!("{name} desk, 10 nodes, minute 0, first ticket 1");
-        let mut desk = match Desk::open(kind, Opening { nodes: 10, minute: 0, ticket: 1, cleanup: 0 }) {
+        println!("{name} desk, 10 nodes, minute 0, first ticket 1, 63 places for A and 1 for B");
+        let mut desk = match Desk::open(kind, Opening { nodes: 10, minute: 0, ticket: 1, cleanup: 0, quota_a: 63, quota_b: 1 }) {
             Ok(desk) => desk,
             Err(refused) => panic!("{}", reason(refused.refusal)),
         };
-        for (nodes, estimate) in [(6, 20), (8, 10), (4, 25), (11, 5)] {
-            let answer = desk.submit(Order { nodes, estimate });
-            print(&desk, &format!("submit {nodes} {estimate}"), &answer);
+        for (nodes, estimate, tenant) in [(6, 20, TENANT_A), (8, 10, TENANT_B), (4, 25, TENANT_A), (11, 5, TENANT_A), (1, 5, TENANT_B)] {
+            let answer = desk.submit(Order { nodes, estimate, tenant });
+            print(&desk, &format!("submit {nodes} {estimate} {}", char::from(tenant as u8)), &answer);
         }
         let mut points = [Point { minute: 0, free: 0 }; MOST_POINTS];
         let shown = desk.profile(&mut points);

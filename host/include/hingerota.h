@@ -5,6 +5,8 @@
  *
  * A desk is the scheduler of one machine. A job is submitted with a number of nodes and an estimate in minutes, and gets a ticket. After
  * its run its nodes stay taken for the minutes of cleanup that the desk was opened with: they are wiped before another job gets them.
+ * Two tenants, the houses A and B, use a desk. It has places for 64 live jobs, waiting, running and in cleanup, and each tenant has a
+ * quota of them.
  *
  * The premise. Every call is proved for desks that meet it, and says nothing of others:
  *   - a desk is made by hingerota_open_promise or hingerota_open_loose alone, and changed by the calls of this header alone;
@@ -17,9 +19,10 @@
  * What is proved. Each call gives exactly what its definition says (docs/ARCHITECTURE.md): answer, desk and points. Over every list of
  * calls on a desk: a job of a Promise Desk starts no later than its promise; a job of a Loose Desk starts no later than its bound, the
  * minute of its submission + 10,080 and the cleanup for each job that waited then and for itself; every head of a Loose Desk hears a
- * forecast and starts no later; and the jobs that run, with those that ended fewer minutes ago than the cleanup has, never hold more nodes
- * than the machine has. A promise, a bound and a forecast bind until the job is withdrawn: that was before any of these minutes. A job that
- * is withdrawn never starts.
+ * forecast and starts no later; the jobs that run, with those that ended fewer minutes ago than the cleanup has, never hold more nodes
+ * than the machine has; and of each tenant these and those that wait are never more than its quota. A promise, a bound and a forecast bind
+ * until the job is withdrawn: that was before any of these minutes. A job that is withdrawn never starts. Minutes depend on the jobs of
+ * both tenants, and are kept for both.
  */
 #ifndef HINGEROTA_H
 #define HINGEROTA_H
@@ -44,21 +47,25 @@ enum {
 /* Why a call is refused. A refused call gives its number and nothing else, and leaves the desk and the points as they were. */
 enum {
     HINGEROTA_TAKEN = 0,
-    HINGEROTA_NODES_OUT_OF_RANGE = 1,   /* an opening outside 1 to 1,024; a job with 0, or more than the machine has */
-    HINGEROTA_MINUTES_OUT_OF_RANGE = 2, /* an estimate or a wait outside 1 to 10,080 */
-    HINGEROTA_OPENING_OUT_OF_RANGE = 3, /* a first minute above 1,000,000, or a first ticket outside 1 to 999,999 */
-    HINGEROTA_FULL = 4,                 /* 64 jobs are live */
-    HINGEROTA_NO_TICKET_LEFT = 5,       /* ticket 999,999 has been given */
-    HINGEROTA_PAST_LAST_MINUTE = 6,     /* a job whose nodes could be taken after minute 1,000,000; a tick or a wait past it */
-    HINGEROTA_NOT_RUNNING = 7,          /* the ticket is of no running job; one in cleanup runs no more */
-    HINGEROTA_PROFILE_TOO_LONG = 8,     /* more than 129 points; proved never to occur */
-    HINGEROTA_TOO_SHORT = 10,           /* the points do not fit into the list lent */
-    HINGEROTA_NOT_WAITING = 11,         /* the ticket is of no waiting job */
-    HINGEROTA_CLEANUP_OUT_OF_RANGE = 12 /* an opening with a cleanup above 30 */
+    HINGEROTA_NODES_OUT_OF_RANGE = 1,    /* an opening outside 1 to 1,024; a job with 0, or more than the machine has */
+    HINGEROTA_MINUTES_OUT_OF_RANGE = 2,  /* an estimate or a wait outside 1 to 10,080 */
+    HINGEROTA_OPENING_OUT_OF_RANGE = 3,  /* a first minute above 1,000,000, or a first ticket outside 1 to 999,999 */
+    /* 4 is given no more: 15 has its place */
+    HINGEROTA_NO_TICKET_LEFT = 5,        /* ticket 999,999 has been given */
+    HINGEROTA_PAST_LAST_MINUTE = 6,      /* a job whose nodes could be taken after minute 1,000,000; a tick or a wait past it */
+    HINGEROTA_NOT_RUNNING = 7,           /* the ticket is of no running job; one in cleanup runs no more */
+    HINGEROTA_PROFILE_TOO_LONG = 8,      /* more than 129 points; proved never to occur */
+    HINGEROTA_TOO_SHORT = 10,            /* the points do not fit into the list lent */
+    HINGEROTA_NOT_WAITING = 11,          /* the ticket is of no waiting job */
+    HINGEROTA_CLEANUP_OUT_OF_RANGE = 12, /* an opening with a cleanup above 30 */
+    HINGEROTA_QUOTAS_OUT_OF_RANGE = 13,  /* an opening with quotas that are not 64 together, or with one of 0 */
+    HINGEROTA_UNKNOWN_TENANT = 14,       /* a job of neither tenant */
+    HINGEROTA_QUOTA_FULL = 15            /* the tenant has as many live jobs as its quota */
 };
 
 enum { HINGEROTA_PROMISE = 0, HINGEROTA_LOOSE = 1 };                                                /* of a desk */
 enum { HINGEROTA_UNUSED = 0, HINGEROTA_WAITING = 1, HINGEROTA_RUNNING = 2, HINGEROTA_CLEANUP = 3 }; /* of a record */
+enum { HINGEROTA_TENANT_A = 65, HINGEROTA_TENANT_B = 66 };                                          /* their letters */
 
 /* What a desk is opened with. */
 typedef struct {
@@ -66,13 +73,16 @@ typedef struct {
     uint32_t minute;  /* at which its clock stands */
     uint32_t ticket;  /* the first to be given */
     uint32_t cleanup; /* for so many minutes after a run its nodes stay taken, 0 to 30 */
-} hingerota_opening; /* 16 bytes */
+    uint32_t quota_a; /* so many live jobs A may have, at least 1 */
+    uint32_t quota_b; /* and B; 64 together */
+} hingerota_opening; /* 24 bytes */
 
 /* What is asked for a job. */
 typedef struct {
     uint32_t nodes;
     uint32_t estimate; /* in minutes */
-} hingerota_order; /* 8 bytes */
+    uint32_t tenant;
+} hingerota_order; /* 12 bytes */
 
 /* A live job, or an unused place, which is all 0. `start` is that of a job that has started, and the planned one of a job that waits on a
  * Promise Desk. On a Loose Desk `promise`, and the start of a job that waits, are 0. A job in cleanup has ended and is still live; `end` is
@@ -82,20 +92,23 @@ typedef struct {
     uint16_t nodes;
     uint16_t estimate;
     uint32_t state;
+    uint32_t tenant;
     uint32_t start;
     uint32_t promise;
     uint32_t end;
-} hingerota_record; /* 24 bytes */
+} hingerota_record; /* 28 bytes */
 
 /* The live jobs stand first, in the order of their tickets. */
 typedef struct {
     uint32_t kind;
     uint32_t nodes;
-    uint32_t cleanup; /* as it was opened */
+    uint32_t cleanup; /* as it was opened, and the quotas */
+    uint32_t quota_a;
+    uint32_t quota_b;
     uint32_t clock;
     uint32_t next; /* the next ticket */
     hingerota_record jobs[64];
-} hingerota_desk; /* 1,556 bytes */
+} hingerota_desk; /* 1,820 bytes */
 
 /* Tickets; the places past the count are 0. */
 typedef struct {
@@ -117,7 +130,7 @@ typedef struct {
 typedef struct {
     uint32_t refusal;
     hingerota_desk desk;
-} hingerota_opened; /* 1,560 bytes */
+} hingerota_opened; /* 1,824 bytes */
 
 /* `free` nodes are free from `minute` on. */
 typedef struct {
@@ -130,15 +143,15 @@ typedef struct {
     size_t count;
 } hingerota_shown; /* 16 bytes */
 
-/* An empty desk, as the opening says. Refused by 1, 3 or 12, the first that applies; the desk is then of its kind, with 1 node, minute 0,
- * ticket 1 and cleanup 0.
+/* An empty desk, as the opening says. Refused by 1, 3, 12 or 13, the first that applies; the desk is then of its kind, with 1 node,
+ * minute 0, ticket 1, cleanup 0 and quotas of 63 and 1.
  * Promise: conservative backfilling. Loose: EASY backfilling. */
 hingerota_opened hingerota_open_promise(hingerota_opening opening);
 hingerota_opened hingerota_open_loose(hingerota_opening opening);
 
 /* A job is submitted. Its nodes are kept for its estimate rounded up: to 120 minutes by fives, to 480 by tens, above by thirties; then
- * the desk ends it, and they are free again after the cleanup. It starts at once if its ticket stands in `started`. Refused by 1, 2, 4, 5,
- * 6 or 8, the first that applies. */
+ * the desk ends it, and they are free again after the cleanup. It starts at once if its ticket stands in `started`. Refused by 14, 1, 2,
+ * 15, 5, 6 or 8, the first of these that applies. */
 hingerota_answer hingerota_submit(hingerota_desk *d, hingerota_order order);
 
 /* A running job is over before its time: it stands in `ended`, and those that start now in `started`. Its nodes are free again after the

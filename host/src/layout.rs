@@ -25,10 +25,10 @@ macro_rules! layouts {
 #[test]
 fn layouts_are_those_of_the_header() {
     let (lines, numbers) = layouts! {
-        "hingerota_opening" Opening { nodes minute ticket cleanup }
-        "hingerota_order" Order { nodes estimate }
-        "hingerota_record" Record { ticket nodes estimate state start promise end }
-        "hingerota_desk" Desk { kind nodes cleanup clock next jobs }
+        "hingerota_opening" Opening { nodes minute ticket cleanup quota_a quota_b }
+        "hingerota_order" Order { nodes estimate tenant }
+        "hingerota_record" Record { ticket nodes estimate state tenant start promise end }
+        "hingerota_desk" Desk { kind nodes cleanup quota_a quota_b clock next jobs }
         "hingerota_tickets" Tickets { count list }
         "hingerota_answer" Answer { refusal ticket promise head forecast ended started }
         "hingerota_opened" Opened { refusal desk }

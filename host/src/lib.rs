@@ -12,6 +12,10 @@ pub use raw::{Answer, Opening, Order, Point, Record, Shown, Tickets};
 /// The list of points that always suffices.
 pub const MOST_POINTS: usize = 129;
 
+/// The two tenants of a machine, by their letters.
+pub const TENANT_A: u32 = b'A' as u32;
+pub const TENANT_B: u32 = b'B' as u32;
+
 /// Which rules a desk follows.
 #[derive(Clone, Copy, PartialEq, Eq, Debug)]
 pub enum Kind {
@@ -26,14 +30,15 @@ pub struct Desk {
     raw: raw::Desk,
 }
 
-/// A refused opening: its number, and the desk that it hands back, of 1 node, at minute 0, with first ticket 1 and cleanup 0.
+/// A refused opening: its number, and the desk that it hands back, of 1 node, at minute 0, with first ticket 1, cleanup 0 and quotas of 63
+/// and 1.
 pub struct RefusedOpening {
     pub refusal: u32,
     pub desk: Desk,
 }
 
 impl Desk {
-    /// An empty desk; refused by 1, 3 or 12.
+    /// An empty desk; refused by 1, 3, 12 or 13.
     pub fn open(kind: Kind, opening: Opening) -> Result<Desk, Box<RefusedOpening>> {
         // SAFETY: openings take numbers and ask nothing.
         let opened = unsafe {
@@ -52,7 +57,7 @@ impl Desk {
     // SAFETY of the calls: `self.raw` came from an opening or a call, since nothing else makes or changes it; it is borrowed whole, so
     // nobody else writes it meanwhile; a slice points to as many places as its length says, and is no part of the desk.
 
-    /// A job is submitted; refused by 1, 2, 4, 5, 6 or 8.
+    /// A job is submitted; refused by 14, 1, 2, 15, 5, 6 or 8.
     pub fn submit(&mut self, order: Order) -> Answer {
         unsafe { raw::hingerota_submit(&mut self.raw, order) }
     }
@@ -98,6 +103,16 @@ impl Desk {
         self.raw.cleanup
     }
 
+    /// So many live jobs A may have.
+    pub fn quota_a(&self) -> u32 {
+        self.raw.quota_a
+    }
+
+    /// So many live jobs B may have.
+    pub fn quota_b(&self) -> u32 {
+        self.raw.quota_b
+    }
+
     pub fn clock(&self) -> u32 {
         self.raw.clock
     }
@@ -140,7 +155,6 @@ pub fn reason(refusal: u32) -> &'static str {
         1 => "nodes out of range",
         2 => "an estimate or a wait outside 1 to 10,080",
         3 => "opened past minute 1,000,000, or with a first ticket outside 1 to 999,999",
-        4 => "64 jobs are live",
         5 => "ticket 999,999 has been given",
         6 => "past the last minute, 1,000,000",
         7 => "the ticket is not running",
@@ -148,6 +162,9 @@ pub fn reason(refusal: u32) -> &'static str {
         10 => "the list is too short",
         11 => "the ticket is not waiting",
         12 => "opened with a cleanup above 30",
+        13 => "opened with places that are not 64 together, or with none for a house",
+        14 => "neither house A nor house B",
+        15 => "the house's places are all live",
         _ => "no such refusal",
     }
 }

@@ -12,6 +12,9 @@ pub struct Opening {
     pub ticket: u32,
     /// For so many minutes after a run its nodes stay taken, 0 to 30.
     pub cleanup: u32,
+    /// So many live jobs each tenant may have: at least 1, and 64 together.
+    pub quota_a: u32,
+    pub quota_b: u32,
 }
 
 /// What is asked for a job.
@@ -21,6 +24,8 @@ pub struct Order {
     pub nodes: u32,
     /// In minutes.
     pub estimate: u32,
+    /// `TENANT_A` or `TENANT_B`.
+    pub tenant: u32,
 }
 
 #[repr(C)]
@@ -31,6 +36,8 @@ pub struct Record {
     pub estimate: u16,
     /// 0 unused, 1 waiting, 2 running, 3 in cleanup.
     pub state: u32,
+    /// `TENANT_A` or `TENANT_B`, 0 in an unused record.
+    pub tenant: u32,
     pub start: u32,
     pub promise: u32,
     /// Of a job in cleanup, the minute in which its run ended; 0 of others.
@@ -42,6 +49,8 @@ pub struct Desk {
     pub kind: u32,
     pub nodes: u32,
     pub cleanup: u32,
+    pub quota_a: u32,
+    pub quota_b: u32,
     pub clock: u32,
     pub next: u32,
     pub jobs: [Record; 64],

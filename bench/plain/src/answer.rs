@@ -5,13 +5,15 @@ pub enum Refusal {
     Nodes = 1,
     Minutes = 2,
     Opening = 3,
-    Full = 4,
     Tickets = 5,
     Horizon = 6,
     NotRunning = 7,
     Form = 9,
     NotWaiting = 11,
     Cleanup = 12,
+    Quotas = 13,
+    Tenant = 14,
+    Full = 15,
 }
 
 /// The printout.

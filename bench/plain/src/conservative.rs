@@ -2,6 +2,7 @@
 
 use crate::answer::{Printout, Refusal};
 use crate::limits::*;
+use crate::tenants::{Quotas, Tenant};
 
 #[derive(Clone, Copy, PartialEq, Eq)]
 enum State {
@@ -13,6 +14,7 @@ enum State {
 
 struct Job {
     ticket: u32,
+    tenant: Tenant,
     nodes: u32,
     /// Of a waiting job, the planned start.
     start: u32,
@@ -117,28 +119,29 @@ pub struct Conservative {
     cleanup: u32,
     now: u32,
     next: u32,
+    quotas: Quotas,
     /// In ticket order.
     jobs: Vec<Job>,
     profile: Profile,
 }
 
 impl Conservative {
-    pub fn open(nodes: u32, now: u32, ticket: u32, cleanup: u32) -> Self {
-        Conservative { nodes, cleanup, now, next: ticket, jobs: Vec::with_capacity(MAX_LIVE), profile: Profile::new(now, nodes) }
+    pub fn open(nodes: u32, now: u32, ticket: u32, cleanup: u32, quotas: Quotas) -> Self {
+        Conservative { nodes, cleanup, now, next: ticket, quotas, jobs: Vec::with_capacity(MAX_LIVE), profile: Profile::new(now, nodes) }
     }
 
     pub fn now(&self) -> u32 {
         self.now
     }
 
-    pub fn submit(&mut self, nodes: u32, estimate: u32, out: &mut Printout) -> Result<(), Refusal> {
+    pub fn submit(&mut self, nodes: u32, estimate: u32, tenant: Tenant, out: &mut Printout) -> Result<(), Refusal> {
         if nodes == 0 || nodes > self.nodes {
             return Err(Refusal::Nodes);
         }
         if estimate == 0 || estimate > MAX_ESTIMATE {
             return Err(Refusal::Minutes);
         }
-        if self.jobs.len() == MAX_LIVE {
+        if self.quotas.are_used_up(tenant) {
             return Err(Refusal::Full);
         }
         if self.next > MAX_TICKET {
@@ -154,8 +157,9 @@ impl Conservative {
         self.profile.reserve(start, until, nodes);
         let ticket = self.next;
         self.next += 1;
+        self.quotas.take(tenant);
         out.took(ticket, Some(start));
-        let mut job = Job { ticket, nodes, start, until, due: start, state: State::Waiting };
+        let mut job = Job { ticket, tenant, nodes, start, until, due: start, state: State::Waiting };
         if start == self.now {
             job.start(self.cleanup, out);
         }
@@ -171,7 +175,7 @@ impl Conservative {
         let until = self.now + self.cleanup;
         self.profile.release(until, self.jobs[at].until, self.jobs[at].nodes);
         if self.cleanup == 0 {
-            self.jobs.remove(at);
+            self.quotas.give_back(self.jobs.remove(at).tenant);
         } else {
             let job = &mut self.jobs[at];
             (job.until, job.due, job.state) = (until, until, State::Cleanup);
@@ -187,6 +191,7 @@ impl Conservative {
             return Err(Refusal::NotWaiting);
         }
         let withdrawn = self.jobs.remove(at);
+        self.quotas.give_back(withdrawn.tenant);
         self.profile.release(withdrawn.start, withdrawn.until, withdrawn.nodes);
         self.replan(out);
         Ok(())
@@ -223,6 +228,9 @@ impl Conservative {
                 if j.state == State::Running {
                     out.over(j.ticket, now);
                     (j.due, j.state) = (j.until, State::Cleanup);
+                }
+                if j.until == now {
+                    self.quotas.give_back(j.tenant);
                 }
                 j.until > now
             });

@@ -2,9 +2,12 @@
 
 use crate::answer::{Printout, Refusal};
 use crate::limits::*;
+use crate::tenants::{Quotas, Tenant};
 
+#[derive(Clone, Copy)]
 struct Waiting {
     ticket: u32,
+    tenant: Tenant,
     nodes: u32,
     /// The wall time and the cleanup.
     hold: u32,
@@ -13,6 +16,7 @@ struct Waiting {
 /// A job that runs, or whose nodes are not free yet after its run.
 struct Holding {
     ticket: u32,
+    tenant: Tenant,
     nodes: u32,
     /// The minute from which the nodes are free again. The run ends the minutes of cleanup before.
     until: u32,
@@ -23,6 +27,7 @@ pub struct Easy {
     cleanup: u32,
     now: u32,
     next: u32,
+    quotas: Quotas,
     free: u32,
     /// In ticket order.
     queue: Vec<Waiting>,
@@ -35,12 +40,13 @@ pub struct Easy {
 }
 
 impl Easy {
-    pub fn open(nodes: u32, now: u32, ticket: u32, cleanup: u32) -> Self {
+    pub fn open(nodes: u32, now: u32, ticket: u32, cleanup: u32, quotas: Quotas) -> Self {
         Easy {
             nodes,
             cleanup,
             now,
             next: ticket,
+            quotas,
             free: nodes,
             queue: Vec::with_capacity(MAX_LIVE),
             running: Vec::with_capacity(MAX_LIVE),
@@ -53,14 +59,14 @@ impl Easy {
         self.now
     }
 
-    pub fn submit(&mut self, nodes: u32, estimate: u32, out: &mut Printout) -> Result<(), Refusal> {
+    pub fn submit(&mut self, nodes: u32, estimate: u32, tenant: Tenant, out: &mut Printout) -> Result<(), Refusal> {
         if nodes == 0 || nodes > self.nodes {
             return Err(Refusal::Nodes);
         }
         if estimate == 0 || estimate > MAX_ESTIMATE {
             return Err(Refusal::Minutes);
         }
-        if self.queue.len() + self.running.len() + self.ended.len() == MAX_LIVE {
+        if self.quotas.are_used_up(tenant) {
             return Err(Refusal::Full);
         }
         if self.next > MAX_TICKET {
@@ -73,7 +79,8 @@ impl Easy {
         }
         let ticket = self.next;
         self.next += 1;
-        self.queue.push(Waiting { ticket, nodes, hold });
+        self.quotas.take(tenant);
+        self.queue.push(Waiting { ticket, tenant, nodes, hold });
         out.took(ticket, None);
         self.settle(out);
         Ok(())
@@ -85,6 +92,7 @@ impl Easy {
         out.over(ticket, self.now);
         if self.cleanup == 0 {
             self.free += ended.nodes;
+            self.quotas.give_back(ended.tenant);
         } else {
             self.ended.push(Holding { until: self.now + self.cleanup, ..ended });
         }
@@ -94,7 +102,7 @@ impl Easy {
 
     pub fn cancel(&mut self, ticket: u32, out: &mut Printout) -> Result<(), Refusal> {
         let at = self.queue.binary_search_by_key(&ticket, |j| j.ticket).map_err(|_| Refusal::NotWaiting)?;
-        self.queue.remove(at);
+        self.quotas.give_back(self.queue.remove(at).tenant);
         self.settle(out);
         Ok(())
     }
@@ -112,7 +120,10 @@ impl Easy {
             self.now = end.min(freed);
             if freed == self.now {
                 let gone = self.ended.partition_point(|j| j.until == self.now);
-                self.free += self.ended.drain(..gone).map(|j| j.nodes).sum::<u32>();
+                for job in self.ended.drain(..gone) {
+                    self.free += job.nodes;
+                    self.quotas.give_back(job.tenant);
+                }
             }
             if end == self.now {
                 let over = self.running.partition_point(|j| j.until == self.now + self.cleanup);
@@ -120,6 +131,7 @@ impl Easy {
                     out.over(job.ticket, self.now);
                     if self.cleanup == 0 {
                         self.free += job.nodes;
+                        self.quotas.give_back(job.tenant);
                     } else {
                         self.ended.push(job);
                     }
@@ -132,12 +144,11 @@ impl Easy {
 
     fn settle(&mut self, out: &mut Printout) {
         let mut fit = 0;
-        while let Some(head) = self.queue.get(fit) {
+        while let Some(&head) = self.queue.get(fit) {
             if head.nodes > self.free {
                 break;
             }
-            let (ticket, nodes, hold) = (head.ticket, head.nodes, head.hold);
-            self.start(ticket, nodes, hold, out);
+            self.start(head, out);
             fit += 1;
         }
         self.queue.drain(..fit);
@@ -150,14 +161,14 @@ impl Easy {
         // did not qualify before does not qualify afterwards.
         let mut at = 1;
         while at < self.queue.len() && self.free > 0 {
-            let Waiting { ticket, nodes, hold } = self.queue[at];
+            let Waiting { nodes, hold, .. } = self.queue[at];
             let before_shadow = self.now + hold <= shadow;
             if nodes <= self.free && (before_shadow || nodes <= extra) {
                 if !before_shadow {
                     extra -= nodes;
                 }
-                self.queue.remove(at);
-                self.start(ticket, nodes, hold, out);
+                let job = self.queue.remove(at);
+                self.start(job, out);
             } else {
                 at += 1;
             }
@@ -185,11 +196,12 @@ impl Easy {
         (shadow, free - nodes)
     }
 
-    fn start(&mut self, ticket: u32, nodes: u32, hold: u32, out: &mut Printout) {
+    fn start(&mut self, job: Waiting, out: &mut Printout) {
+        let Waiting { ticket, tenant, nodes, hold } = job;
         let until = self.now + hold;
         self.free -= nodes;
         let at = self.running.partition_point(|j| (j.until, j.ticket) < (until, ticket));
-        self.running.insert(at, Holding { ticket, nodes, until });
+        self.running.insert(at, Holding { ticket, tenant, nodes, until });
         out.start(ticket, self.now);
     }
 }

@@ -5,12 +5,14 @@ mod answer;
 mod conservative;
 mod easy;
 mod limits;
+mod tenants;
 
 use answer::{Printout, Refusal};
 use conservative::Conservative;
 use easy::Easy;
 use limits::*;
 use std::io::{self, Read, Write};
+use tenants::{Quotas, Tenant};
 
 const MAX_SHEET: usize = 65_536;
 
@@ -20,10 +22,11 @@ enum Scheduler {
 }
 
 impl Scheduler {
-    fn submit(&mut self, nodes: u32, estimate: u32, out: &mut Printout) -> Result<(), Refusal> {
+    fn submit(&mut self, nodes: u32, estimate: u32, letter: u8, out: &mut Printout) -> Result<(), Refusal> {
+        let tenant = Tenant::of(letter)?;
         match self {
-            Scheduler::Conservative(s) => s.submit(nodes, estimate, out),
-            Scheduler::Easy(s) => s.submit(nodes, estimate, out),
+            Scheduler::Conservative(s) => s.submit(nodes, estimate, tenant, out),
+            Scheduler::Easy(s) => s.submit(nodes, estimate, tenant, out),
         }
     }
 
@@ -71,6 +74,14 @@ fn number(field: &[u8]) -> Result<u32, Refusal> {
     })
 }
 
+/// One capital letter.
+fn letter(field: &[u8]) -> Result<u8, Refusal> {
+    match field {
+        [letter @ b'A'..=b'Z'] => Ok(*letter),
+        _ => Err(Refusal::Form),
+    }
+}
+
 /// The fields of a line, if it has exactly that many.
 fn fields<const N: usize>(line: &[u8]) -> Result<[&[u8]; N], Refusal> {
     let mut found: [&[u8]; N] = [&[]; N];
@@ -85,14 +96,12 @@ fn fields<const N: usize>(line: &[u8]) -> Result<[&[u8]; N], Refusal> {
 }
 
 fn open(line: &[u8]) -> Result<Scheduler, Refusal> {
-    let [desk, kind, nodes, minute, ticket, cleanup] = match fields(line) {
-        Ok([desk, kind, nodes, minute, ticket]) => [desk, kind, nodes, minute, ticket, b"0"],
-        Err(_) => fields(line)?,
-    };
+    let [desk, kind, nodes, minute, ticket, cleanup, a, b] = fields(line)?;
     if desk != b"desk" || (kind != b"promise" && kind != b"loose") {
         return Err(Refusal::Form);
     }
-    let (nodes, minute, ticket, cleanup) = (number(nodes)?, number(minute)?, number(ticket)?, number(cleanup)?);
+    let (nodes, minute, ticket) = (number(nodes)?, number(minute)?, number(ticket)?);
+    let (cleanup, a, b) = (number(cleanup)?, number(a)?, number(b)?);
     if nodes == 0 || nodes > MAX_NODES {
         return Err(Refusal::Nodes);
     }
@@ -102,17 +111,21 @@ fn open(line: &[u8]) -> Result<Scheduler, Refusal> {
     if cleanup > MAX_CLEANUP {
         return Err(Refusal::Cleanup);
     }
+    if a == 0 || b == 0 || a + b != MAX_LIVE as u32 {
+        return Err(Refusal::Quotas);
+    }
+    let quotas = Quotas::new(a, b);
     if kind == b"promise" {
-        Ok(Scheduler::Conservative(Conservative::open(nodes, minute, ticket, cleanup)))
+        Ok(Scheduler::Conservative(Conservative::open(nodes, minute, ticket, cleanup, quotas)))
     } else {
-        Ok(Scheduler::Easy(Easy::open(nodes, minute, ticket, cleanup)))
+        Ok(Scheduler::Easy(Easy::open(nodes, minute, ticket, cleanup, quotas)))
     }
 }
 
 fn call(line: &[u8], scheduler: &mut Scheduler, out: &mut Printout) -> Result<(), Refusal> {
     if let Some(rest) = line.strip_prefix(b"in\t") {
-        let [nodes, estimate] = fields(rest)?;
-        scheduler.submit(number(nodes)?, number(estimate)?, out)
+        let [nodes, estimate, tenant] = fields(rest)?;
+        scheduler.submit(number(nodes)?, number(estimate)?, letter(tenant)?, out)
     } else if let Some(rest) = line.strip_prefix(b"end\t") {
         scheduler.complete(number(rest)?, out)
     } else if let Some(rest) = line.strip_prefix(b"drop\t") {

@@ -1,6 +1,6 @@
 //! The guarantees of a list of calls, watched by the calls and their answers alone: nothing here looks into a desk.
 
-use crate::model::{held, LONGEST_ESTIMATE};
+use crate::model::{held, HOUSES, LONGEST_ESTIMATE};
 use hingerota_host::{Answer, Kind, Tickets};
 use std::collections::BTreeMap;
 
@@ -18,6 +18,7 @@ enum Fate {
 
 struct Entry {
     nodes: u32,
+    house: u32,
     promise: u32,
     bound: u32,
     forecast: Option<u32>,
@@ -40,6 +41,7 @@ pub struct Book {
     kind: Kind,
     nodes: u32,
     cleanup: u32,
+    places: [u32; 2],
     clock: u32,
     /// By ticket.
     entries: BTreeMap<u32, Entry>,
@@ -47,7 +49,8 @@ pub struct Book {
 }
 
 /// How often each claim was tried: of jobs that started, of those withdrawn, of heads and of sums of nodes after a call; of these, how
-/// often nodes of jobs that had ended stood in the sum, and how often it was all of the machine's by them.
+/// often nodes of jobs that had ended stood in the sum, and how often it was all of the machine's by them; how often a house had all of its
+/// places live, and how often by jobs that had ended.
 #[derive(Default, Clone, Copy)]
 pub struct Tried {
     pub promises: u64,
@@ -58,6 +61,8 @@ pub struct Tried {
     pub sums: u64,
     pub sums_in_cleanup: u64,
     pub full_in_cleanup: u64,
+    pub houses_full: u64,
+    pub houses_full_in_cleanup: u64,
 }
 
 impl Tried {
@@ -70,11 +75,13 @@ impl Tried {
         self.sums += other.sums;
         self.sums_in_cleanup += other.sums_in_cleanup;
         self.full_in_cleanup += other.full_in_cleanup;
+        self.houses_full += other.houses_full;
+        self.houses_full_in_cleanup += other.houses_full_in_cleanup;
     }
 }
 
 pub enum Call {
-    Submit { nodes: u32, estimate: u32 },
+    Submit { nodes: u32, estimate: u32, house: u32 },
     Complete { ticket: u32 },
     Cancel { ticket: u32 },
     Tick,
@@ -90,8 +97,8 @@ macro_rules! claim {
 
 impl Book {
     /// Of the desk that an opening hands back.
-    pub fn new(kind: Kind, nodes: u32, cleanup: u32, clock: u32) -> Book {
-        Book { kind, nodes, cleanup, clock, entries: BTreeMap::new(), tried: Tried::default() }
+    pub fn new(kind: Kind, nodes: u32, cleanup: u32, places: [u32; 2], clock: u32) -> Book {
+        Book { kind, nodes, cleanup, places, clock, entries: BTreeMap::new(), tried: Tried::default() }
     }
 
     fn waiting(&self) -> impl Iterator<Item = (&u32, &Entry)> {
@@ -108,10 +115,12 @@ impl Book {
             return Ok(());
         }
         match *call {
-            Call::Submit { nodes, estimate } => {
+            Call::Submit { nodes, estimate, house } => {
+                claim!(HOUSES.contains(&house), "a job of {house} is taken in");
                 let rank = self.waiting().count() as u32 + 1;
                 let bound = self.clock + rank * (LONGEST_ESTIMATE + self.cleanup);
-                let entry = Entry { nodes, promise: answer.promise, bound, forecast: None, fate: Fate::Waiting, hold: held(estimate) };
+                let (promise, hold) = (answer.promise, held(estimate));
+                let entry = Entry { nodes, house, promise, bound, forecast: None, fate: Fate::Waiting, hold };
                 claim!(self.entries.insert(answer.ticket, entry).is_none(), "ticket {} is given twice", answer.ticket);
             }
             Call::Tick => self.clock += 1,
@@ -149,6 +158,7 @@ impl Book {
         self.forecast(answer)?;
         self.overdue()?;
         self.capacity()?;
+        self.shares()?;
         // What has ended and holds no nodes is settled. Who was withdrawn is kept: such a job never starts.
         let (clock, cleanup) = (self.clock, self.cleanup);
         self.entries.retain(|_, e| !matches!(e.fate, Fate::Ended(minute) if clock - minute >= cleanup));
@@ -164,6 +174,19 @@ impl Book {
         self.tried.sums += 1;
         self.tried.sums_in_cleanup += u64::from(ended > 0);
         self.tried.full_in_cleanup += u64::from(ended > 0 && running + ended == self.nodes);
+        Ok(())
+    }
+
+    /// "No house ever has more live than its places": those that wait, that run, and that have ended for fewer than the minutes of cleanup.
+    fn shares(&mut self) -> Result<(), String> {
+        for (house, places) in HOUSES.into_iter().zip(self.places) {
+            let jobs = |test: &dyn Fn(Fate) -> bool| self.entries.values().filter(|e| e.house == house && test(e.fate)).count() as u32;
+            let ended = jobs(&|fate| matches!(fate, Fate::Ended(minute) if self.clock - minute < self.cleanup));
+            let live = ended + jobs(&|fate| matches!(fate, Fate::Waiting | Fate::Running(_)));
+            claim!(live <= places, "{live} jobs of {} are live, of {places}", char::from(house as u8));
+            self.tried.houses_full += u64::from(live == places);
+            self.tried.houses_full_in_cleanup += u64::from(live == places && ended > 0);
+        }
         Ok(())
     }
 
@@ -222,11 +245,11 @@ pub fn finds_broken_claims() {
         ended: tickets(&[]),
         started: tickets(started),
     };
-    let submit = || Call::Submit { nodes: 6, estimate: 20 };
+    let submit = || Call::Submit { nodes: 6, estimate: 20, house: HOUSES[0] };
     let cancel = || Call::Cancel { ticket: 1 };
     let nothing = || (Call::Tick, answer(0, 0, &[], (0, 0)));
     let broken_with = |cleanup, kind, calls: Vec<(Call, Answer)>, claim: &str| {
-        let mut book = Book::new(kind, 10, cleanup, 0);
+        let mut book = Book::new(kind, 10, cleanup, [63, 1], 0);
         let last = calls.len() - 1;
         for (i, (call, answer)) in calls.iter().enumerate() {
             match book.enter(call, answer) {
@@ -263,7 +286,7 @@ pub fn finds_broken_claims() {
     broken(Kind::Promise, vec![promised(9), (cancel(), ends)], "a withdrawal ends [1]");
     // A job that waits in the minute it was told is found out there and then; so that its withdrawal is what is wrong, the clock is put there.
     let withdrawn_at = |kind, taken: (Call, Answer), minute, claim: &str| {
-        let mut book = Book::new(kind, 10, 0, 0);
+        let mut book = Book::new(kind, 10, 0, [63, 1], 0);
         book.enter(&taken.0, &taken.1).unwrap();
         let (call, answer) = withdrawn();
         book.clock = minute;
@@ -284,7 +307,28 @@ pub fn finds_broken_claims() {
     };
     broken_with(5, Kind::Promise, both(0), "6 nodes run and 6 are in cleanup, of 10");
     broken_with(5, Kind::Promise, both(4), "6 nodes run and 6 are in cleanup, of 10");
-    let mut book = Book::new(Kind::Promise, 10, 5, 0);
+    let mut book = Book::new(Kind::Promise, 10, 5, [63, 1], 0);
     both(5).iter().for_each(|(call, answer)| book.enter(call, answer).unwrap());
     broken_with(5, Kind::Promise, vec![(submit(), answer(1, 0, &[1], (0, 0))), ended(), ended()], "1 ends and does not run");
+
+    // B has one place: a second job of its comes while the first waits, runs, or has ended for 4 minutes of 5, and in time; A's take none.
+    let of = |house, ticket, started: &[u32]| (Call::Submit { nodes: 1, estimate: 20, house }, answer(ticket, 9, started, (0, 0)));
+    let (a, b) = (|ticket| of(HOUSES[0], ticket, &[]), |ticket, started: &[u32]| of(HOUSES[1], ticket, started));
+    let two = "2 jobs of B are live, of 1";
+    broken(Kind::Promise, vec![b(1, &[]), a(2), b(3, &[])], two);
+    broken(Kind::Promise, vec![b(1, &[1]), a(2), b(3, &[])], two);
+    let after = |minutes: usize| {
+        let mut calls = vec![b(1, &[1]), a(2), ended()];
+        calls.extend((0..minutes).map(|_| nothing()));
+        calls.push(b(3, &[]));
+        calls
+    };
+    broken_with(5, Kind::Promise, after(0), two);
+    broken_with(5, Kind::Promise, after(4), two);
+    let mut book = Book::new(Kind::Promise, 10, 5, [63, 1], 0);
+    after(5).iter().for_each(|(call, answer)| book.enter(call, answer).unwrap());
+    let mut book = Book::new(Kind::Promise, 10, 0, [63, 1], 0);
+    [b(1, &[]), withdrawn(), b(2, &[])].iter().for_each(|(call, answer)| book.enter(call, answer).unwrap());
+    broken(Kind::Promise, (1..=64).map(a).collect(), "64 jobs of A are live, of 63");
+    broken(Kind::Promise, vec![of(67, 1, &[])], "a job of 67 is taken in");
 }

@@ -33,6 +33,7 @@ struct Plan {
     minute: u32,
     ticket: u32,
     cleanup: u32,
+    places: [u32; 2],
     calls: u32,
     estimates: Estimates,
     /// Of a hundred calls, so many are submissions, completions, withdrawals, profiles and waits that are only judged; the others are ticks.
@@ -65,6 +66,7 @@ fn plan(random: &mut Random) -> Plan {
         _ => 999_999 - random.below(60),
     };
     let cleanup = random.one_of(&[0, 0, 1, 7, 30]);
+    let places = random.one_of(&[[63, 1], [1, 63], [32, 32], [60, 4], [2, 62]]);
     let calls = match random.below(200) {
         0..=99 => random.between(1, 15),
         100..=179 => random.between(16, 80),
@@ -81,15 +83,23 @@ fn plan(random: &mut Random) -> Plan {
     ]);
     let kind = random.one_of(&[Kind::Promise, Kind::Loose]);
     let estimates = random.one_of(&[Estimates::Tiny, Estimates::Short, Estimates::Edges, Estimates::Any]);
-    let mut plan = Plan { kind, nodes, minute, ticket, cleanup, calls, estimates, submissions, completions, withdrawals, profiles, waits };
+    let mut plan =
+        Plan { kind, nodes, minute, ticket, cleanup, places, calls, estimates, submissions, completions, withdrawals, profiles, waits };
     // One opening of twelve is refused, for one reason or for several.
     if random.percent(8) {
-        match random.below(6) {
+        match random.below(9) {
             0 => plan.nodes = random.one_of(&[0, 1_025, u32::MAX]),
             1 => plan.minute = random.one_of(&[1_000_001, u32::MAX]),
             2 => plan.ticket = random.one_of(&[0, 1_000_000, u32::MAX]),
             3 => plan.cleanup = random.one_of(&[31, u32::MAX]),
             4 => (plan.ticket, plan.cleanup) = (random.one_of(&[0, 1]), 31),
+            // Some sum to 64 modulo 2^32.
+            5 => {
+                plan.places =
+                    random.one_of(&[[u32::MAX, 65], [1 << 31, (1 << 31) + 64], [u32::MAX, u32::MAX], [u32::MAX, 0], [0, u32::MAX]])
+            }
+            6 => plan.places = random.one_of(&[[0, 64], [64, 0], [62, 1], [63, 2], [32, 31], [0, 0], [1, 64], [65, u32::MAX]]),
+            7 => (plan.cleanup, plan.places) = (random.one_of(&[30, 31]), [64, 1]),
             _ => (plan.nodes, plan.minute, plan.ticket) = (random.one_of(&[0, 5]), 1_000_001, 0),
         }
     }
@@ -131,7 +141,7 @@ struct Count {
     most_live: usize,
     most_points: usize,
     /// By number, of openings and of calls.
-    refusals: [u64; 13],
+    refusals: [u64; 16],
     tried: Tried,
 }
 
@@ -177,18 +187,19 @@ fn same<T: PartialEq + std::fmt::Debug>(what: &str, library: T, model: T) -> Res
 
 impl Played {
     fn open(plan: &Plan) -> Result<Played, String> {
-        let Plan { kind, nodes, minute, ticket, cleanup, .. } = *plan;
-        let (refusal, model) = Model::open(kind, nodes, minute, ticket, cleanup);
-        let opening = Opening { nodes, minute, ticket, cleanup };
+        let Plan { kind, nodes, minute, ticket, cleanup, places, .. } = *plan;
+        let (refusal, model) = Model::open(kind, nodes, minute, ticket, cleanup, places);
+        let [quota_a, quota_b] = places;
+        let opening = Opening { nodes, minute, ticket, cleanup, quota_a, quota_b };
         let (number, desk) = match Desk::open(kind, opening) {
             Ok(desk) => (0, desk),
             Err(refused) => (refused.refusal, refused.desk),
         };
         same("refusal of the opening", number, refusal)?;
-        let book = Book::new(kind, model.nodes, model.cleanup, model.clock);
+        let book = Book::new(kind, model.nodes, model.cleanup, model.places, model.clock);
         let mut count = Count { lists: 1, ..Count::default() };
         count.refusals[refusal as usize] += 1;
-        let done = vec![format!("open {kind:?} {nodes} {minute} {ticket} {cleanup}")];
+        let done = vec![format!("open {kind:?} {nodes} {minute} {ticket} {cleanup} {quota_a} {quota_b}")];
         let played = Played { desk, model, book, withdrawn: Vec::new(), count, done };
         played.same_desk()?;
         Ok(played)
@@ -199,6 +210,7 @@ impl Played {
         same("kind", desk.kind(), model.kind)?;
         same("nodes", desk.nodes(), model.nodes)?;
         same("cleanup", desk.cleanup(), model.cleanup)?;
+        same("quotas", [desk.quota_a(), desk.quota_b()], model.places)?;
         same("clock", desk.clock(), model.clock)?;
         same("next ticket", desk.next(), model.next)?;
         for (place, record) in desk.records().iter().enumerate() {
@@ -214,12 +226,13 @@ impl Played {
                         nodes: j.nodes as u16,
                         estimate: j.estimate as u16,
                         state,
+                        tenant: j.house,
                         start: j.start,
                         promise: j.promise,
                         end: j.end,
                     }
                 }
-                None => Record { ticket: 0, nodes: 0, estimate: 0, state: 0, start: 0, promise: 0, end: 0 },
+                None => Record { ticket: 0, nodes: 0, estimate: 0, state: 0, tenant: 0, start: 0, promise: 0, end: 0 },
             };
             if *record != expected {
                 return Err(format!("record {place}: library {record:?}, model {expected:?}"));
@@ -247,11 +260,12 @@ impl Played {
         Ok(())
     }
 
-    fn submit(&mut self, nodes: u32, estimate: u32) -> Result<(), String> {
-        self.done.push(format!("submit {nodes} {estimate}"));
+    fn submit(&mut self, nodes: u32, estimate: u32, house: u32) -> Result<(), String> {
+        self.done.push(format!("submit {nodes} {estimate} {house}"));
         self.count.submissions += 1;
-        let (library, model) = (self.desk.submit(Order { nodes, estimate }), self.model.submit(nodes, estimate));
-        self.same_answer(Call::Submit { nodes, estimate }, library, model)
+        let order = Order { nodes, estimate, tenant: house };
+        let (library, model) = (self.desk.submit(order), self.model.submit(nodes, estimate, house));
+        self.same_answer(Call::Submit { nodes, estimate, house }, library, model)
     }
 
     fn complete(&mut self, ticket: u32) -> Result<(), String> {
@@ -370,7 +384,16 @@ fn step(plan: &Plan, played: &mut Played, random: &mut Random) -> Result<(), Str
             0 => random.one_of(&[0, 10_081, u32::MAX]),
             _ => plan.estimates.pick(random),
         };
-        played.submit(nodes, estimate)
+        // Mostly of a house that has places left, so that both fill up.
+        let [a, b] = model::HOUSES;
+        let left = |house: u32, places: u32| places - played.model.live(house);
+        let house = match random.below(20) {
+            0 => random.one_of(&[0, 1, 64, 67, 97, 255, 65 + (1 << 8), 65 + (1 << 16), u32::MAX]),
+            1..=6 => random.one_of(&[a, b]),
+            _ if left(a, played.model.places[0]) >= left(b, played.model.places[1]) => a,
+            _ => b,
+        };
+        played.submit(nodes, estimate, house)
     } else if roll < plan.submissions + plan.completions {
         let ticket = leaver(played, State::Running, random);
         played.complete(ticket)
@@ -470,7 +493,8 @@ fn main() {
         eprintln!();
     }
     let all = all.into_inner().unwrap();
-    let Tried { promises, bounds, forecasts, withdrawn, heads, sums, sums_in_cleanup, full_in_cleanup } = all.tried;
+    let Tried { promises, bounds, forecasts, withdrawn, heads, sums, sums_in_cleanup, full_in_cleanup, .. } = all.tried;
+    let Tried { houses_full, houses_full_in_cleanup, .. } = all.tried;
     println!(
         "{} lists, {} calls: {} submissions, {} completions, {} withdrawals, {} ticks, {} profiles with {} points, {} waits judged",
         all.lists, all.calls, all.submissions, all.completions, all.withdrawals, all.ticks, all.profiles, all.points, all.waits
@@ -486,5 +510,6 @@ fn main() {
     println!(
         "{heads} heads with a forecast, {sums} sums of nodes, {sums_in_cleanup} with jobs in cleanup, {full_in_cleanup} of these full"
     );
+    println!("{houses_full} times a house had all of its places live, {houses_full_in_cleanup} of these with jobs in cleanup");
     println!("library and model agree ({:.1} s)", began.elapsed().as_secs_f64());
 }

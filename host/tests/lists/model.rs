@@ -10,6 +10,8 @@ pub const LIVE_JOBS: usize = 64;
 pub const LAST_TICKET: u32 = 999_999;
 pub const MOST_POINTS: usize = 129;
 pub const LONGEST_CLEANUP: u32 = 30;
+/// The houses, by their letters.
+pub const HOUSES: [u32; 2] = [b'A' as u32, b'B' as u32];
 
 #[derive(Clone, Copy, PartialEq, Eq, Debug)]
 pub enum State {
@@ -25,6 +27,8 @@ pub struct Job {
     pub nodes: u32,
     pub estimate: u32,
     pub state: State,
+    /// "Each record carries its house".
+    pub house: u32,
     pub start: u32,
     pub promise: u32,
     /// "its record, and no other, keeps its end"
@@ -55,6 +59,8 @@ pub struct Model {
     pub kind: Kind,
     pub nodes: u32,
     pub cleanup: u32,
+    /// "the 64 places are divided between them": A's and B's.
+    pub places: [u32; 2],
     pub clock: u32,
     pub next: u32,
     /// In the order of tickets.
@@ -104,19 +110,32 @@ fn refused(refusal: u32) -> Answer {
 
 impl Model {
     /// The refusal, and the desk; "A refused opening hands back an empty desk of its kind with 1 node, minute 0 and ticket 1, later
-    /// settings as in these examples". Document 02, No. 3: "12, clearing above 30, after 3 at opening".
-    pub fn open(kind: Kind, nodes: u32, minute: u32, ticket: u32, cleanup: u32) -> (u32, Model) {
-        let empty = |nodes, clock, next, cleanup| Model { kind, nodes, cleanup, clock, next, jobs: Vec::new(), search: Search::Changes };
+    /// settings as in these examples", which document 02, No. 4, reads "with clearing 0, places 63 and 1". 12: "clearing above 30, after 3
+    /// at opening"; 13: "the places do not sum to 64 or one is 0, last at opening".
+    pub fn open(kind: Kind, nodes: u32, minute: u32, ticket: u32, cleanup: u32, places: [u32; 2]) -> (u32, Model) {
+        let empty = |nodes, clock, next, cleanup, places| {
+            let (jobs, search) = (Vec::new(), Search::Changes);
+            Model { kind, nodes, cleanup, places, clock, next, jobs, search }
+        };
+        let refused = |number| (number, empty(1, 0, 1, 0, [63, 1]));
         if nodes < 1 || nodes > MOST_NODES {
-            return (1, empty(1, 0, 1, 0));
+            return refused(1);
         }
         if minute > LAST_MINUTE || ticket < 1 || ticket > LAST_TICKET {
-            return (3, empty(1, 0, 1, 0));
+            return refused(3);
         }
         if cleanup > LONGEST_CLEANUP {
-            return (12, empty(1, 0, 1, 0));
+            return refused(12);
         }
-        (0, empty(nodes, minute, ticket, cleanup))
+        let sum: u64 = places.iter().map(|n| u64::from(*n)).sum();
+        if sum != LIVE_JOBS as u64 || places.contains(&0) {
+            return refused(13);
+        }
+        (0, empty(nodes, minute, ticket, cleanup, places))
+    }
+
+    pub fn live(&self, house: u32) -> u32 {
+        self.jobs.iter().filter(|j| j.house == house).count() as u32
     }
 
     /// For how long an order takes its nodes: "Held time plus clearing is what must fit the profile, the rules (i) and (ii), shadow, extra
@@ -145,20 +164,24 @@ impl Model {
         self.jobs.retain(|j| !(j.in_cleanup() && j.end + cleanup == now));
     }
 
-    pub fn submit(&mut self, nodes: u32, estimate: u32) -> Answer {
+    /// 14: "a house other than A or B, first at intake"; 15: "the house's places are all live, in place of 4".
+    pub fn submit(&mut self, nodes: u32, estimate: u32, house: u32) -> Answer {
+        let Some(share) = HOUSES.iter().position(|h| *h == house) else {
+            return refused(14);
+        };
         if nodes == 0 || nodes > self.nodes {
             return refused(1);
         }
         if estimate < 1 || estimate > LONGEST_ESTIMATE {
             return refused(2);
         }
-        if self.jobs.len() == LIVE_JOBS {
-            return refused(4);
+        if self.live(house) == self.places[share] {
+            return refused(15);
         }
         if self.next > LAST_TICKET {
             return refused(5);
         }
-        let job = Job { ticket: self.next, nodes, estimate, state: State::Waiting, start: 0, promise: 0, end: 0 };
+        let job = Job { ticket: self.next, nodes, estimate, state: State::Waiting, house, start: 0, promise: 0, end: 0 };
         match self.kind {
             Kind::Promise => self.submit_promise(job),
             Kind::Loose => self.submit_loose(job),

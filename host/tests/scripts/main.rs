@@ -60,10 +60,10 @@ fn sheets_of_the_gate() {
 /// "A script has no limit on size", nor has a line of it.
 #[test]
 fn a_script_of_any_size() {
-    let mut script = b"desk\tpromise\t4\t0\t1\n".to_vec();
+    let mut script = b"desk\tpromise\t4\t0\t1\t0\t63\t1\n".to_vec();
     script.extend(b"end\t0\n".repeat(50_000));
-    script.extend(b"in\t1\t5".repeat(100_000));
-    script.extend(b"\nin\t1\t5\n");
+    script.extend(b"in\t1\t5\tA".repeat(100_000));
+    script.extend(b"\nin\t1\t5\tA\n");
     let mut expected = b"no\t7\n".repeat(50_000);
     expected.extend(b"no\t9\ntook\t1\t0\nstart\t1\t0\n");
     program::same(Path::new("a long script"), &played(&script), &expected);
@@ -73,11 +73,12 @@ fn a_script_of_any_size() {
 fn a_line_is_answered_before_the_next_is_sent() {
     let mut child = rack(&[]).stdin(Stdio::piped()).stdout(Stdio::piped()).spawn().unwrap();
     let (mut ask, mut answers) = (child.stdin.take().unwrap(), BufReader::new(child.stdout.take().unwrap()));
-    ask.write_all(b"desk\tloose\t10\t0\t1\n").unwrap();
+    ask.write_all(b"desk\tloose\t10\t0\t1\t0\t63\t1\n").unwrap();
     for (line, answer) in [
-        ("in\t6\t20\n", "took\t1\t-\nstart\t1\t0\n"),
-        ("in\t8\t10\n", "took\t2\t-\nhead\t2\t20\n"),
+        ("in\t6\t20\tA\n", "took\t1\t-\nstart\t1\t0\n"),
+        ("in\t8\t10\tB\n", "took\t2\t-\nhead\t2\t20\n"),
         ("in\n", "no\t9\n"),
+        ("in\t1\t5\tB\n", "no\t15\n"),
         ("wait\t20\n", "over\t1\t20\nstart\t2\t20\n"),
     ] {
         ask.write_all(line.as_bytes()).unwrap();
@@ -121,7 +122,7 @@ fn arguments() {
     let of = |arguments| Ended::of(rack(arguments).stdin(Stdio::null()).stdout(Stdio::piped()));
     let help = of(&["--help"]);
     assert_eq!((help.status, help.error.as_str()), (Some(0), ""));
-    for word in ["usage:", "desk", "[CLEANUP]", "in NODES", "end TICKET", "drop TICKET", "wait MINUTES", "profile"] {
+    for word in ["usage:", "desk", "CLEANUP A B", "in NODES ESTIMATE HOUSE", "end TICKET", "drop TICKET", "wait MINUTES", "profile"] {
         assert!(help.output.contains(word), "{word}");
     }
     for wrong in [&["-h"][..], &["script"], &["--help", "--help"], &[""]] {

@@ -18,6 +18,14 @@ pub fn number(field: &[u8]) -> Result<u32, Refusal> {
     }
 }
 
+/// Document 02, No. 4: "in every text a capital letter". Its code: which letters name a house is asked of the library.
+pub fn letter(field: &[u8]) -> Result<u32, Refusal> {
+    match field {
+        [letter @ b'A'..=b'Z'] => Ok(u32::from(*letter)),
+        _ => Err(LACKS_THE_FORM),
+    }
+}
+
 /// So many fields, all of them numbers.
 pub fn numbers<const N: usize>(fields: &[&[u8]]) -> Result<[u32; N], Refusal> {
     let fields: &[&[u8]; N] = fields.try_into().map_err(|_| LACKS_THE_FORM)?;
@@ -40,6 +48,17 @@ mod tests {
         for field in ["", "00", "01", "10000000", "99999999999999999999", "+1", "-1", "1.0", "1 ", " 1", "1\r", "a", "1a", "\u{661}"] {
             assert_eq!(number(field.as_bytes()), Err(LACKS_THE_FORM), "{field:?}");
         }
+    }
+
+    #[test]
+    fn a_house_is_one_capital_letter() {
+        for (field, code) in [("A", 65), ("B", 66), ("C", 67), ("Z", 90)] {
+            assert_eq!(letter(field.as_bytes()), Ok(code), "{field}");
+        }
+        for field in ["", "a", "z", "AB", "AA", "0", "65", "@", "[", " A", "A ", "A\r", "\u{c4}", "\u{391}"] {
+            assert_eq!(letter(field.as_bytes()), Err(LACKS_THE_FORM), "{field:?}");
+        }
+        assert_eq!(letter(b"\xc1"), Err(LACKS_THE_FORM));
     }
 
     #[test]

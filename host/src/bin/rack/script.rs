@@ -53,8 +53,8 @@ impl Script {
     }
 }
 
-/// "First line: `desk`, `promise` or `loose`, nodes, minute, ticket." Document 02, No. 3: "A sixth field of the `desk` line gives the
-/// clearing, 0 if left out".
+/// "First line: `desk`, `promise` or `loose`, nodes, minute, ticket." Document 02, No. 4: "the `desk` line always has the clearing, then the
+/// places of A and of B".
 fn open(fields: &[&[u8]]) -> Result<Rack, Refusal> {
     let [b"desk", kind, rest @ ..] = fields else {
         return Err(LACKS_THE_FORM);
@@ -64,11 +64,8 @@ fn open(fields: &[&[u8]]) -> Result<Rack, Refusal> {
         b"loose" => Kind::Loose,
         _ => return Err(LACKS_THE_FORM),
     };
-    let [nodes, minute, ticket, cleanup] = match rest.len() {
-        3 => numbers(rest).map(|[nodes, minute, ticket]| [nodes, minute, ticket, 0])?,
-        _ => numbers(rest)?,
-    };
-    match Desk::open(kind, Opening { nodes, minute, ticket, cleanup }) {
+    let [nodes, minute, ticket, cleanup, quota_a, quota_b] = numbers(rest)?;
+    match Desk::open(kind, Opening { nodes, minute, ticket, cleanup, quota_a, quota_b }) {
         Ok(desk) => Ok(Rack { desk }),
         Err(refused) => Err(Refusal(refused.refusal)),
     }

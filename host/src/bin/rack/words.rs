@@ -1,6 +1,6 @@
 //! The words of later lines. A word is an entry of `WORDS`, and stands nowhere else.
 
-use crate::fields::numbers;
+use crate::fields::{letter, numbers};
 use crate::page::{taken, Done, Page, LACKS_THE_FORM};
 use crate::script::Rack;
 use hingerota_host::{Order, Point, MOST_POINTS};
@@ -15,11 +15,12 @@ struct Word {
 
 const WORDS: &[Word] = &[
     Word {
-        form: "in NODES ESTIMATE",
-        does: "a job is submitted",
+        form: "in NODES ESTIMATE HOUSE",
+        does: "a job of house A or B is submitted",
         play: |rack, fields, page| {
-            let [nodes, estimate] = numbers(fields)?;
-            let answer = rack.desk.submit(Order { nodes, estimate });
+            let (house, rest) = fields.split_last().ok_or(LACKS_THE_FORM)?;
+            let ([nodes, estimate], tenant) = (numbers(rest)?, letter(house)?);
+            let answer = rack.desk.submit(Order { nodes, estimate, tenant });
             page.answer(&rack.desk, &answer)
         },
     },
@@ -92,9 +93,10 @@ Plays a script on a desk, and prints what a line gives before it reads the next.
 A line is closed by byte 10, and its fields are parted by one tab.
 
 First line:
-  desk promise|loose NODES MINUTE TICKET [CLEANUP]
+  desk promise|loose NODES MINUTE TICKET CLEANUP A B
                                           opens the desk, at that minute, with that first ticket; after a run
-                                          nodes stay taken for CLEANUP minutes, 0 if left out
+                                          nodes stay taken for CLEANUP minutes; of the 64 places for live jobs
+                                          house A has A and house B has B
 Later lines:
 {later}Printed:
   took TICKET PROMISE                     it starts by then (- on a Loose Desk)
