@@ -23,6 +23,11 @@ static const char *const reasons[] = {
     "opened with places that are not 64 together, or with none for a house",
     "neither house A nor house B",
     "the house's places are all live",
+    "no such refusal",
+    "no such refusal",
+    "no such refusal",
+    "the least is above the most",
+    "the end is before the least",
 };
 
 static void print_tickets(const char *what, const hingerota_tickets *tickets)
@@ -48,22 +53,44 @@ static void print_answer(const hingerota_desk *desk, const hingerota_answer *ans
     printf("\n");
 }
 
+static void complete(hingerota_desk *desk, uint32_t ticket)
+{
+    hingerota_answer answer = hingerota_complete(desk, ticket);
+
+    printf("complete %" PRIu32 ":", ticket);
+    print_answer(desk, &answer);
+}
+
+static void pass(hingerota_desk *desk, int minutes)
+{
+    for (int i = 0; i < minutes; i++) {
+        hingerota_answer answer = hingerota_tick(desk);
+        if (answer.ended.count + answer.started.count > 0) {
+            printf("minute %" PRIu32 ":", desk->clock);
+            print_answer(desk, &answer);
+        }
+    }
+}
+
 static int play(hingerota_opened opened)
 {
     static const hingerota_order orders[] = {
-        {.nodes = 6, .estimate = 20, .tenant = HINGEROTA_TENANT_A}, {.nodes = 8, .estimate = 10, .tenant = HINGEROTA_TENANT_B},
-        {.nodes = 4, .estimate = 25, .tenant = HINGEROTA_TENANT_A}, {.nodes = 11, .estimate = 5, .tenant = HINGEROTA_TENANT_A},
-        {.nodes = 1, .estimate = 5, .tenant = HINGEROTA_TENANT_B}};
+        {.nodes = 6, .least = 5, .estimate = 20, .tenant = HINGEROTA_TENANT_A},
+        {.nodes = 8, .least = 0, .estimate = 10, .tenant = HINGEROTA_TENANT_B},
+        {.nodes = 4, .least = 25, .estimate = 25, .tenant = HINGEROTA_TENANT_A},
+        {.nodes = 11, .least = 0, .estimate = 5, .tenant = HINGEROTA_TENANT_A},
+        {.nodes = 1, .least = 6, .estimate = 5, .tenant = HINGEROTA_TENANT_A},
+        {.nodes = 1, .least = 0, .estimate = 5, .tenant = HINGEROTA_TENANT_B}};
     hingerota_desk *desk = &opened.desk;
-    hingerota_answer answer;
 
     if (opened.refusal != HINGEROTA_TAKEN) {
         fprintf(stderr, "%s\n", reasons[opened.refusal]);
         return 1;
     }
     for (size_t i = 0; i < sizeof orders / sizeof orders[0]; i++) {
-        answer = hingerota_submit(desk, orders[i]);
-        printf("submit %" PRIu32 " %" PRIu32 " %c:", orders[i].nodes, orders[i].estimate, (int)orders[i].tenant);
+        const hingerota_order *order = &orders[i];
+        hingerota_answer answer = hingerota_submit(desk, *order);
+        printf("submit %" PRIu32 " %" PRIu32 " %" PRIu32 " %c:", order->nodes, order->least, order->estimate, (int)order->tenant);
         print_answer(desk, &answer);
     }
 
@@ -72,16 +99,10 @@ static int play(hingerota_opened opened)
     for (size_t i = 0; i < shown.count; i++)
         printf("free from %" PRIu32 ": %" PRIu32 "\n", points[i].minute, points[i].free);
 
-    answer = hingerota_complete(desk, 1);
-    printf("complete 1:");
-    print_answer(desk, &answer);
-    for (int i = 0; i < 40; i++) {
-        answer = hingerota_tick(desk);
-        if (answer.ended.count + answer.started.count > 0) {
-            printf("minute %" PRIu32 ":", desk->clock);
-            print_answer(desk, &answer);
-        }
-    }
+    complete(desk, 1);
+    pass(desk, 5);
+    complete(desk, 1);
+    pass(desk, 40);
     return 0;
 }
 

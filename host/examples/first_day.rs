@@ -27,29 +27,41 @@ fn print(desk: &Desk, call: &str, answer: &Answer) {
     println!();
 }
 
+fn complete(desk: &mut Desk, ticket: u32) {
+    let answer = desk.complete(ticket);
+    print(desk, &format!("complete {ticket}"), &answer);
+}
+
+fn pass(desk: &mut Desk, minutes: u32) {
+    for _ in 0..minutes {
+        let answer = desk.tick();
+        if answer.ended.count + answer.started.count > 0 {
+            print(desk, &format!("minute {}", desk.clock()), &answer);
+        }
+    }
+}
+
 fn main() {
+    let orders =
+        [(6, 5, 20, TENANT_A), (8, 0, 10, TENANT_B), (4, 25, 25, TENANT_A), (11, 0, 5, TENANT_A), (1, 6, 5, TENANT_A), (1, 0, 5, TENANT_B)];
     for (kind, name) in [(Kind::Promise, "promise"), (Kind::Loose, "loose")] {
         println!("{name} desk, 10 nodes, minute 0, first ticket 1, 63 places for A and 1 for B");
         let mut desk = match Desk::open(kind, Opening { nodes: 10, minute: 0, ticket: 1, cleanup: 0, quota_a: 63, quota_b: 1 }) {
             Ok(desk) => desk,
             Err(refused) => panic!("{}", reason(refused.refusal)),
         };
-        for (nodes, estimate, tenant) in [(6, 20, TENANT_A), (8, 10, TENANT_B), (4, 25, TENANT_A), (11, 5, TENANT_A), (1, 5, TENANT_B)] {
-            let answer = desk.submit(Order { nodes, estimate, tenant });
-            print(&desk, &format!("submit {nodes} {estimate} {}", char::from(tenant as u8)), &answer);
+        for (nodes, least, estimate, tenant) in orders {
+            let answer = desk.submit(Order { nodes, estimate, tenant, least });
+            print(&desk, &format!("submit {nodes} {least} {estimate} {}", char::from(tenant as u8)), &answer);
         }
         let mut points = [Point { minute: 0, free: 0 }; MOST_POINTS];
         let shown = desk.profile(&mut points);
         for point in &points[..shown.count] {
             println!("free from {}: {}", point.minute, point.free);
         }
-        let answer = desk.complete(1);
-        print(&desk, "complete 1", &answer);
-        for _ in 0..40 {
-            let answer = desk.tick();
-            if answer.ended.count + answer.started.count > 0 {
-                print(&desk, &format!("minute {}", desk.clock()), &answer);
-            }
-        }
+        complete(&mut desk, 1);
+        pass(&mut desk, 5);
+        complete(&mut desk, 1);
+        pass(&mut desk, 40);
     }
 }

@@ -3,8 +3,10 @@
  *   rt staticlib hingerota                      proves the library and writes target/staticlib/libhingerota.a
  *   gcc -Ihost/include first_day.c target/staticlib/libhingerota.a
  *
- * A desk is the scheduler of one machine. A job is submitted with a number of nodes and an estimate in minutes, and gets a ticket. After
- * its run its nodes stay taken for the minutes of cleanup that the desk was opened with: they are wiped before another job gets them.
+ * A desk is the scheduler of one machine. A job is submitted with a number of nodes and an estimate in minutes, and gets a ticket. The
+ * estimate is the most that it runs, and what it is planned with; the least that it runs, 0 where nothing is known, is how long after its
+ * start it can be over at the earliest. After its run its nodes stay taken for the minutes of cleanup that the desk was opened with: they
+ * are wiped before another job gets them.
  * Two tenants, the houses A and B, use a desk. It has places for 64 live jobs, waiting, running and in cleanup, and each tenant has a
  * quota of them.
  *
@@ -60,7 +62,9 @@ enum {
     HINGEROTA_CLEANUP_OUT_OF_RANGE = 12, /* an opening with a cleanup above 30 */
     HINGEROTA_QUOTAS_OUT_OF_RANGE = 13,  /* an opening with quotas that are not 64 together, or with one of 0 */
     HINGEROTA_UNKNOWN_TENANT = 14,       /* a job of neither tenant */
-    HINGEROTA_QUOTA_FULL = 15            /* the tenant has as many live jobs as its quota */
+    HINGEROTA_QUOTA_FULL = 15,           /* the tenant has as many live jobs as its quota */
+    HINGEROTA_LEAST_ABOVE_MOST = 19,     /* a job whose least is above its estimate */
+    HINGEROTA_BEFORE_LEAST = 20          /* a running job that would be over before its start + its least */
 };
 
 enum { HINGEROTA_PROMISE = 0, HINGEROTA_LOOSE = 1 };                                                /* of a desk */
@@ -80,9 +84,10 @@ typedef struct {
 /* What is asked for a job. */
 typedef struct {
     uint32_t nodes;
-    uint32_t estimate; /* in minutes */
+    uint32_t estimate; /* the most that it runs, in minutes */
     uint32_t tenant;
-} hingerota_order; /* 12 bytes */
+    uint32_t least;    /* the least that it runs, at most the estimate */
+} hingerota_order; /* 16 bytes */
 
 /* A live job, or an unused place, which is all 0. `start` is that of a job that has started, and the planned one of a job that waits on a
  * Promise Desk. On a Loose Desk `promise`, and the start of a job that waits, are 0. A job in cleanup has ended and is still live; `end` is
@@ -92,7 +97,8 @@ typedef struct {
     uint16_t nodes;
     uint16_t estimate;
     uint32_t state;
-    uint32_t tenant;
+    uint16_t tenant;
+    uint16_t least; /* as ordered, in every state */
     uint32_t start;
     uint32_t promise;
     uint32_t end;
@@ -151,11 +157,11 @@ hingerota_opened hingerota_open_loose(hingerota_opening opening);
 
 /* A job is submitted. Its nodes are kept for its estimate rounded up: to 120 minutes by fives, to 480 by tens, above by thirties; then
  * the desk ends it, and they are free again after the cleanup. It starts at once if its ticket stands in `started`. Refused by 14, 1, 2,
- * 15, 5, 6 or 8, the first of these that applies. */
+ * 19, 15, 5, 6 or 8, the first of these that applies. */
 hingerota_answer hingerota_submit(hingerota_desk *d, hingerota_order order);
 
 /* A running job is over before its time: it stands in `ended`, and those that start now in `started`. Its nodes are free again after the
- * cleanup. Refused by 7. */
+ * cleanup. Refused by 7 or 20, the first that applies. */
 hingerota_answer hingerota_complete(hingerota_desk *d, uint32_t ticket);
 
 /* A waiting job is withdrawn: it leaves without having started, and stands in neither list. For the others it is as if a job were over

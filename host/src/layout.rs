@@ -26,8 +26,8 @@ macro_rules! layouts {
 fn layouts_are_those_of_the_header() {
     let (lines, numbers) = layouts! {
         "hingerota_opening" Opening { nodes minute ticket cleanup quota_a quota_b }
-        "hingerota_order" Order { nodes estimate tenant }
-        "hingerota_record" Record { ticket nodes estimate state tenant start promise end }
+        "hingerota_order" Order { nodes estimate tenant least }
+        "hingerota_record" Record { ticket nodes estimate state tenant least start promise end }
         "hingerota_desk" Desk { kind nodes cleanup quota_a quota_b clock next jobs }
         "hingerota_tickets" Tickets { count list }
         "hingerota_answer" Answer { refusal ticket promise head forecast ended started }

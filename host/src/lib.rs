@@ -57,12 +57,12 @@ impl Desk {
     // SAFETY of the calls: `self.raw` came from an opening or a call, since nothing else makes or changes it; it is borrowed whole, so
     // nobody else writes it meanwhile; a slice points to as many places as its length says, and is no part of the desk.
 
-    /// A job is submitted; refused by 14, 1, 2, 15, 5, 6 or 8.
+    /// A job is submitted; refused by 14, 1, 2, 19, 15, 5, 6 or 8.
     pub fn submit(&mut self, order: Order) -> Answer {
         unsafe { raw::hingerota_submit(&mut self.raw, order) }
     }
 
-    /// A running job is over before its time; refused by 7.
+    /// A running job is over before its time; refused by 7 or 20.
     pub fn complete(&mut self, ticket: u32) -> Answer {
         unsafe { raw::hingerota_complete(&mut self.raw, ticket) }
     }
@@ -165,6 +165,8 @@ pub fn reason(refusal: u32) -> &'static str {
         13 => "opened with places that are not 64 together, or with none for a house",
         14 => "neither house A nor house B",
         15 => "the house's places are all live",
+        19 => "the least is above the most",
+        20 => "the end is before the least",
         _ => "no such refusal",
     }
 }

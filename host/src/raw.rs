@@ -22,10 +22,12 @@ pub struct Opening {
 #[derive(Clone, Copy, PartialEq, Eq, Debug)]
 pub struct Order {
     pub nodes: u32,
-    /// In minutes.
+    /// The most that it runs, in minutes.
     pub estimate: u32,
     /// `TENANT_A` or `TENANT_B`.
     pub tenant: u32,
+    /// The least that it runs, in minutes, at most the estimate.
+    pub least: u32,
 }
 
 #[repr(C)]
@@ -37,7 +39,9 @@ pub struct Record {
     /// 0 unused, 1 waiting, 2 running, 3 in cleanup.
     pub state: u32,
     /// `TENANT_A` or `TENANT_B`, 0 in an unused record.
-    pub tenant: u32,
+    pub tenant: u16,
+    /// As it was ordered, 0 in an unused record.
+    pub least: u16,
     pub start: u32,
     pub promise: u32,
     /// Of a job in cleanup, the minute in which its run ended; 0 of others.

@@ -14,6 +14,8 @@ pub enum Refusal {
     Quotas = 13,
     Tenant = 14,
     Full = 15,
+    LeastAboveMost = 19,
+    BeforeLeast = 20,
 }
 
 /// The printout.

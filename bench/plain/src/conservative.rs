@@ -2,6 +2,7 @@
 
 use crate::answer::{Printout, Refusal};
 use crate::limits::*;
+use crate::order::Order;
 use crate::tenants::{Quotas, Tenant};
 
 #[derive(Clone, Copy, PartialEq, Eq)]
@@ -16,6 +17,7 @@ struct Job {
     ticket: u32,
     tenant: Tenant,
     nodes: u32,
+    least: u32,
     /// Of a waiting job, the planned start.
     start: u32,
     /// The minute from which the nodes are free again. The run ends the minutes of cleanup before.
@@ -134,13 +136,9 @@ impl Conservative {
         self.now
     }
 
-    pub fn submit(&mut self, nodes: u32, estimate: u32, tenant: Tenant, out: &mut Printout) -> Result<(), Refusal> {
-        if nodes == 0 || nodes > self.nodes {
-            return Err(Refusal::Nodes);
-        }
-        if estimate == 0 || estimate > MAX_ESTIMATE {
-            return Err(Refusal::Minutes);
-        }
+    pub fn submit(&mut self, order: Order, out: &mut Printout) -> Result<(), Refusal> {
+        order.check(self.nodes)?;
+        let Order { nodes, least, estimate, tenant } = order;
         if self.quotas.are_used_up(tenant) {
             return Err(Refusal::Full);
         }
@@ -159,7 +157,7 @@ impl Conservative {
         self.next += 1;
         self.quotas.take(tenant);
         out.took(ticket, Some(start));
-        let mut job = Job { ticket, tenant, nodes, start, until, due: start, state: State::Waiting };
+        let mut job = Job { ticket, tenant, nodes, least, start, until, due: start, state: State::Waiting };
         if start == self.now {
             job.start(self.cleanup, out);
         }
@@ -171,6 +169,9 @@ impl Conservative {
         let at = self.jobs.binary_search_by_key(&ticket, |j| j.ticket).map_err(|_| Refusal::NotRunning)?;
         if self.jobs[at].state != State::Running {
             return Err(Refusal::NotRunning);
+        }
+        if self.now < self.jobs[at].start + self.jobs[at].least {
+            return Err(Refusal::BeforeLeast);
         }
         let until = self.now + self.cleanup;
         self.profile.release(until, self.jobs[at].until, self.jobs[at].nodes);

@@ -2,6 +2,7 @@
 
 use crate::answer::{Printout, Refusal};
 use crate::limits::*;
+use crate::order::Order;
 use crate::tenants::{Quotas, Tenant};
 
 #[derive(Clone, Copy)]
@@ -9,6 +10,7 @@ struct Waiting {
     ticket: u32,
     tenant: Tenant,
     nodes: u32,
+    least: u32,
     /// The wall time and the cleanup.
     hold: u32,
 }
@@ -18,6 +20,8 @@ struct Holding {
     ticket: u32,
     tenant: Tenant,
     nodes: u32,
+    /// The minute from which an early end is taken.
+    endable: u32,
     /// The minute from which the nodes are free again. The run ends the minutes of cleanup before.
     until: u32,
 }
@@ -59,13 +63,9 @@ impl Easy {
         self.now
     }
 
-    pub fn submit(&mut self, nodes: u32, estimate: u32, tenant: Tenant, out: &mut Printout) -> Result<(), Refusal> {
-        if nodes == 0 || nodes > self.nodes {
-            return Err(Refusal::Nodes);
-        }
-        if estimate == 0 || estimate > MAX_ESTIMATE {
-            return Err(Refusal::Minutes);
-        }
+    pub fn submit(&mut self, order: Order, out: &mut Printout) -> Result<(), Refusal> {
+        order.check(self.nodes)?;
+        let Order { nodes, least, estimate, tenant } = order;
         if self.quotas.are_used_up(tenant) {
             return Err(Refusal::Full);
         }
@@ -80,7 +80,7 @@ impl Easy {
         let ticket = self.next;
         self.next += 1;
         self.quotas.take(tenant);
-        self.queue.push(Waiting { ticket, tenant, nodes, hold });
+        self.queue.push(Waiting { ticket, tenant, nodes, least, hold });
         out.took(ticket, None);
         self.settle(out);
         Ok(())
@@ -88,6 +88,9 @@ impl Easy {
 
     pub fn complete(&mut self, ticket: u32, out: &mut Printout) -> Result<(), Refusal> {
         let at = self.running.iter().position(|j| j.ticket == ticket).ok_or(Refusal::NotRunning)?;
+        if self.now < self.running[at].endable {
+            return Err(Refusal::BeforeLeast);
+        }
         let ended = self.running.remove(at);
         out.over(ticket, self.now);
         if self.cleanup == 0 {
@@ -197,11 +200,11 @@ impl Easy {
     }
 
     fn start(&mut self, job: Waiting, out: &mut Printout) {
-        let Waiting { ticket, tenant, nodes, hold } = job;
+        let Waiting { ticket, tenant, nodes, least, hold } = job;
         let until = self.now + hold;
         self.free -= nodes;
         let at = self.running.partition_point(|j| (j.until, j.ticket) < (until, ticket));
-        self.running.insert(at, Holding { ticket, tenant, nodes, until });
+        self.running.insert(at, Holding { ticket, tenant, nodes, endable: self.now + least, until });
         out.start(ticket, self.now);
     }
 }

@@ -5,12 +5,14 @@ mod answer;
 mod conservative;
 mod easy;
 mod limits;
+mod order;
 mod tenants;
 
 use answer::{Printout, Refusal};
 use conservative::Conservative;
 use easy::Easy;
 use limits::*;
+use order::Order;
 use std::io::{self, Read, Write};
 use tenants::{Quotas, Tenant};
 
@@ -22,11 +24,10 @@ enum Scheduler {
 }
 
 impl Scheduler {
-    fn submit(&mut self, nodes: u32, estimate: u32, letter: u8, out: &mut Printout) -> Result<(), Refusal> {
-        let tenant = Tenant::of(letter)?;
+    fn submit(&mut self, order: Order, out: &mut Printout) -> Result<(), Refusal> {
         match self {
-            Scheduler::Conservative(s) => s.submit(nodes, estimate, tenant, out),
-            Scheduler::Easy(s) => s.submit(nodes, estimate, tenant, out),
+            Scheduler::Conservative(s) => s.submit(order, out),
+            Scheduler::Easy(s) => s.submit(order, out),
         }
     }
 
@@ -122,10 +123,19 @@ fn open(line: &[u8]) -> Result<Scheduler, Refusal> {
     }
 }
 
+/// Nodes, most and house, or nodes, least, most and house. Without a least it is 0.
+fn order(rest: &[u8]) -> Result<Order, Refusal> {
+    let [nodes, least, estimate, house] = match fields(rest) {
+        Ok([nodes, estimate, house]) => [nodes, b"0", estimate, house],
+        Err(_) => fields(rest)?,
+    };
+    let (nodes, least, estimate, letter) = (number(nodes)?, number(least)?, number(estimate)?, letter(house)?);
+    Ok(Order { nodes, least, estimate, tenant: Tenant::of(letter)? })
+}
+
 fn call(line: &[u8], scheduler: &mut Scheduler, out: &mut Printout) -> Result<(), Refusal> {
     if let Some(rest) = line.strip_prefix(b"in\t") {
-        let [nodes, estimate, tenant] = fields(rest)?;
-        scheduler.submit(number(nodes)?, number(estimate)?, letter(tenant)?, out)
+        scheduler.submit(order(rest)?, out)
     } else if let Some(rest) = line.strip_prefix(b"end\t") {
         scheduler.complete(number(rest)?, out)
     } else if let Some(rest) = line.strip_prefix(b"drop\t") {

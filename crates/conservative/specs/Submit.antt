@@ -111,13 +111,14 @@ module _ (d : Scheduler) (o : Submission) (h : Holds Valid d) where
     room = fit-room m o (h .holds .sound) fit-held
 
     pub room-held : (slot : ℕ) → slot ≡ length (m .jobs)
-        → (slot < slots (m .settings)) × (d .next ≤ lastTicket) × (o .nodes ≤ maxNodes) × (o .estimate ≤ longestEstimate)
+        → (slot < slots (m .settings)) × (d .next ≤ lastTicket) × (o .nodes ≤ maxNodes) × (o .estimate ≤ longestEstimate) × (o .least ≤ o .estimate)
     unfolding view
     room-held slot q = (
       omega (arith, room),
       fit-held .ticket-left,
       omega (arith, fit-held .nodes-to, h .holds .sound .nodes-to),
       fit-held .estimate-to,
+      fit-held .least-to,
     )
 
     pub askable : Askable d (o .nodes) (holdTime (m .settings) (o .estimate))

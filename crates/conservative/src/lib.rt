@@ -99,7 +99,7 @@ pub fn depart(d: Scheduler, how: Departure, ticket: u32) -> Outcome
 
 // The outcome of a submission that is taken into the slot with the planned start: that start is its promise.
 fn accept(d: Scheduler, s: Submission, slot: usize, start: u32) -> Outcome
-    requires { ⌜ (slot < slots) × (d .next ≤ lastTicket) × (s .nodes ≤ maxNodes) × (s .estimate ≤ longestEstimate) ⌝ }
+    requires { ⌜ (slot < slots) × (d .next ≤ lastTicket) × (s .nodes ≤ maxNodes) × (s .estimate ≤ longestEstimate) × (s .least ≤ s .estimate) ⌝ }
     ensures { λ r. ⌜ r ≡ accepted d s slot start ⌝ }
 {
     let now = d.clock;

@@ -40,7 +40,7 @@ use Rattle.scheduler.specs.Model.{Model, ending}
 use Rattle.scheduler.specs.Answers.{Result, verdict, accepts, refuse}
 use Rattle.scheduler.specs.Refusals.{judged, submitTests, departRefusal, tickRefusal}
 use Rattle.jobs.specs.Order.{Asc, asc-keep, asc-one}
-use Rattle.jobs.specs.Departing.{departs-alone}
+use Rattle.jobs.specs.Departing.{cancel-judged, departs-alone}
 use Rattle.jobs.specs.Soundness.{SoundJob, Sound, fit-room, submit-fit, early, waiting-clean, ceased-ticket, waits-on, remained-waits, sound-leave}
 use Rattle.history.specs.Calls.{Call, submit, depart, complete, cancel, tick, unchanged}
 use Rattle.history.specs.News.{News, newsOf}
@@ -50,7 +50,7 @@ use Rattle.history_proof.specs.Departures.{waits-runs, queued-by, lives, unless
 use Rattle.conservative_rules.specs.Conservative.{span, spans, planned, newJob, withNew, points, maxPoints, submitRefusal, submitted, begun}
 use Rattle.conservative_rules.specs.Conservative.{advanced, moved, departed, turned, ticked, profileRefusal, call}
 use Rattle.conservative_rules.specs.Computed.{startOf, promiseOf}
-use Rattle.jobs.specs.Judgement.{judged-by, judged-refusal, judged-refused}
+use Rattle.jobs.specs.Judgement.{judged-by, judged-accepted, judged-refusal, judged-refused}
 use Rattle.conservative_laws.specs.Validity.{Valid, zip-left, Follows, follows-ticket, follows-start, follows-promise, CameOut, idle}
 use Rattle.conservative_laws.specs.Validity.{joins, leaves, outcome, call-valid}
 use Rattle.conservative_laws.specs.Obligations.{OnCourse, begun-waited, lives-stays, waits-lives, outcome-joins, outcome-ends}
@@ -160,10 +160,11 @@ submit-taken m o a =
 -- "The stack leaves": the ticket that is ended, and no other
 pub complete-ends : (m : Model) (t : ℕ) → Valid m → accepts (call m (complete t) .reply .refusal) ≡ true → call m (complete t) .reply .ended ≡ t ∷ []
 unfolding call departed advanced departRefusal verdict
-complete-ends m t v =
-    case (any (departsAs Complete t) (m .jobs))
-    (λ e. rw e (λ a. departs-alone Complete t 1 (m .jobs) (v .sound .asc) e))
-    (λ e. rw e (λ a. true-false false a refl))
+complete-ends m t v a =
+    let j = judged-accepted m (departRefusal m Complete t) (departed m Complete t) a in
+    ap (λ (r : Result). r .reply .ended) (j .1)
+    ∙ departs-alone Complete t 1 (m .jobs) (v .sound .asc)
+    (case (any (departsAs Complete t) (m .jobs)) (λ e. e) (λ e. true-false false (rw e at (j .0)) refl))
 
 -- a job that is withdrawn has not run: no ticket is ended
 pub cancel-ends : (m : Model) (t : ℕ) → call m (cancel t) .reply .ended ≡ []
@@ -487,16 +488,18 @@ eight-never m o s v =
     (λ a. rw (le-ltb maxPoints (length (points (withNew m o s))) (few-points m o s (fit-room m o v (submit-fit m o [] a .0)))))
     (λ a. case (known (o .tenant)) (λ k. rw k (case (outside 1 (m .settings .nodes) (o .nodes)) (λ x. rw x)
     (λ x. rw x (case (outside 1 (longest (m .settings)) (o .estimate)) (λ y. rw y)
-    (λ y. rw y (case (leb (quota (m .settings) (o .tenant)) (liveOf (o .tenant) (m .jobs))) (λ z. rw z)
-    (λ z. rw z (case (ltb lastTicket (m .next)) (λ t. rw t) (λ t. true-false true refl (rw (k, x, y, z, t) at a)))))))))) (λ k. rw k))
+    (λ y. rw y (case (ltb (o .estimate) (o .least)) (λ l. rw l)
+    (λ l. rw l (case (leb (quota (m .settings) (o .tenant)) (liveOf (o .tenant) (m .jobs))) (λ z. rw z)
+    (λ z. rw z (case (ltb lastTicket (m .next)) (λ t. rw t) (λ t. true-false true refl (rw (k, x, y, l, z, t) at a)))))))))))) (λ k. rw k))
 
 -- Each refusal, with its conditions in the documents' order and no others. 14: "a house other than A or B"; 1: "stack nodes 0 or above the
--- rack's"; 2: "estimate .. outside 1 to 10,080"; 15: "the house's places are all live"; 5: "ticket 999,999 has been given"; 6: "start + held
--- above 1,000,000", and the clearing
+-- rack's"; 2: "estimate .. outside 1 to 10,080"; 19: "least above most"; 15: "the house's places are all live"; 5: "ticket 999,999 has been
+-- given"; 6: "start + held above 1,000,000", and the clearing
 pub submit-refusal : (m : Model) (o : Submission) → Valid m → call m (submit o) .reply .refusal ≡ verdict
     ((not (known (o .tenant)), refusal.UnknownTenant)
     ∷ (ltb (o .nodes) 1 || ltb (m .settings .nodes) (o .nodes), refusal.NodesOutOfRange)
     ∷ (ltb (o .estimate) 1 || ltb 10080 (o .estimate), refusal.MinutesOutOfRange)
+    ∷ (ltb (o .estimate) (o .least), refusal.LeastAboveMost)
     ∷ (leb (quota (m .settings) (o .tenant)) (liveOf (o .tenant) (m .jobs)), refusal.QuotaFull)
     ∷ (ltb 999999 (m .next), refusal.NoTicketLeft)
     ∷ (ltb 1000000 (planned m o + (wallTime (o .estimate) + m .settings .cleanup)), refusal.PastHorizon)
@@ -509,17 +512,22 @@ submit-refusal m o v =
     ∙ ap (λ (h : ℕ). verdict (submitTests m o ((ltb (horizon (m .settings)) (s + h), refusal.PastHorizon) ∷ [])))
     (hold-is (m .settings) (o .estimate) ∙ ap (λ (k : ℕ). wallTime (o .estimate) + k) (cleanup-is (m .settings) (v .sound .cleanup-to)))
 
--- 7: "the ended ticket is not running: waiting, over or never given"
+-- 7: "the ended ticket is not running: waiting, over or never given"; 20, document 02, No. 7: "an end before the least, after 7"
 pub complete-refusal : (m : Model) (t : ℕ) → call m (complete t) .reply .refusal ≡ verdict
-    ((not (any (λ (j : Job). isRunning j && eqb (j .ticket) t) (m .jobs)), refusal.NotRunning) ∷ [])
+    ((not (any (λ (j : Job). isRunning j && eqb (j .ticket) t) (m .jobs)), refusal.NotRunning)
+    ∷ (any (λ (j : Job). (isRunning j && eqb (j .ticket) t) && ltb (m .clock) (j .start + j .least)) (m .jobs), refusal.BeforeLeast)
+    ∷ [])
 unfolding call departed advanced departRefusal
 complete-refusal m t = judged-refusal m (departRefusal m Complete t) (departed m Complete t) refl
 
 -- 11, document 02, No. 1: "the withdrawn ticket is not waiting"
 pub cancel-refusal : (m : Model) (t : ℕ) → call m (cancel t) .reply .refusal ≡ verdict
     ((not (any (λ (j : Job). isWaiting j && eqb (j .ticket) t) (m .jobs)), refusal.NotWaiting) ∷ [])
-unfolding call departed advanced departRefusal
-cancel-refusal m t = judged-refusal m (departRefusal m Cancel t) (departed m Cancel t) refl
+unfolding call departed advanced verdict
+cancel-refusal m t =
+    judged-refusal m (departRefusal m Cancel t) (departed m Cancel t) refl
+    ∙ cancel-judged m t
+    ∙ case (any (departsAs Cancel t) (m .jobs)) (λ e. rw e) (λ e. rw e)
 
 -- 6: "Step ..: the clock would pass it"
 pub tick-refusal : (m : Model) → call m tick .reply .refusal ≡ verdict ((ltb 1000000 (suc (m .clock)), refusal.PastHorizon) ∷ [])

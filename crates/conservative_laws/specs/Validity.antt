@@ -228,6 +228,7 @@ follows-sound S now j k o (moves s e a b) = record {
   nodes-to = o .nodes-to;
   estimate-from = o .estimate-from;
   estimate-to = o .estimate-to;
+  least-to = o .least-to;
   ends = omega (arith, o .ends, until-is S j (waiting-clean (j .state) e), until-at S (stateAt now s) s j (state-clean now s));
   holds = λ r.
       omega (arith, state-now holding? refl now s r, until-at S (stateAt now s) s j (state-clean now s), hold-pos S (j .estimate) (o .estimate-from));
@@ -378,7 +379,7 @@ outcome m (depart h t) v =
     taken a =
         let p = pass-follows S (m .clock) [] js (λ j i. each j i .nodes-to) (λ j i w. v .ahead j (remained-waits S (m .clock) u (m .jobs) i w .0) w)
         (λ r a. omega (arith, v .room r a, used-remaining m (m .clock) u (v .sound) (early h t) r)) in
-        let b = passed (not (any (picks u) (m .jobs))) (notThere h) [] (not-there h) a in
+        let b = passed (not (any (picks u) (m .jobs))) (notThere h) _ (not-there h) a in
         leaves (depart h t) (m .clock) u (pass S (m .clock) [] js) (early h t) (record { follow = p .0; room = λ r a. omega (arith, p .1 r a) })
         (says h _ (not-false (any (picks u) (m .jobs)) (b .0)))
 outcome m tick v =
@@ -474,6 +475,7 @@ joins-valid m o v f l = record {
       nodes-to = f .nodes-to;
       estimate-from = f .estimate-from;
       estimate-to = f .estimate-to;
+      least-to = f .least-to;
       ends = omega (arith, l, until-new);
       holds = λ r. omega (arith, state-now holding? refl now s r, until-new, hold-pos S (o .estimate) (f .estimate-from));
       runs = λ r. omega (arith, state-now running? refl now s r, end-is S j, run-pos S (o .estimate) (f .estimate-from));

@@ -59,6 +59,7 @@ placed-still now j w l n = λ i. record {
   estimate = j .estimate;
   state = state-is i;
   tenant = j .tenant;
+  least = j .least;
   start = j .start;
   promise = j .promise;
   end = sym n i;

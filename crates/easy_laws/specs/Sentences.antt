@@ -34,7 +34,7 @@ use Rattle.scheduler.specs.Answers.{Result, Forecast, verdict, accepts, refuse}
 use Rattle.scheduler.specs.Refusals.{notThere, departRefusal, tickRefusal}
 use Rattle.jobs.specs.Judgement.{judged-by, judged-accepted, judged-refusal, judged-refused}
 use Rattle.jobs.specs.Order.{Asc, asc-one, elem-job}
-use Rattle.jobs.specs.Departing.{departs-alone}
+use Rattle.jobs.specs.Departing.{cancel-judged, departs-alone}
 use Rattle.jobs.specs.Soundness.{Sound, Fit, running-holds, cleaning-holds, running-clean}
 use Rattle.history.specs.Calls.{Call, submit, depart, complete, cancel, tick, unchanged}
 use Rattle.history.specs.News.{Newcomer, News, newsOf}
@@ -257,12 +257,13 @@ refused-same m tick a = judged-refused m (tickRefusal m) (advanced m (suc (m .cl
 refused-same m (unchanged r) a = refl
 
 -- Each refusal of a submission, with its conditions in the documents' order and no others. 14: "a house other than A or B"; 1: "stack nodes
--- 0 or above the rack's"; 2: "estimate .. outside 1 to 10,080"; 15: "the house's places are all live"; 5: "ticket 999,999 has been given";
--- 6: "now + r × 10,080 + held above it, r being the number waiting before plus one", and by document 02, No. 3, with the clearing in both
+-- 0 or above the rack's"; 2: "estimate .. outside 1 to 10,080"; 19: "least above most"; 15: "the house's places are all live"; 5: "ticket
+-- 999,999 has been given"; 6: "now + r × 10,080 + held above it, r being the number waiting before plus one", and by document 02, No. 3, with the clearing in both
 pub submit-refusal : (m : Model) (o : Submission) → call m (submit o) .reply .refusal ≡ verdict
     ((not (known (o .tenant)), refusal.UnknownTenant)
     ∷ (ltb (o .nodes) 1 || ltb (m .settings .nodes) (o .nodes), refusal.NodesOutOfRange)
     ∷ (ltb (o .estimate) 1 || ltb 10080 (o .estimate), refusal.MinutesOutOfRange)
+    ∷ (ltb (o .estimate) (o .least), refusal.LeastAboveMost)
     ∷ (leb (quota (m .settings) (o .tenant)) (liveOf (o .tenant) (m .jobs)), refusal.QuotaFull)
     ∷ (ltb 999999 (m .next), refusal.NoTicketLeft)
     ∷ (
@@ -290,6 +291,8 @@ Because m o refusal.CleanupOutOfRange = ⊥
 Because m o refusal.QuotasOutOfRange = ⊥
 Because m o refusal.UnknownTenant = known (o .tenant) ≡ false
 Because m o refusal.QuotaFull = quota (m .settings) (o .tenant) ≤ liveOf (o .tenant) (m .jobs)
+Because m o refusal.LeastAboveMost = o .estimate < o .least
+Because m o refusal.BeforeLeast = ⊥
 
 pub submit-because : (m : Model) (o : Submission) → Because m o (submitRefusal m o)
 unfolding submitRefusal verdict
@@ -297,14 +300,15 @@ submit-because m o =
     case (known (o .tenant)) (λ k.
     rw k (case (outside 1 (m .settings .nodes) (o .nodes)) (λ a. rw a (beyond 1 (m .settings .nodes) (o .nodes) a)) (λ a.
     rw a (case (outside 1 (longest (m .settings)) (o .estimate)) (λ b. rw b (beyond 1 (longest (m .settings)) (o .estimate) b)) (λ b.
-    rw b (case (leb places mine) (λ c. rw c (leb-true places mine c)) (λ c.
+    rw b (case (ltb (o .estimate) (o .least)) (λ e. rw e (ltb-true (o .estimate) (o .least) e)) (λ e.
+    rw e (case (leb places mine) (λ c. rw c (leb-true places mine c)) (λ c.
     rw c (case (ltb lastTicket (m .next)) (λ d. rw d (ltb-true lastTicket (m .next) d)) (λ d.
     rw d (case (ltb (horizon (m .settings)) (latestEnd m (o .estimate))) (λ f. rw f (ltb-true (horizon (m .settings)) (latestEnd m (o .estimate)) f)) (λ f.
     rw f (
-      fit k (inside 1 (m .settings .nodes) (o .nodes) a) (inside 1 (longest (m .settings)) (o .estimate) b) (leb-false places mine c)
-          (ltb-false lastTicket (m .next) d),
+      fit k (inside 1 (m .settings .nodes) (o .nodes) a) (inside 1 (longest (m .settings)) (o .estimate) b) (ltb-false (o .estimate) (o .least) e)
+          (leb-false places mine c) (ltb-false lastTicket (m .next) d),
       ltb-false (horizon (m .settings)) (latestEnd m (o .estimate)) f,
-    )))))))))))) (λ k. rw k k)
+    )))))))))))))) (λ k. rw k k)
   where
     places : ℕ
     places = quota (m .settings) (o .tenant)
@@ -313,12 +317,13 @@ submit-because m o =
     mine = liveOf (o .tenant) (m .jobs)
 
     fit : known (o .tenant) ≡ true → (1 ≤ o .nodes) × (o .nodes ≤ m .settings .nodes) → (1 ≤ o .estimate) × (o .estimate ≤ longest (m .settings))
-        → mine < places → m .next ≤ lastTicket → Fit m o
-    fit k a b c d = record {
+        → o .least ≤ o .estimate → mine < places → m .next ≤ lastTicket → Fit m o
+    fit k a b l c d = record {
       nodes-from = a .0;
       nodes-to = a .1;
       estimate-from = b .0;
       estimate-to = b .1;
+      least-to = l;
       tenant-is = k;
       share = c;
       ticket-left = d;
@@ -340,19 +345,19 @@ submit-accepts m o f l =
       le-ltb (m .settings .nodes) (o .nodes) (f .nodes-to),
       le-ltb (o .estimate) 1 (f .estimate-from),
       le-ltb (longest (m .settings)) (o .estimate) (f .estimate-to),
+      le-ltb (o .estimate) (o .least) (f .least-to),
       lt-leb (quota (m .settings) (o .tenant)) (liveOf (o .tenant) (m .jobs)) (f .share),
       le-ltb lastTicket (m .next) (f .ticket-left),
       le-ltb (horizon (m .settings)) (latestEnd m (o .estimate)) l,
     )
 
-depart-because : (m : Model) (h : Departure) (t : ℕ) → departRefusal m h t ≡ cond (any (departsAs h t) (m .jobs)) refusal.None (notThere h)
+-- 7: "the ended ticket is not running: waiting, over or never given"; 20, document 02, No. 7: "an end before the least, after 7"
+pub complete-because : (m : Model) (t : ℕ) → departRefusal m Complete t ≡ cond
+    (any (λ (j : Job). isRunning j && eqb (j .ticket) t) (m .jobs))
+    (cond (any (λ (j : Job). (isRunning j && eqb (j .ticket) t) && ltb (m .clock) (j .start + j .least)) (m .jobs)) refusal.BeforeLeast refusal.None)
+    refusal.NotRunning
 unfolding departRefusal verdict
-depart-because m h t = case (any (departsAs h t) (m .jobs)) (λ e. rw e) (λ e. rw e)
-
--- 7: "the ended ticket is not running: waiting, over or never given"
-pub complete-because : (m : Model) (t : ℕ)
-    → departRefusal m Complete t ≡ cond (any (λ (j : Job). isRunning j && eqb (j .ticket) t) (m .jobs)) refusal.None refusal.NotRunning
-complete-because m t = depart-because m Complete t
+complete-because m t = case (any (departsAs Complete t) (m .jobs)) (λ e. rw e) (λ e. rw e)
 
 -- Document 02, No. 3: "An end of a clearing stack is refused by 7."
 pub cleaning-refused : (m : Model) (j : Job) → Sound m → In j (m .jobs) → isCleaning j ≡ true
@@ -377,7 +382,7 @@ cleaning-refused m j s i c = refusal-is m (complete t) ∙ complete-because m t 
 -- 11, document 02, No. 1: "the withdrawn ticket is not waiting"
 pub cancel-because : (m : Model) (t : ℕ)
     → departRefusal m Cancel t ≡ cond (any (λ (j : Job). isWaiting j && eqb (j .ticket) t) (m .jobs)) refusal.None refusal.NotWaiting
-cancel-because m t = depart-because m Cancel t
+cancel-because m t = cancel-judged m t
 
 pub tick-because : (m : Model) → tickRefusal m ≡ cond (leb (suc (m .clock)) (horizon (m .settings))) refusal.None refusal.PastHorizon
 unfolding tickRefusal verdict

@@ -230,6 +230,7 @@ sound-begin m j s c room = record {
           nodes-to = f .nodes-to;
           estimate-from = f .estimate-from;
           estimate-to = f .estimate-to;
+          least-to = f .least-to;
           ends = rw (until-at (m .settings) Running (m .clock) k refl, e) room;
           holds = λ r. omega (arith, until-at (m .settings) Running (m .clock) k refl, hold-pos (m .settings) (k .estimate) (f .estimate-from));
           runs = λ r. omega (arith, end-is (m .settings) (begun (m .clock) k), run-pos (m .settings) (k .estimate) (f .estimate-from));

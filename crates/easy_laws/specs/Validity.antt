@@ -173,6 +173,7 @@ module _ (m : Model) (v : Valid m) where
         nodes-to = f .nodes-to;
         estimate-from = f .estimate-from;
         estimate-to = f .estimate-to;
+        least-to = f .least-to;
         ends = omega (arith, room, until-fresh (m .settings) (m .next) o Waiting 0 0 refl);
         holds = λ r. true-false false r refl;
         runs = λ r. true-false false r refl;
@@ -329,7 +330,7 @@ module _ (m : Model) where
       → OwnPart m (depart h t) (without m (m .clock) (select.Departing h t)) 0 (endedOf (select.Departing h t) (m .jobs))
   unfolding departRefusal
   depart-moves h t a =
-      let p = passed (not (any (picks (select.Departing h t)) (m .jobs))) (notThere h) [] (not-there h) a in
+      let p = passed (not (any (picks (select.Departing h t)) (m .jobs))) (notThere h) _ (not-there h) a in
       departs h t (not-false (any (picks (select.Departing h t)) (m .jobs)) (p .0))
 
   pub tick-moves : accepts (tickRefusal m) ≡ true → OwnPart m tick (without m (suc (m .clock)) (ending m)) 0 (endedOf (ending m) (m .jobs))

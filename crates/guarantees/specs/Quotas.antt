@@ -23,38 +23,40 @@ use Rattle.easy_laws.specs.Sentences as easy
 use Rattle.guarantees.specs.Rules.{rulesOf, call}
 use Rattle.guarantees.specs.Premise.{ValidBy, Valid}
 
--- the checks before 15: 14, 1, 2
+-- the checks before 15: 14, 1, 2, 19
 pub record PassesBefore (m : Model) (o : Submission) : Type 0 where
   pub tenant : known (o .tenant) ≡ true
   pub nodes : (ltb (o .nodes) 1 || ltb (m .settings .nodes) (o .nodes)) ≡ false
   pub estimate : (ltb (o .estimate) 1 || ltb 10080 (o .estimate)) ≡ false
+  pub least : ltb (o .estimate) (o .least) ≡ false
 
 abbrev pub refusedBy15 : Model → Submission → Bool
 refusedBy15 m o = eqb (code (call m (submit o) .reply .refusal)) 15
 
--- the first test that holds decides: of these only the fourth says 15
-decides : (unknown x y full z past : Bool) → unknown ≡ false → x ≡ false → y ≡ false
+-- the first test that holds decides: of these only the fifth says 15
+decides : (unknown x y above full z past : Bool) → unknown ≡ false → x ≡ false → y ≡ false → above ≡ false
     → eqb (code (verdict
     ((unknown, refusal.UnknownTenant)
     ∷ (x, refusal.NodesOutOfRange)
     ∷ (y, refusal.MinutesOutOfRange)
+    ∷ (above, refusal.LeastAboveMost)
     ∷ (full, refusal.QuotaFull)
     ∷ (z, refusal.NoTicketLeft)
     ∷ (past, refusal.PastHorizon)
     ∷ []))) 15 ≡ full
 unfolding verdict
-decides unknown x y full z past a b c =
-    rw (a, b, c) (case full (λ f. rw f) (λ f. rw f (case z (λ q. rw q) (λ q. rw q (case past (λ p. rw p) (λ p. rw p))))))
+decides unknown x y above full z past a b c d =
+    rw (a, b, c, d) (case full (λ f. rw f) (λ f. rw f (case z (λ q. rw q) (λ q. rw q (case past (λ p. rw p) (λ p. rw p))))))
 
 -- what decides it, of one scheduler
 full-by : (k : Kind) (m : Model) (o : Submission) → ValidBy k m → PassesBefore m o
     → eqb (code (rulesOf k m (submit o) .reply .refusal)) 15 ≡ leb (quota (m .settings) (o .tenant)) (liveOf (o .tenant) (m .jobs))
 full-by Conservative m o v p =
     ap (λ (r : Refusal). eqb (code r) 15) (conservative.submit-refusal m o v)
-    ∙ decides (not (known (o .tenant))) _ _ _ _ _ (ap not (p .tenant)) (p .nodes) (p .estimate)
+    ∙ decides (not (known (o .tenant))) _ _ _ _ _ _ (ap not (p .tenant)) (p .nodes) (p .estimate) (p .least)
 full-by Easy m o v p =
     ap (λ (r : Refusal). eqb (code r) 15) (easy.submit-refusal m o)
-    ∙ decides (not (known (o .tenant))) _ _ _ _ _ (ap not (p .tenant)) (p .nodes) (p .estimate)
+    ∙ decides (not (known (o .tenant))) _ _ _ _ _ _ (ap not (p .tenant)) (p .nodes) (p .estimate) (p .least)
 
 pub full-is : (m : Model) (o : Submission) → Valid m → PassesBefore m o
     → refusedBy15 m o ≡ leb (quota (m .settings) (o .tenant)) (liveOf (o .tenant) (m .jobs))

@@ -54,6 +54,7 @@ mirrorJob j = record {
   estimate = j .estimate;
   state = stateNumber (j .state);
   tenant = letterOf (j .tenant);
+  least = j .least;
   start = j .start;
   promise = j .promise;
   end = j .end;
@@ -77,7 +78,7 @@ mirror d = record {
 
 -- what a host's order asks
 abbrev pub wanted : Order → Submission
-wanted o = record { nodes = o .nodes; estimate = o .estimate; tenant = tenantOf (o .tenant) }
+wanted o = record { nodes = o .nodes; estimate = o .estimate; tenant = tenantOf (o .tenant); least = o .least }
 
 -- ## Read back. A number that is no kind is read as the Promise Desk, and one that is no state as unused
 
@@ -94,6 +95,7 @@ readRecord r = record {
   estimate = r .estimate;
   state = stateOf (r .state);
   tenant = tenantOf (r .tenant);
+  least = r .least;
   start = r .start;
   promise = r .promise;
   end = r .end;
@@ -131,6 +133,7 @@ job-back j = λ i. record {
   estimate = j .estimate;
   state = state-back (j .state) i;
   tenant = tenant-back (j .tenant) i;
+  least = j .least;
   start = j .start;
   promise = j .promise;
   end = j .end;
@@ -188,7 +191,9 @@ refusalOf n =
     (cond (eqb n 12) refusal.CleanupOutOfRange
     (cond (eqb n 13) refusal.QuotasOutOfRange
     (cond (eqb n 14) refusal.UnknownTenant
-    (cond (eqb n 15) refusal.QuotaFull refusal.None)))))))))))))
+    (cond (eqb n 15) refusal.QuotaFull
+    (cond (eqb n 19) refusal.LeastAboveMost
+    (cond (eqb n 20) refusal.BeforeLeast refusal.None)))))))))))))))
 
 abbrev pub readTickets : Tickets → scheduler-tickets.Tickets
 readTickets t = record { count = t .count; list = t .list }
@@ -220,6 +225,8 @@ refusal-back refusal.CleanupOutOfRange = refl
 refusal-back refusal.QuotasOutOfRange = refl
 refusal-back refusal.UnknownTenant = refl
 refusal-back refusal.QuotaFull = refl
+refusal-back refusal.LeastAboveMost = refl
+refusal-back refusal.BeforeLeast = refl
 
 pub read-answer : (a : scheduler-answer.Answer) → readAnswer (mirrorAnswer a) ≡ a
 read-answer a = λ i. record {

@@ -31,12 +31,13 @@ pub struct Opening {
     pub quota_b: u32,
 }
 
-// What is asked for a job; the tenant is a letter, A (65) or B (66).
+// What is asked for a job; the estimate is the most that it runs, and the tenant is a letter, A (65) or B (66).
 #[repr(C)]
 pub struct Order {
     pub nodes: u32,
     pub estimate: u32,
     pub tenant: u32,
+    pub least: u32,
 }
 
 // A job in numbers: state 0 unused, 1 waiting, 2 running, 3 in cleanup; the tenant's letter, 0 if unused.
@@ -46,7 +47,8 @@ pub struct Record {
     pub nodes: u16,
     pub estimate: u16,
     pub state: u32,
-    pub tenant: u32,
+    pub tenant: u16,
+    pub least: u16,
     pub start: u32,
     pub promise: u32,
     pub end: u32,
@@ -166,7 +168,8 @@ fn read_record(r: Record) -> Job
         nodes: r.nodes,
         estimate: r.estimate,
         state: state_of(r.state),
-        tenant: Tenant::of_letter(r.tenant),
+        tenant: Tenant::of_letter(r.tenant as u32),
+        least: r.least,
         start: r.start,
         promise: r.promise,
         end: r.end,
@@ -183,7 +186,8 @@ fn mirror_job(j: Job) -> Record
         nodes: j.nodes,
         estimate: j.estimate,
         state: state_number(s),
-        tenant: whose.letter(),
+        tenant: whose.letter() as u16,
+        least: j.least,
         start: j.start,
         promise: j.promise,
         end: j.end,
@@ -319,6 +323,7 @@ fn submit(d: Desk, order: Order) -> Outcome
         nodes: order.nodes,
         estimate: order.estimate,
         tenant: Tenant::of_letter(order.tenant),
+        least: order.least,
     };
     mirror_outcome(calls::submit(read(d), s))
 }

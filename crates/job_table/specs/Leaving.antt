@@ -4,9 +4,9 @@
 use Prim.Native.Nat.{ℕ, zero, suc, _+_, _-_, _≤_, _<_}
 use native.Mathlib.Omega.{arith}
 use native.Mathlib.Numerals.{add-one}
-use mathlib.Core.Path.{_≡_, refl, sym, ap, _∙_}
+use mathlib.Core.Path.{_≡_, refl, sym, ap, subst, _∙_}
 use mathlib.Core.Bool.{Bool, true, false, not, cond, _&&_}
-use mathlib.Core.Option.{none, some}
+use mathlib.Core.Option.{Option, none, some}
 use mathlib.Core.List.{List, [], _∷_, _++_, map, append-assoc, append-nil}
 use mathlib.Core.Logic.{_⊎_, inl, inr}
 use lib.Dec.{eqb, ltb}
@@ -21,25 +21,28 @@ use Rattle.scheduler.specs.declared.Settings.{Settings}
 use Rattle.scheduler.specs.declared.Job.{Job}
 use Rattle.scheduler.specs.declared.Scheduler.{Scheduler}
 use Rattle.scheduler.specs.declared.Departure.{Departure}
+use Rattle.scheduler.specs.declared.Refusal.{Refusal}
+use Rattle.scheduler.specs.declared.Refusal.the-variants as refusal
 use Rattle.scheduler.specs.declared.Departure.the-variants.{Complete, Cancel}
 use Rattle.scheduler.specs.declared.Select.{Select}
 use Rattle.scheduler.specs.declared.Select.the-variants as select
 use Rattle.scheduler.specs.Limits.{slots, horizon}
 use Rattle.scheduler.specs.Settings.{cleanup, endOf, until}
 use Rattle.scheduler.specs.Times.{until-end}
-use Rattle.scheduler.specs.Jobs.{unused, isRunning, isCleaning, departs?, departsAs, endsAt, releasedAt, cleaning}
+use Rattle.scheduler.specs.Jobs.{unused, isRunning, isCleaning, departs?, departsAs, tooEarly, endsAt, releasedAt, cleaning}
 use Rattle.scheduler.specs.Table.{withJobs, ticketsOf, tickets, oneIf, ends, endedOf, leaves, staying, ceased, remaining}
 use Rattle.scheduler.specs.TableLaws.{picks-unused}
 use Rattle.scheduler.specs.Model.{view, store, withModelJobs}
 use Rattle.scheduler.specs.Answers.{verdict}
-use Rattle.scheduler.specs.Refusals.{departRefusal, tickRefusal}
+use Rattle.scheduler.specs.Refusals.{notThere, departsEarly, departRefusal, tickRefusal}
 use Rattle.jobs.specs.Order.{Asc}
 use Rattle.jobs.specs.Departing.{not-there, none-departs}
 use Rattle.jobs.specs.Soundness.{Sound, running-clean, ends-runs, all-remain}
 use Rattle.jobs.specs.Premise.{Holds}
 use Rattle.jobs.specs.Slots.{slots-are}
 use Rattle.job_table.specs.declared.Part.{Part}
-use Rattle.job_table.specs.Parts.{refusedUnless, ends?, endsIf, cleansIf, withdrawnIf, pastHorizon, cappedClock, departing, ticking, part}
+use Rattle.job_table.specs.declared.Found.{Found}
+use Rattle.job_table.specs.Parts.{foundAt, ends?, endsIf, cleansIf, withdrawnIf, pastHorizon, cappedClock, departing, ticking, part}
 use Rattle.job_table.specs.Compacting.{Removed, removed, removed-stored, overwrite, Compacts, compacted, Clears}
 
 abbrev pub withClock : Scheduler → ℕ → Scheduler
@@ -79,6 +82,10 @@ cut-step n i xs l h =
     let len = length-take-le (i + 1) xs (omega arith) in
     ap (cut n) (ap (λ (k : ℕ). take k xs) (add-one (i + 1)) ∙ take-suc xs (i + 1) unused h)
     ∙ cut-append n (take (i + 1) xs) (getD xs (i + 1) unused ∷ []) (omega arith)
+
+none-any : (p : Job → Bool) (js : List Job) → ((j : Job) → In j js → p j ≡ false) → any p js ≡ false
+none-any p [] f = refl
+none-any p (j ∷ js) f = rw (f j (here refl)) (none-any p js (λ x i. f x (there i)))
 
 -- whether the one picked leaves at once
 abbrev goes : Departure → Settings → Bool
@@ -150,6 +157,7 @@ module _ (S : Settings) (now : ℕ) (h : Departure) (t : ℕ) where
     goes-out : goes h S ≡ true → rest js ≡ cut n js
     cleans : goes h S ≡ false → rest js ≡ set js n (cleaning now (getD js n unused))
     picked : ticketsOf (keep (departsAs h t) js) ≡ t ∷ []
+    soon : any (departsEarly now h t) js ≡ tooEarly now h (getD js n unused)
 
   alone : (lo k n : ℕ) (js : List Job) → Asc lo js → positionFrom (departsAs h t) k js ≡ some (k + n) → Alone n js
   alone lo k n [] a e = absurd (let z : _≡_ {A = ℕ} 0 1 = cc in omega arith)
@@ -164,6 +172,9 @@ module _ (S : Settings) (now : ℕ) (h : Departure) (t : ℕ) where
             goes-out = λ g. picked-goes j js y g ∙ all-pass js no;
             cleans = λ g. picked-cleans j js y g ∙ ap (λ (l : List Job). cleaning now j ∷ l) (all-pass js no);
             picked = rw (y, keep-none (departsAs h t) js no, is);
+            soon =
+                rw (y, none-any (departsEarly now h t) js (λ k i. ap (λ (b : Bool). b && tooEarly now h k) (no k i)))
+                (case (tooEarly now h j) (λ q. rw q) (λ q. rw q));
           }
   alone lo k (suc n) (j ∷ js) a e =
       case (departsAs h t j)
@@ -174,6 +185,7 @@ module _ (S : Settings) (now : ℕ) (h : Departure) (t : ℕ) where
         goes-out = λ g. passes j js y ∙ ap (λ (l : List Job). j ∷ l) (r .goes-out g);
         cleans = λ g. passes j js y ∙ ap (λ (l : List Job). j ∷ l) (r .cleans g);
         picked = rw y (r .picked);
+        soon = rw y (r .soon);
       })
 
 -- over the slots of a stored model
@@ -293,9 +305,12 @@ abbrev pub cleaningSlot : Scheduler → ℕ → Scheduler
 cleaningSlot d n = withJobs d (set (d .jobs) n (cleaning (d .clock) (getD (d .jobs) n unused)))
 
 module _ (d : Scheduler) (h : Departure) (t : ℕ) (v : Holds Sound d) where
-  abbrev left : Bool → Scheduler → Part
-  left found e = record {
-    refusal = refusedUnless h found;
+  abbrev spot : Option ℕ
+  spot = position (departsAs h t) (d .jobs)
+
+  abbrev left : Refusal → Bool → Scheduler → Part
+  left r found e = record {
+    refusal = r;
     ticket = 0;
     ended = tickets (oneIf (endsIf h found) t);
     withdrawn = withdrawnIf h found t;
@@ -306,9 +321,9 @@ module _ (d : Scheduler) (h : Departure) (t : ℕ) (v : Holds Sound d) where
   unfolding store
   place = ap (position (departsAs h t)) (slots-are d v) ∙ position-pad slots unused (departsAs h t) (picks-unused (select.Departing h t)) (view d .jobs)
 
-  pub leaves-none : position (departsAs h t) (d .jobs) ≡ none → left false d ≡ part (departing (view d) h t)
+  leaves-none : position (departsAs h t) (d .jobs) ≡ none → left (notThere h) false d ≡ part (departing (view d) h t)
   unfolding departRefusal verdict
-  leaves-none e = rw (any-none (departsAs h t) 0 (view d .jobs) (sym place ∙ e), not-there h) (ap (left false) (v .stored))
+  leaves-none e = rw (any-none (departsAs h t) 0 (view d .jobs) (sym place ∙ e), not-there h) (ap (left (notThere h) false) (v .stored))
 
   module _ (i : ℕ) (e : position (departsAs h t) (d .jobs) ≡ some i) where
     alone-here : Alone (d .settings) (d .clock) h t i (view d .jobs)
@@ -341,22 +356,59 @@ module _ (d : Scheduler) (h : Departure) (t : ℕ) (v : Holds Sound d) where
         ∙ ap (λ (x : Scheduler). withJobs x (set (x .jobs) i (cleaning (d .clock) (getD (view d .jobs) i unused)))) (v .stored)
         ∙ ap (withJobs (store (view d))) (pad-set slots unused (view d .jobs) i (cleaning (d .clock) (getD (view d .jobs) i unused)) inside)
 
-    -- what is handed back is what the definition says, if the slots are
-    leaves-as : (x : Scheduler) → x ≡ with (remaining (d .settings) (d .clock) (select.Departing h t) (view d .jobs)) → left true x ≡ part (departing (view d) h t)
-    unfolding departRefusal verdict view store
-    leaves-as x q =
-        rw (any-some (departsAs h t) 0 i (view d .jobs) (sym place ∙ e), ended-one h t (view d .jobs) (alone-here .picked))
-        (ap (left true) q)
+    abbrev soon? : Bool
+    soon? = tooEarly (d .clock) h (getD (d .jobs) i unused)
 
-    pub leaves-one : cleansIf h true (d .settings) ≡ false → left true (withoutSlot d i) ≡ part (departing (view d) h t)
-    leaves-one n =
-        leaves-as (withoutSlot d i)
+    -- whether it is too early for the one of this ticket
+    early-is : any (departsEarly (d .clock) h t) (view d .jobs) ≡ soon?
+    early-is = alone-here .soon ∙ ap (tooEarly (d .clock) h) (sym same-slot)
+
+    leaves-early : soon? ≡ true → left refusal.BeforeLeast false d ≡ part (departing (view d) h t)
+    unfolding departRefusal verdict view store
+    leaves-early y =
+        rw (any-some (departsAs h t) 0 i (view d .jobs) (sym place ∙ e), early-is ∙ y) (ap (left refusal.BeforeLeast false) (v .stored))
+
+    -- what is handed back is what the definition says, if the slots are
+    leaves-as : (x : Scheduler) → soon? ≡ false → x ≡ with (remaining (d .settings) (d .clock) (select.Departing h t) (view d .jobs))
+        → left refusal.None true x ≡ part (departing (view d) h t)
+    unfolding departRefusal verdict view store
+    leaves-as x y q =
+        rw (any-some (departsAs h t) 0 i (view d .jobs) (sym place ∙ e), early-is ∙ y, ended-one h t (view d .jobs) (alone-here .picked))
+        (ap (left refusal.None true) q)
+
+    pub leaves-one : soon? ≡ false → cleansIf h true (d .settings) ≡ false → left refusal.None true (withoutSlot d i) ≡ part (departing (view d) h t)
+    leaves-one y n =
+        leaves-as (withoutSlot d i) y
         (cut-stored ∙ ap with (sym (alone-here .goes-out (not-false (goes h (d .settings)) (sym (cleans-goes h (d .settings)) ∙ n)))))
 
-    pub cleans-one : cleansIf h true (d .settings) ≡ true → left true (cleaningSlot d i) ≡ part (departing (view d) h t)
-    cleans-one n =
-        leaves-as (cleaningSlot d i)
+    pub cleans-one : soon? ≡ false → cleansIf h true (d .settings) ≡ true → left refusal.None true (cleaningSlot d i) ≡ part (departing (view d) h t)
+    cleans-one y n =
+        leaves-as (cleaningSlot d i) y
         (cleaning-stored ∙ ap with (sym (alone-here .cleans (not-true (goes h (d .settings)) (sym (cleans-goes h (d .settings)) ∙ n)))))
+
+  -- what the search gives: a slot, of a job that can leave now, or the refusal
+  pub record Finds (f : Found) : Type 0 where
+    pub low : f .slot ≤ slots
+    pub one : f .slot < slots
+        → (spot ≡ some (f .slot)) × (tooEarly (d .clock) h (getD (d .jobs) (f .slot) unused) ≡ false) × (f .refusal ≡ refusal.None)
+    pub nobody : slots ≤ f .slot → left (f .refusal) false d ≡ part (departing (view d) h t)
+
+  pub finds : (f : Found) → f ≡ foundAt d h spot → Finds f
+  finds f e = subst Finds (sym e) (by spot refl)
+    where
+      none-here : (r : Refusal) → left r false d ≡ part (departing (view d) h t) → Finds (record { refusal = r; slot = slots })
+      none-here r q = record { low = omega arith; one = λ l. absurd (omega arith); nobody = λ l. q }
+
+      by : (p : Option ℕ) → spot ≡ p → Finds (foundAt d h p)
+      by none q = none-here (notThere h) (leaves-none q)
+      by (some i) q =
+          case (tooEarly (d .clock) h (getD (d .jobs) i unused))
+          (λ y. rw y (none-here refusal.BeforeLeast (leaves-early i q y)))
+          (λ y. rw y (record {
+            low = omega (arith, v .holds .few, inside i q);
+            one = λ l. (q, y, refl);
+            nobody = λ l. absurd (omega (arith, v .holds .few, inside i q));
+          }))
 
 -- ## A tick
 

@@ -4,9 +4,12 @@ use Prim.Native.Nat.{ℕ, suc}
 use mathlib.Core.Path.{_≡_, refl}
 use mathlib.Core.Bool.{Bool, true, false, cond}
 use mathlib.Core.List.{List, []}
+use mathlib.Core.Option.{Option, none, some}
 use lib.Dec.{ltb}
+use lib.ListN.{getD}
 use Rattle.lists.specs.Tests.{case, true-false}
 use Rattle.scheduler.specs.declared.Settings.{Settings}
+use Rattle.scheduler.specs.declared.Scheduler.{Scheduler}
 use Rattle.scheduler.specs.declared.Submission.{Submission}
 use Rattle.scheduler.specs.declared.Departure.{Departure}
 use Rattle.scheduler.specs.declared.Departure.the-variants.{Complete, Cancel}
@@ -14,13 +17,15 @@ use Rattle.scheduler.specs.declared.Refusal.{Refusal}
 use Rattle.scheduler.specs.declared.Refusal.the-variants as refusal
 use Rattle.scheduler.specs.declared.Select.{Select}
 use Rattle.scheduler.specs.declared.Select.the-variants as select
-use Rattle.scheduler.specs.Limits.{horizon}
+use Rattle.scheduler.specs.Limits.{slots, horizon}
+use Rattle.scheduler.specs.Jobs.{unused, tooEarly}
 use Rattle.scheduler.specs.Settings.{cleanup}
 use Rattle.scheduler.specs.Table.{liveOf, tickets, endedOf}
 use Rattle.scheduler.specs.Model.{Model, ending, store, view, without}
 use Rattle.scheduler.specs.Answers.{verdict, accepts}
 use Rattle.scheduler.specs.Refusals.{testsBy, notThere, departRefusal, tickRefusal}
 use Rattle.job_table.specs.declared.Part.{Part}
+use Rattle.job_table.specs.declared.Found.{Found}
 
 pub record Own : Type 0 where
   pub refusal : Refusal
@@ -82,9 +87,14 @@ refusalBy S live next o = verdict (testsBy S live next o [])
 abbrev pub sharedRefusal : Model → Submission → Refusal
 sharedRefusal m o = refusalBy (m .settings) (liveOf (o .tenant) (m .jobs)) (m .next) o
 
--- of an early completion or a withdrawal, by whether the job was found
-abbrev pub refusedUnless : Departure → Bool → Refusal
-refusedUnless h found = cond found refusal.None (notThere h)
+-- of an early completion or a withdrawal, by where the job was found; the slot is the one after the last if there is none
+abbrev pub foundAt : Scheduler → Departure → Option ℕ → Found
+foundAt d h (some i) =
+    cond
+    (tooEarly (d .clock) h (getD (d .jobs) i unused))
+    (record { refusal = refusal.BeforeLeast; slot = slots })
+    (record { refusal = refusal.None; slot = i })
+foundAt d h none = record { refusal = notThere h; slot = slots }
 
 -- whether its run ends, and its ticket if it is withdrawn
 abbrev pub ends? : Departure → Bool

@@ -24,15 +24,16 @@ use Rattle.scheduler.specs.Answers.{verdict, accepts}
 use Rattle.scheduler.specs.Refusals.{testsBy}
 use Rattle.job_table.specs.Parts.{refusalBy}
 
--- the kind's own tests decide where the five that both share refuse nothing
+-- the kind's own tests decide where the six that both share refuse nothing
 pub tests-more : (S : Settings) (live next : ℕ) (o : Submission) (more : List (Bool × Refusal))
     → verdict (testsBy S live next o more) ≡ cond (accepts (refusalBy S live next o)) (verdict more) (refusalBy S live next o)
 unfolding verdict refusalBy
 tests-more S live next o more =
     case (known (o .tenant)) (λ k. rw k (case (outside 1 (S .nodes) (o .nodes)) (λ a. rw a)
     (λ a. rw a (case (outside 1 longestEstimate (o .estimate)) (λ b. rw b)
-    (λ b. rw b (case (leb (quota S (o .tenant)) live) (λ c. rw c)
-    (λ c. rw c (case (ltb lastTicket next) (λ d. rw d) (λ d. rw d)))))))))
+    (λ b. rw b (case (ltb (o .estimate) (o .least)) (λ e. rw e)
+    (λ e. rw e (case (leb (quota S (o .tenant)) live) (λ c. rw c)
+    (λ c. rw c (case (ltb lastTicket next) (λ d. rw d) (λ d. rw d)))))))))))
     (λ k. rw k)
 
 abbrev pub withNext : Scheduler → ℕ → Scheduler

@@ -12,12 +12,14 @@ use scheduler::Tickets;
 ghost use mathlib.Core.Path.{_≡_};
 ghost use lib.ListN.{length};
 ghost use Rattle.lists.specs.Lists.{keep};
-ghost use Rattle.scheduler.specs.Jobs.{isWaiting};
+ghost use Rattle.lists.specs.Loops.{position};
+ghost use Rattle.scheduler.specs.Jobs.{isWaiting, departsAs};
+ghost use Rattle.scheduler.specs.Refusals.{notThere};
 ghost use Rattle.scheduler.specs.Table.{liveOf};
 ghost use Rattle.scheduler.specs.Model.{view};
 ghost use Rattle.jobs.specs.Soundness.{Sound};
 ghost use Rattle.jobs.specs.Premise.{Holds};
-ghost use Rattle.job_table.specs.Parts.{refusalBy, refusedUnless, endsIf, cleansIf, withdrawnIf, pastHorizon, cappedClock, part, departing, ticking};
+ghost use Rattle.job_table.specs.Parts.{refusalBy, foundAt, endsIf, cleansIf, withdrawnIf, pastHorizon, cappedClock, part, departing, ticking};
 
 // The last slot.
 const LAST: usize = Scheduler::LIVE - 1;
@@ -88,7 +90,7 @@ pub fn live_of(d: Scheduler, tenant: Tenant) -> usize
     n
 }
 
-// What a submission is refused for, whatever the kind, in this order: 14, 1, 2, 15, 5. Its tenant has so many live jobs.
+// What a submission is refused for, whatever the kind, in this order: 14, 1, 2, 19, 15, 5. Its tenant has so many live jobs.
 pub fn submit_refusal(s: Submission, settings: Settings, live: usize, next: u32) -> Refusal
     ensures { λ r. ⌜ r ≡ refusalBy settings live next s ⌝ }
 {
@@ -101,6 +103,9 @@ pub fn submit_refusal(s: Submission, settings: Settings, live: usize, next: u32)
     }
     if scheduler::outside_range(s.estimate, 1, Scheduler::LONGEST_ESTIMATE) {
         return Refusal::MinutesOutOfRange;
+    }
+    if s.estimate < s.least {
+        return Refusal::LeastAboveMost;
     }
     if settings.quota(tenant) as usize <= live {
         return Refusal::QuotaFull;
@@ -120,15 +125,44 @@ pub fn past_horizon(minute: u32) -> Refusal
     Refusal::None
 }
 
-fn refused_unless(how: Departure, found: bool) -> Refusal
-    ensures { λ r. ⌜ r ≡ refusedUnless how found ⌝ }
+fn not_there(how: Departure) -> Refusal
+    ensures { λ r. ⌜ r ≡ notThere how ⌝ }
 {
-    if found {
-        return Refusal::None;
-    }
     match how {
         Departure::Complete => Refusal::NotRunning,
         Departure::Cancel => Refusal::NotWaiting,
+    }
+}
+
+// The slot of the job that leaves, or why none does, in this order: 7 or 11, 20. There is no slot 64.
+struct Found {
+    refusal: Refusal,
+    slot: usize,
+}
+
+fn find(d: Scheduler, how: Departure, ticket: u32) -> Found
+    ensures { λ r. ⌜ r ≡ foundAt d how (position (departsAs how ticket) (d .jobs)) ⌝ }
+{
+    let mut i: usize = 0;
+    while i < Scheduler::LIVE {
+        let j = d.jobs[i];
+        if j.departs(how, ticket) {
+            if j.is_early(how, d.clock) {
+                return Found {
+                    refusal: Refusal::BeforeLeast,
+                    slot: Scheduler::LIVE,
+                };
+            }
+            return Found {
+                refusal: Refusal::None,
+                slot: i,
+            };
+        }
+        i += 1;
+    }
+    Found {
+        refusal: not_there(how),
+        slot: Scheduler::LIVE,
     }
 }
 
@@ -174,15 +208,10 @@ pub fn leave(d: Scheduler, how: Departure, ticket: u32) -> Part
     ensures { λ r. ⌜ r ≡ part (departing (view d) how ticket) ⌝ }
 {
     let none = Job::unused();
+    let f = find(d, how, ticket);
+    let refusal = f.refusal;
     let mut e = d;
-    let mut i: usize = 0;
-    while i < Scheduler::LIVE {
-        let j = e.jobs[i];
-        if j.departs(how, ticket) {
-            break;
-        }
-        i += 1;
-    }
+    let mut i = f.slot;
     let found = i < Scheduler::LIVE;
     let mut leaves = found;
     if cleans_if(how, found, e.settings) {
@@ -202,7 +231,7 @@ pub fn leave(d: Scheduler, how: Departure, ticket: u32) -> Part
     }
     let ended = Tickets::one_if(ends_if(how, found), ticket);
     Part {
-        refusal: refused_unless(how, found),
+        refusal: refusal,
         ticket: 0,
         ended: ended,
         withdrawn: withdrawn_if(how, found, ticket),

@@ -1,7 +1,7 @@
 -- A job leaves on request, early or withdrawn: it is the only one of its ticket. Whose run ends ran.
 -- Assumes nothing.
 use mathlib.Core.Path.{_≡_, refl, subst}
-use mathlib.Core.Bool.{true, false}
+use mathlib.Core.Bool.{true, false, cond}
 use mathlib.Core.List.{List, [], _∷_}
 use Prim.Native.Nat.{ℕ, suc, _<_}
 use native.Mathlib.Omega.{arith}
@@ -15,14 +15,25 @@ use Rattle.scheduler.specs.declared.Job.{Job}
 use Rattle.scheduler.specs.declared.Select.{Select}
 use Rattle.scheduler.specs.Jobs.{isRunning, departs?, departsAs}
 use Rattle.scheduler.specs.Table.{ticketsOf, ends, endedOf}
-use Rattle.scheduler.specs.Answers.{accepts}
-use Rattle.scheduler.specs.Refusals.{notThere}
+use Rattle.scheduler.specs.declared.Refusal.the-variants as refusal
+use Rattle.scheduler.specs.Model.{Model}
+use Rattle.scheduler.specs.Answers.{verdict, accepts}
+use Rattle.scheduler.specs.Refusals.{notThere, departsEarly, departRefusal}
 use Rattle.jobs.specs.Order.{Asc, asc-in, elem-job, job-elem}
 use Rattle.jobs.specs.Soundness.{ends-runs}
 
 pub not-there : (h : Departure) → accepts (notThere h) ≡ false
 not-there Complete = refl
 not-there Cancel = refl
+
+-- a withdrawal is never too early: it is refused by 11 or not at all
+none-early : (now t : ℕ) (js : List Job) → any (departsEarly now Cancel t) js ≡ false
+none-early now t [] = refl
+none-early now t (j ∷ js) = rw (and-right-false (departsAs Cancel t j) refl) (none-early now t js)
+
+pub cancel-judged : (m : Model) (t : ℕ) → departRefusal m Cancel t ≡ cond (any (departsAs Cancel t) (m .jobs)) refusal.None refusal.NotWaiting
+unfolding departRefusal verdict
+cancel-judged m t = rw (none-early (m .clock) t (m .jobs)) (case (any (departsAs Cancel t) (m .jobs)) (λ e. rw e) (λ e. rw e))
 
 module _ (h : Departure) (t : ℕ) where
   -- no job after one of this ticket has it

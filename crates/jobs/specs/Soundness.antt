@@ -46,6 +46,7 @@ pub record SoundJob (S : Settings) (clock : ℕ) (j : Job) : Type 0 where
   pub nodes-to : j .nodes ≤ S .nodes
   pub estimate-from : 1 ≤ j .estimate
   pub estimate-to : j .estimate ≤ longest S
+  pub least-to : j .least ≤ j .estimate
   -- no hold passes the last minute
   pub ends : until S j ≤ horizon S
   pub holds : isHolding j ≡ true → (j .start ≤ clock) × (clock < until S j)
@@ -211,6 +212,7 @@ pub record Fit (m : Model) (o : Submission) : Type 0 where
   pub nodes-to : o .nodes ≤ m .settings .nodes
   pub estimate-from : 1 ≤ o .estimate
   pub estimate-to : o .estimate ≤ longest (m .settings)
+  pub least-to : o .least ≤ o .estimate
   pub tenant-is : known (o .tenant) ≡ true
   pub share : liveOf (o .tenant) (m .jobs) < quota (m .settings) (o .tenant)
   pub ticket-left : m .next ≤ lastTicket
@@ -241,7 +243,8 @@ submit-fit m o more h =
     let z = passed (not (known (o .tenant))) refusal.UnknownTenant _ refl h in
     let a = passed (outside 1 (m .settings .nodes) (o .nodes)) refusal.NodesOutOfRange _ refl (z .1) in
     let b = passed (outside 1 (longest (m .settings)) (o .estimate)) refusal.MinutesOutOfRange _ refl (a .1) in
-    let c = passed (leb (quota (m .settings) (o .tenant)) (liveOf (o .tenant) (m .jobs))) refusal.QuotaFull _ refl (b .1) in
+    let l = passed (ltb (o .estimate) (o .least)) refusal.LeastAboveMost _ refl (b .1) in
+    let c = passed (leb (quota (m .settings) (o .tenant)) (liveOf (o .tenant) (m .jobs))) refusal.QuotaFull _ refl (l .1) in
     let d = passed (ltb lastTicket (m .next)) refusal.NoTicketLeft _ refl (c .1) in
     let a′ = neither (ltb (o .nodes) 1) (ltb (m .settings .nodes) (o .nodes)) (a .0) in
     let b′ = neither (ltb (o .estimate) 1) (ltb (longest (m .settings)) (o .estimate)) (b .0) in (
@@ -250,6 +253,7 @@ submit-fit m o more h =
         nodes-to = ltb-false (m .settings .nodes) (o .nodes) (a′ .1);
         estimate-from = ltb-false (o .estimate) 1 (b′ .0);
         estimate-to = ltb-false (longest (m .settings)) (o .estimate) (b′ .1);
+        least-to = ltb-false (o .estimate) (o .least) (l .0);
         tenant-is = not-false (known (o .tenant)) (z .0);
         share = leb-false (quota (m .settings) (o .tenant)) (liveOf (o .tenant) (m .jobs)) (c .0);
         ticket-left = ltb-false lastTicket (m .next) (d .0);
@@ -483,6 +487,7 @@ sound-leave m c s v l = record {
           nodes-to = w .nodes-to;
           estimate-from = w .estimate-from;
           estimate-to = w .estimate-to;
+          least-to = w .least-to;
           ends = omega (arith, until-cleaned S c k, ends-by m c s l k w e, w .ends, until-end S k (running-clean (k .state) r));
           holds = λ h. (omega (arith, w .holds (running-holds (k .state) r), leaving-clock m c s l), omega (arith, until-cleaned S c k));
           runs = λ h. true-false false h refl;
@@ -499,6 +504,7 @@ sound-leave m c s v l = record {
       nodes-to = w .nodes-to;
       estimate-from = w .estimate-from;
       estimate-to = w .estimate-to;
+      least-to = w .least-to;
       ends = w .ends;
       holds = λ h. (omega (arith, w .holds h, leaving-clock m c s l), later h);
       runs = λ h. runs-on m c s l k w h e;

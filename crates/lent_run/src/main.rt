@@ -144,6 +144,7 @@ fn submit(d: Scheduler, nodes: u32, estimate: u32, tenant: Tenant) -> Scheduler
         nodes: nodes,
         estimate: estimate,
         tenant: tenant,
+        least: 0,
     };
     let o = lent_submit(d, s);
     let e = o.scheduler;

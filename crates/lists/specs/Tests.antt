@@ -5,8 +5,8 @@ use native.Mathlib.Omega.{arith}
 use mathlib.Core.Path.{_≡_, refl}
 use mathlib.Core.Bool.{Bool, true, false, _&&_, _||_}
 use mathlib.Core.Logic.{_⊎_, inl, inr}
-use lib.Dec.{leb, eqb}
-use borrow.Author.Tests.{leb-true, leb-false, eqb-true, eqb-false, eq-eqb, ne-eqb}
+use lib.Dec.{leb, ltb, eqb}
+use borrow.Author.Tests.{leb-true, leb-false, ltb-true, ltb-false, lt-ltb, le-ltb, eqb-true, eqb-false, eq-eqb, ne-eqb}
 
 -- a test decided, with the equation
 pub case {ℓ} : {A : Type ℓ} (b : Bool) → (b ≡ true → A) → (b ≡ false → A) → A
@@ -52,3 +52,9 @@ eqb-sub m w s h =
     case (eqb (s + w) m)
     (λ e. rw e (eq-eqb (m - w) s (omega (arith, eqb-true (s + w) m e))))
     (λ e. rw e (ne-eqb (m - w) s (λ q. eqb-false (s + w) m e (omega arith))))
+
+pub ltb-sub : (m w s : ℕ) → w ≤ m → ltb (m - w) s ≡ ltb m (w + s)
+ltb-sub m w s h =
+    case (ltb m (w + s))
+    (λ e. rw e (lt-ltb (m - w) s (omega (arith, ltb-true m (w + s) e))))
+    (λ e. rw e (le-ltb (m - w) s (omega (arith, ltb-false m (w + s) e))))

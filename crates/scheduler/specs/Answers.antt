@@ -32,6 +32,8 @@ code refusal.CleanupOutOfRange = 12
 code refusal.QuotasOutOfRange = 13
 code refusal.UnknownTenant = 14
 code refusal.QuotaFull = 15
+code refusal.LeastAboveMost = 19
+code refusal.BeforeLeast = 20
 
 -- "Where several apply, order": the first test that holds decides
 unfoldable pub verdict : List (Bool × Refusal) → Refusal

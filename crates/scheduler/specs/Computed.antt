@@ -1,4 +1,5 @@
--- Document 02, No. 4, computed from the definitions: how the places are divided, and who is refused for lack of them.
+-- Document 02, computed from the definitions. No. 4: how the places are divided, and who is refused for lack of them. No. 7: a least above the
+-- most, and an end before the least.
 -- Assumes nothing.
 use mathlib.Core.Path.{_≡_, refl}
 use mathlib.Core.Bool.{true, false}
@@ -16,10 +17,11 @@ use Rattle.scheduler.specs.Limits.{misdivided}
 use Rattle.scheduler.specs.Jobs.{fresh, cleaning}
 use Rattle.scheduler.specs.Model.{Model}
 use Rattle.scheduler.specs.Answers.{verdict}
-use Rattle.scheduler.specs.Refusals.{submitTests}
+use Rattle.scheduler.specs.declared.Departure.the-variants.{Complete}
+use Rattle.scheduler.specs.Refusals.{submitTests, departRefusal}
 
 abbrev asks : Tenant → (nodes : ℕ) → Submission
-asks t n = record { nodes = n; estimate = 5; tenant = t }
+asks t n = record { nodes = n; estimate = 5; tenant = t; least = 0 }
 
 -- 10 nodes, two places for A and 62 for B; these jobs are live
 abbrev with-jobs : List Job → Model
@@ -55,3 +57,27 @@ pub examples : (misdivided 63 1 ≡ false)
     × (judged (runs A 1 ∷ waits B 2 ∷ runs B 3 ∷ []) (asks A 1) ≡ refusal.None)
 unfolding verdict
 examples = (refl, refl, refl, refl, refl, refl, refl, refl, refl, refl, refl, refl)
+
+-- run lengths from a least to 5 minutes
+abbrev between : ℕ → Tenant → (nodes : ℕ) → Submission
+between l t n = record { nodes = n; estimate = 5; tenant = t; least = l }
+
+abbrev leaves-at : (now : ℕ) → Job → Refusal
+leaves-at now j = departRefusal (record {
+  settings = with-jobs [] .settings;
+  clock = now;
+  next = 9;
+  jobs = j ∷ [];
+}) Complete 1
+
+pub least-examples : (judged [] (between 5 A 1) ≡ refusal.None)
+    × (judged [] (between 6 A 1) ≡ refusal.LeastAboveMost)
+    -- 1 comes before 19, 19 before 15
+    × (judged [] (between 6 A 11) ≡ refusal.NodesOutOfRange)
+    × (judged (runs A 1 ∷ waits A 2 ∷ []) (between 6 A 1) ≡ refusal.LeastAboveMost)
+    -- a run from minute 5 on that takes 3 minutes at least
+    × (leaves-at 7 (fresh 1 (between 3 A 1) Running 5 0) ≡ refusal.BeforeLeast)
+    × (leaves-at 8 (fresh 1 (between 3 A 1) Running 5 0) ≡ refusal.None)
+    × (leaves-at 7 (fresh 1 (between 3 A 1) Waiting 5 0) ≡ refusal.NotRunning)
+unfolding departRefusal verdict
+least-examples = (refl, refl, refl, refl, refl, refl, refl)

@@ -1,8 +1,8 @@
 -- One job: its state, the nodes it holds, and the tests that calls pick jobs by.
 -- Assumes nothing.
-use mathlib.Core.Bool.{Bool, _&&_}
-use Prim.Native.Nat.{ℕ}
-use lib.Dec.{eqb}
+use mathlib.Core.Bool.{Bool, false, _&&_}
+use Prim.Native.Nat.{ℕ, _+_}
+use lib.Dec.{eqb, ltb}
 use Rattle.lists.specs.Tests.{on}
 use Rattle.scheduler.specs.declared.Settings.{Settings}
 use Rattle.scheduler.specs.declared.State.{State}
@@ -19,7 +19,7 @@ use Rattle.scheduler.specs.Settings.{endOf, until}
 
 -- "unused ones all zero"
 abbrev pub unused : Job
-unused = record { ticket = 0; nodes = 0; estimate = 0; state = Unused; tenant = Nobody; start = 0; promise = 0; end = 0 }
+unused = record { ticket = 0; nodes = 0; estimate = 0; state = Unused; tenant = Nobody; least = 0; start = 0; promise = 0; end = 0 }
 
 abbrev pub isLive : Job → Bool
 isLive j = live? (j .state)
@@ -48,6 +48,11 @@ departs? Cancel s = waiting? s
 abbrev pub departsAs : Departure → ℕ → Job → Bool
 departsAs h t j = departs? h (j .state) && eqb (j .ticket) t
 
+-- document 02, No. 7: "an end before the least": the minute is before start + least
+abbrev pub tooEarly : (now : ℕ) → Departure → Job → Bool
+tooEarly now Complete j = ltb now (j .start + j .least)
+tooEarly now Cancel j = false
+
 -- "A stack that starts at minute s ends at s + held unless ended before. The desk ends it there"
 abbrev pub endsAt : Settings → ℕ → Job → Bool
 endsAt S t j = isRunning j && eqb (endOf S j) t
@@ -64,6 +69,7 @@ fresh t o s start promise = record {
   estimate = o .estimate;
   state = s;
   tenant = o .tenant;
+  least = o .least;
   start = start;
   promise = promise;
   end = 0;
@@ -77,6 +83,7 @@ jobAt s start j = record {
   estimate = j .estimate;
   state = s;
   tenant = j .tenant;
+  least = j .least;
   start = start;
   promise = j .promise;
   end = 0;
@@ -90,6 +97,7 @@ cleaning m j = record {
   estimate = j .estimate;
   state = Cleanup;
   tenant = j .tenant;
+  least = j .least;
   start = j .start;
   promise = j .promise;
   end = m;

@@ -1,6 +1,6 @@
 -- The conditions of refusals that both kinds share, in document 01's order ("When a desk says no").
 -- Assumes nothing.
-use mathlib.Core.Bool.{Bool, not, cond}
+use mathlib.Core.Bool.{Bool, not, cond, _&&_}
 use mathlib.Core.List.{List, [], _∷_}
 use Prim.Native.Nat.{ℕ, suc, _+_}
 use lib.Dec.{leb, ltb}
@@ -8,12 +8,13 @@ use Rattle.lists.specs.Lists.{any}
 use Rattle.scheduler.specs.declared.Refusal.{Refusal}
 use Rattle.scheduler.specs.declared.Refusal.the-variants as refusal
 use Rattle.scheduler.specs.declared.Settings.{Settings}
+use Rattle.scheduler.specs.declared.Job.{Job}
 use Rattle.scheduler.specs.declared.Departure.{Departure}
 use Rattle.scheduler.specs.declared.Departure.the-variants.{Complete, Cancel}
 use Rattle.scheduler.specs.declared.Submission.{Submission}
 use Rattle.scheduler.specs.declared.Select.the-variants as select
 use Rattle.scheduler.specs.Limits.{longestWait, lastTicket, outside}
-use Rattle.scheduler.specs.Jobs.{picks}
+use Rattle.scheduler.specs.Jobs.{tooEarly, picks}
 use Rattle.scheduler.specs.Settings.{horizon, quota, longest}
 use Rattle.scheduler.specs.Tenants.{known}
 use Rattle.scheduler.specs.Table.{liveOf}
@@ -26,12 +27,14 @@ judged m r o = cond (accepts r) o (refuse m r)
 
 -- of a submission, by what they look at: "intake 1, 2, .. 5" and what the kind adds. 1: "stack nodes 0 or above the rack's"; 2:
 -- "estimate outside 1 to 10,080"; 5: "ticket 999,999 has been given". Document 02, No. 4: 14, "a house other than A or B, first at
--- intake"; 15, "the house's places are all live, in place of 4"; `live` are the live jobs of the submission's tenant
+-- intake"; 15, "the house's places are all live, in place of 4"; `live` are the live jobs of the submission's tenant. No. 7: 19, "least
+-- above most, after 2"
 abbrev pub testsBy : Settings → (live next : ℕ) → Submission → List (Bool × Refusal) → List (Bool × Refusal)
 testsBy S live next o more =
     (not (known (o .tenant)), refusal.UnknownTenant)
     ∷ (outside 1 (S .nodes) (o .nodes), refusal.NodesOutOfRange)
     ∷ (outside 1 (longest S) (o .estimate), refusal.MinutesOutOfRange)
+    ∷ (ltb (o .estimate) (o .least), refusal.LeastAboveMost)
     ∷ (leb (quota S (o .tenant)) live, refusal.QuotaFull)
     ∷ (ltb lastTicket next, refusal.NoTicketLeft)
     ∷ more
@@ -44,8 +47,16 @@ abbrev pub notThere : Departure → Refusal
 notThere Complete = refusal.NotRunning
 notThere Cancel = refusal.NotWaiting
 
+-- document 02, No. 7: 20, "an end before the least, after 7"
+abbrev pub departsEarly : (now : ℕ) → Departure → ℕ → Job → Bool
+departsEarly now h t j = picks (select.Departing h t) j && tooEarly now h j
+
 unfoldable pub departRefusal : Model → Departure → ℕ → Refusal
-departRefusal m h t = verdict ((not (any (picks (select.Departing h t)) (m .jobs)), notThere h) ∷ [])
+departRefusal m h t =
+    verdict
+    ((not (any (picks (select.Departing h t)) (m .jobs)), notThere h)
+    ∷ (any (departsEarly (m .clock) h t) (m .jobs), refusal.BeforeLeast)
+    ∷ [])
 
 -- 6: "Step or `wait`: the clock would pass it"
 unfoldable pub tickRefusal : Model → Refusal

@@ -2,7 +2,7 @@
 ghost use mathlib.Core.Path.{_≡_};
 ghost use Prim.Native.Nat.{_≤_};
 ghost use Rattle.scheduler.specs.Limits.{maxNodes, longestEstimate, limits, outside, misdivided};
-ghost use Rattle.scheduler.specs.Jobs.{unused, fresh, jobAt, cleaning, isRunning, isCleaning, releasedAt, picks};
+ghost use Rattle.scheduler.specs.Jobs.{unused, fresh, jobAt, cleaning, isRunning, isCleaning, tooEarly, releasedAt, picks};
 ghost use Rattle.scheduler.specs.Tenants.{known, number, sameTenant, tenantOf, letterOf};
 ghost use Rattle.scheduler.specs.Settings.{refusedSettings, quota, cleanup, runTime, holdTime, unit};
 ghost use Rattle.scheduler.specs.Table.{tickets, oneIf};
@@ -31,13 +31,15 @@ pub enum Tenant {
 }
 
 // A live job (document 01: "stack", "record"), or an unused slot, which is all zero. A job in cleanup has run: it keeps its end, which is 0 in
-// every other, and its nodes stay taken. Nodes and estimates are within 16 bits: a scheduler copies its 64 jobs wherever it is handed on.
+// every other, and its nodes stay taken. The estimate is the most that it runs, and what it is planned with; the least is when it can be over
+// at the earliest. Nodes and run lengths are within 16 bits: a scheduler copies its 64 jobs wherever it is handed on.
 pub struct Job {
     pub ticket: u32,
     pub nodes: u16,
     pub estimate: u16,
     pub state: State,
     pub tenant: Tenant,
+    pub least: u16,
     pub start: u32,
     pub promise: u32,
     pub end: u32,
@@ -89,6 +91,8 @@ pub enum Refusal {
     QuotasOutOfRange,
     UnknownTenant,
     QuotaFull,
+    LeastAboveMost,
+    BeforeLeast,
 }
 
 // Tickets in order; the places past the count are 0.
@@ -124,11 +128,12 @@ pub struct Opened {
     pub scheduler: Scheduler,
 }
 
-// What a submission asks for (document 01: "intake").
+// What a submission asks for (document 01: "intake"): the estimate is the most that the job runs (document 02, No. 7).
 pub struct Submission {
     pub nodes: u32,
     pub estimate: u32,
     pub tenant: Tenant,
+    pub least: u32,
 }
 
 // How a job leaves on request: one that runs is over early, one that waits is withdrawn.
@@ -191,6 +196,8 @@ impl Refusal {
             Refusal::QuotasOutOfRange => 13,
             Refusal::UnknownTenant => 14,
             Refusal::QuotaFull => 15,
+            Refusal::LeastAboveMost => 19,
+            Refusal::BeforeLeast => 20,
         }
     }
 
@@ -310,6 +317,7 @@ impl Job {
             estimate: 0,
             state: State::Unused,
             tenant: Tenant::Nobody,
+            least: 0,
             start: 0,
             promise: 0,
             end: 0,
@@ -318,7 +326,7 @@ impl Job {
 
     // A job that comes in: what is asked for it, under its ticket.
     pub fn fresh(ticket: u32, order: Submission, state: State, start: u32, promise: u32) -> Job
-        requires { ⌜ (order .nodes ≤ maxNodes) × (order .estimate ≤ longestEstimate) ⌝ }
+        requires { ⌜ (order .nodes ≤ maxNodes) × (order .estimate ≤ longestEstimate) × (order .least ≤ order .estimate) ⌝ }
         ensures { λ r. ⌜ r ≡ fresh ticket order state start promise ⌝ }
     {
         let tenant = order.tenant;
@@ -328,6 +336,7 @@ impl Job {
             estimate: order.estimate as u16,
             state: state,
             tenant: tenant,
+            least: order.least as u16,
             start: start,
             promise: promise,
             end: 0,
@@ -345,6 +354,7 @@ impl Job {
             estimate: self.estimate,
             state: state,
             tenant: tenant,
+            least: self.least,
             start: start,
             promise: self.promise,
             end: 0,
@@ -362,6 +372,7 @@ impl Job {
             estimate: self.estimate,
             state: State::Cleanup,
             tenant: tenant,
+            least: self.least,
             start: self.start,
             promise: self.promise,
             end: end,
@@ -427,6 +438,22 @@ impl Job {
             };
         }
         false
+    }
+
+    // Whether it would be over before its least. (A difference, so that no sum can leave its range.)
+    pub fn is_early(self, how: Departure, minute: u32) -> bool
+        ensures { λ r. ⌜ r ≡ tooEarly minute how self ⌝ }
+    {
+        match how {
+            Departure::Complete => {
+                let start = self.start;
+                if minute < start {
+                    return true;
+                }
+                minute - start < self.least as u32
+            }
+            Departure::Cancel => false,
+        }
     }
 
     // Whether it runs and its run ends in this minute. (A difference, so that no sum can leave its range.)

@@ -23,9 +23,8 @@ use Rattle.text.specs.Words.{isWord}
 use Rattle.scheduler.specs.declared.Kind.{Kind}
 use Rattle.scheduler.specs.declared.Opening.{Opening}
 use Rattle.scheduler.specs.declared.Departure.{Departure}
-use Rattle.history.specs.Calls.{Command, ask, wait, submit, depart, orderOf, asked}
-use Rattle.scheduler.specs.Tenants.{tenantOf}
-use Rattle.script_rules.specs.Reading.{hasForm, numberAt, withNumber}
+use Rattle.history.specs.Calls.{Command, ask, wait, depart, asked}
+use Rattle.script_rules.specs.Reading.{hasForm, numberAt, withNumber, submitFor}
 use Rattle.script_reading.specs.declared.FirstLine.{FirstLine}
 use Rattle.script_reading.specs.declared.FirstLine.the-variants as first
 use Rattle.script_reading.specs.declared.Asked.{Asked}
@@ -138,7 +137,10 @@ openingOf k vs = some (record {
 
 -- a letter, if the last field is one, says whose the job is
 abbrev pub submissionOf : Parsed → List ℕ → Option Command
-submissionOf h vs = withNumber h (λ t. some (ask (submit (orderOf (tenantOf t) (getD vs 0 0) (getD vs 1 0)))))
+submissionOf h vs = submitFor h (getD vs 0 0) 0 (getD vs 1 0)
+
+abbrev pub betweenOf : Parsed → List ℕ → Option Command
+betweenOf h vs = submitFor h (getD vs 0 0) (getD vs 1 0) (getD vs 2 0)
 
 abbrev pub departureOf : Departure → List ℕ → Option Command
 departureOf h vs = some (ask (depart h (getD vs 0 0)))

@@ -14,9 +14,9 @@ use Rattle.text.specs.Fields.{fieldOf}
 use Rattle.scheduler.specs.declared.Kind.{Kind}
 use Rattle.scheduler.specs.Tenants.{tenantOf}
 use Rattle.scheduler.specs.declared.Opening.{Opening}
-use Rattle.history.specs.Calls.{Command, ask, wait, submit, depart, orderOf, complete, cancel, tick, unchanged}
+use Rattle.history.specs.Calls.{Command, ask, wait, submit, depart, orderBetween, complete, cancel, tick, unchanged}
 use Rattle.script_rules.specs.Reading.{numberAt, letterAt, withNumber, withKind, kindOf, hasForm, inWord, endWord, waitWord, dropWord, deskWord, openingIn}
-use Rattle.script_rules.specs.Reading.{commandIn}
+use Rattle.script_rules.specs.Reading.{submitFor, commandIn}
 
 abbrev pub Small : ℕ → Type 0
 Small n = n ≤ 9999999
@@ -27,7 +27,7 @@ SmallOpening o =
     × Small (o .settings .«quota_b»)
 
 abbrev pub SmallCommand : Command → Type 0
-SmallCommand (ask (submit o)) = Small (o .nodes) × Small (o .estimate)
+SmallCommand (ask (submit o)) = Small (o .nodes) × Small (o .least) × Small (o .estimate)
 SmallCommand (ask (depart h t)) = Small t
 SmallCommand (ask tick) = ⊥
 SmallCommand (ask (unchanged why)) = ⊥
@@ -73,13 +73,18 @@ pub command-small : (s : List ℕ) (q : Command) → commandIn s ≡ some q → 
 unfolding commandIn
 command-small s =
     any-cond SmallCommand (hasForm s 4 inWord) _ _
-    (any-field SmallCommand s 1 _ (λ n small-n. any-field SmallCommand s 2 _ (λ e small-e. any-number SmallCommand (letterAt s 3) _ (λ h q.
-    any-some SmallCommand (ask (submit (orderOf (tenantOf h) n e))) (small-n, small-e)))))
+    (any-field SmallCommand s 1 _ (λ n small-n. any-field SmallCommand s 2 _ (λ e small-e. any-submit (letterAt s 3) n 0 e small-n (omega arith) small-e)))
+    (any-cond SmallCommand (hasForm s 5 inWord) _ _
+    (any-field SmallCommand s 1 _ (λ n small-n. any-field SmallCommand s 2 _ (λ l small-l. any-field SmallCommand s 3 _ (λ e small-e.
+    any-submit (letterAt s 4) n l e small-n small-l small-e))))
     (any-cond SmallCommand (hasForm s 2 endWord) _ _
     (any-field SmallCommand s 1 _ (λ t small-t. any-some SmallCommand (ask (complete t)) small-t))
     (any-cond SmallCommand (hasForm s 2 waitWord) _ _ (any-field SmallCommand s 1 _ (λ n small-n. any-some SmallCommand (wait n) small-n))
     (any-cond SmallCommand (hasForm s 2 dropWord) _ none (any-field SmallCommand s 1 _ (λ t small-t. any-some SmallCommand (ask (cancel t)) small-t))
-    (any-none SmallCommand))))
+    (any-none SmallCommand)))))
+  where
+    any-submit : (h : Parsed) (n l e : ℕ) → Small n → Small l → Small e → Any SmallCommand (submitFor h n l e)
+    any-submit h n l e a b c = any-number SmallCommand h _ (λ t q. any-some SmallCommand (ask (submit (orderBetween (tenantOf t) n l e))) (a, b, c))
 
 -- of a wait
 pub wait-small : (s : List ℕ) (n : ℕ) → commandIn s ≡ some (wait n) → n ≤ 9999999

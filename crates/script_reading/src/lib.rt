@@ -1,7 +1,7 @@
 // A line of a script, read into what it asks. Each field goes through the field reader to the number reader: there is no second parser.
 ghost use mathlib.Core.Path.{_≡_};
-ghost use Rattle.script_rules.specs.Reading.{withKind, kindOf, openingIn, commandIn};
-ghost use Rattle.script_reading.specs.Meaning.{opens, asks, follows, formFrom, whenRead, openingOf, submissionOf, departureOf, waitOf};
+ghost use Rattle.script_rules.specs.Reading.{withKind, kindOf, submitFor, openingIn, commandIn};
+ghost use Rattle.script_reading.specs.Meaning.{opens, asks, follows, formFrom, whenRead, openingOf, submissionOf, betweenOf, departureOf, waitOf};
 use scheduler::Departure;
 use scheduler::Kind;
 use scheduler::Opening;
@@ -76,22 +76,40 @@ fn opening(named: Named, given: Numbers) -> FirstLine
     })
 }
 
+fn submit_for(house: Parsed, nodes: u32, least: u32, most: u32) -> Asked
+    ensures { λ r. ⌜ asks r ≡ submitFor house nodes least most ⌝ }
+{
+    let Parsed::Is(letter) = house else {
+        return Asked::Malformed;
+    };
+    let tenant = Tenant::of_letter(letter);
+    Asked::Call(Request::Submit(Submission {
+        nodes: nodes,
+        estimate: most,
+        tenant: tenant,
+        least: least,
+    }))
+}
+
+// With one number of minutes the least is 0.
 fn submission(given: Numbers, house: Parsed) -> Asked
     ensures { λ r. ⌜ asks r ≡ whenRead 2 given (submissionOf house) ⌝ }
 {
     if given.count < 2 {
         return Asked::Malformed;
     }
-    let Parsed::Is(letter) = house else {
-        return Asked::Malformed;
-    };
     let v = given.values;
-    let tenant = Tenant::of_letter(letter);
-    Asked::Call(Request::Submit(Submission {
-        nodes: v[0],
-        estimate: v[1],
-        tenant: tenant,
-    }))
+    submit_for(house, v[0], 0, v[1])
+}
+
+fn submission_between(given: Numbers, house: Parsed) -> Asked
+    ensures { λ r. ⌜ asks r ≡ whenRead 3 given (betweenOf house) ⌝ }
+{
+    if given.count < 3 {
+        return Asked::Malformed;
+    }
+    let v = given.values;
+    submit_for(house, v[0], v[1], v[2])
 }
 
 fn departure(how: Departure, given: Numbers) -> Asked
@@ -140,6 +158,11 @@ pub fn read_later(line: &[u8]) -> Asked
         let last = text::field(line, 3);
         let house = text::capital(last);
         return submission(given, house);
+    }
+    if has_form(count, first, 5, b"in") {
+        let last = text::field(line, 4);
+        let house = text::capital(last);
+        return submission_between(given, house);
     }
     if has_form(count, first, 2, b"end") {
         return departure(Departure::Complete, given);

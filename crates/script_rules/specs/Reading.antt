@@ -1,6 +1,7 @@
 -- What a line says. Document 01: "First line: `desk`, `promise` or `loose`, nodes, minute, ticket. Later: `in` nodes estimate; `end`
 -- ticket; `wait` minutes"; "fields parted by one tab"; document 02, No. 1: `drop` ticket; No. 4: "the `desk` line always has the
--- clearing, then the places of A and of B, and an `in` line ends with its house". Every other line "lacks the form".
+-- clearing, then the places of A and of B, and an `in` line ends with its house"; No. 7: "Intake gives a least and a most, on the sheet in
+-- that order", or "one number". Every other line "lacks the form".
 -- Assumes nothing.
 use mathlib.Core.Bool.{Bool, true, false, cond, _&&_}
 use mathlib.Core.List.{List, [], _∷_}
@@ -18,7 +19,7 @@ use Rattle.scheduler.specs.Tenants.{tenantOf}
 use Rattle.scheduler.specs.declared.Kind.{Kind}
 use Rattle.scheduler.specs.declared.Kind.the-variants.{Conservative, Easy}
 use Rattle.scheduler.specs.declared.Opening.{Opening}
-use Rattle.history.specs.Calls.{Command, ask, wait, submit, orderOf, complete, cancel}
+use Rattle.history.specs.Calls.{Command, ask, wait, submit, orderBetween, complete, cancel}
 use Rattle.script_rules.specs.Lines.{Line}
 
 abbrev pub deskWord : List ℕ
@@ -75,18 +76,25 @@ openingIn s =
     some (record { settings = record { kind = k; nodes = n; cleanup = c; «quota_a» = a; «quota_b» = b }; minute = m; ticket = t })))))))))
     none
 
+-- a job of the house with this letter
+abbrev pub submitFor : Parsed → (nodes least most : ℕ) → Option Command
+submitFor h n l e = withNumber h (λ t. some (ask (submit (orderBetween (tenantOf t) n l e))))
+
 unfoldable pub commandIn : List ℕ → Option Command
 commandIn s =
     cond
     (hasForm s 4 inWord)
-    (withNumber (numberAt s 1) (λ n. withNumber (numberAt s 2) (λ e. withNumber (letterAt s 3) (λ h. some (ask (submit (orderOf (tenantOf h) n e)))))))
+    (withNumber (numberAt s 1) (λ n. withNumber (numberAt s 2) (λ e. submitFor (letterAt s 3) n 0 e)))
+    (cond
+    (hasForm s 5 inWord)
+    (withNumber (numberAt s 1) (λ n. withNumber (numberAt s 2) (λ l. withNumber (numberAt s 3) (λ e. submitFor (letterAt s 4) n l e))))
     (cond
     (hasForm s 2 endWord)
     (withNumber (numberAt s 1) (λ t. some (ask (complete t))))
     (cond
     (hasForm s 2 waitWord)
     (withNumber (numberAt s 1) (λ n. some (wait n)))
-    (cond (hasForm s 2 dropWord) (withNumber (numberAt s 1) (λ t. some (ask (cancel t)))) none)))
+    (cond (hasForm s 2 dropWord) (withNumber (numberAt s 1) (λ t. some (ask (cancel t)))) none))))
 
 -- "An unclosed last line is refused by 9."
 abbrev pub closedOnly : {A : Type 0} → Bool → Option A → Option A

@@ -1,7 +1,7 @@
 //! The guarantees of a list of calls, watched by the calls and their answers alone: nothing here looks into a desk.
 
 use crate::model::{held, HOUSES, LONGEST_ESTIMATE};
-use hingerota_host::{Answer, Kind, Tickets};
+use hingerota_host::{Answer, Kind, Order, Tickets};
 use std::collections::BTreeMap;
 
 /// What has become of a job taken in.
@@ -23,6 +23,7 @@ struct Entry {
     bound: u32,
     forecast: Option<u32>,
     fate: Fate,
+    least: u32,
     hold: u32,
 }
 
@@ -50,7 +51,8 @@ pub struct Book {
 
 /// How often each claim was tried: of jobs that started, of those withdrawn, of heads and of sums of nodes after a call; of these, how
 /// often nodes of jobs that had ended stood in the sum, and how often it was all of the machine's by them; how often a house had all of its
-/// places live, and how often by jobs that had ended.
+/// places live, and how often by jobs that had ended; of early ends of jobs with a least, and of these, in the first minute in which it is
+/// reached.
 #[derive(Default, Clone, Copy)]
 pub struct Tried {
     pub promises: u64,
@@ -63,6 +65,8 @@ pub struct Tried {
     pub full_in_cleanup: u64,
     pub houses_full: u64,
     pub houses_full_in_cleanup: u64,
+    pub leasts: u64,
+    pub ends_at_the_least: u64,
 }
 
 impl Tried {
@@ -77,11 +81,13 @@ impl Tried {
         self.full_in_cleanup += other.full_in_cleanup;
         self.houses_full += other.houses_full;
         self.houses_full_in_cleanup += other.houses_full_in_cleanup;
+        self.leasts += other.leasts;
+        self.ends_at_the_least += other.ends_at_the_least;
     }
 }
 
 pub enum Call {
-    Submit { nodes: u32, estimate: u32, house: u32 },
+    Submit(Order),
     Complete { ticket: u32 },
     Cancel { ticket: u32 },
     Tick,
@@ -115,12 +121,13 @@ impl Book {
             return Ok(());
         }
         match *call {
-            Call::Submit { nodes, estimate, house } => {
+            Call::Submit(Order { nodes, estimate, tenant: house, least }) => {
                 claim!(HOUSES.contains(&house), "a job of {house} is taken in");
+                claim!(least <= estimate, "a job of {least} to {estimate} minutes is taken in");
                 let rank = self.waiting().count() as u32 + 1;
                 let bound = self.clock + rank * (LONGEST_ESTIMATE + self.cleanup);
                 let (promise, hold) = (answer.promise, held(estimate));
-                let entry = Entry { nodes, house, promise, bound, forecast: None, fate: Fate::Waiting, hold };
+                let entry = Entry { nodes, house, promise, bound, forecast: None, fate: Fate::Waiting, least, hold };
                 claim!(self.entries.insert(answer.ticket, entry).is_none(), "ticket {} is given twice", answer.ticket);
             }
             Call::Tick => self.clock += 1,
@@ -138,7 +145,11 @@ impl Book {
             };
             if let Call::Tick = call {
                 claim!(start + entry.hold == self.clock, "{ticket} ends at another minute than its start + wall time");
+            } else if entry.least > 0 {
+                self.tried.leasts += 1;
+                self.tried.ends_at_the_least += u64::from(self.clock == start + entry.least);
             }
+            claim!(self.clock >= start + entry.least, "{ticket} ends before its start {start} + its least {}", entry.least);
             entry.fate = Fate::Ended(self.clock);
         }
         claim!(self.kind == Kind::Loose || started.windows(2).all(|w| w[0] < w[1]), "tickets started do not ascend");
@@ -245,7 +256,8 @@ pub fn finds_broken_claims() {
         ended: tickets(&[]),
         started: tickets(started),
     };
-    let submit = || Call::Submit { nodes: 6, estimate: 20, house: HOUSES[0] };
+    let order = Order { nodes: 6, estimate: 20, tenant: HOUSES[0], least: 0 };
+    let submit = || Call::Submit(order);
     let cancel = || Call::Cancel { ticket: 1 };
     let nothing = || (Call::Tick, answer(0, 0, &[], (0, 0)));
     let broken_with = |cleanup, kind, calls: Vec<(Call, Answer)>, claim: &str| {
@@ -312,7 +324,10 @@ pub fn finds_broken_claims() {
     broken_with(5, Kind::Promise, vec![(submit(), answer(1, 0, &[1], (0, 0))), ended(), ended()], "1 ends and does not run");
 
     // B has one place: a second job of its comes while the first waits, runs, or has ended for 4 minutes of 5, and in time; A's take none.
-    let of = |house, ticket, started: &[u32]| (Call::Submit { nodes: 1, estimate: 20, house }, answer(ticket, 9, started, (0, 0)));
+    let of = |house, ticket, started: &[u32]| {
+        let one = Order { nodes: 1, tenant: house, ..order };
+        (Call::Submit(one), answer(ticket, 9, started, (0, 0)))
+    };
     let (a, b) = (|ticket| of(HOUSES[0], ticket, &[]), |ticket, started: &[u32]| of(HOUSES[1], ticket, started));
     let two = "2 jobs of B are live, of 1";
     broken(Kind::Promise, vec![b(1, &[]), a(2), b(3, &[])], two);
@@ -331,4 +346,18 @@ pub fn finds_broken_claims() {
     [b(1, &[]), withdrawn(), b(2, &[])].iter().for_each(|(call, answer)| book.enter(call, answer).unwrap());
     broken(Kind::Promise, (1..=64).map(a).collect(), "64 jobs of A are live, of 63");
     broken(Kind::Promise, vec![of(67, 1, &[])], "a job of 67 is taken in");
+
+    // Job 1 runs from 7 to 20 minutes: it ends one minute too early, and in time.
+    let from = |least| (Call::Submit(Order { least, ..order }), answer(1, 0, &[1], (0, 0)));
+    let early = |minutes: usize| {
+        let passed = std::iter::repeat_with(nothing).take(minutes);
+        std::iter::once(from(7)).chain(passed).chain(std::iter::once(ended())).collect::<Vec<_>>()
+    };
+    for kind in [Kind::Promise, Kind::Loose] {
+        broken(kind, early(0), "1 ends before its start 0 + its least 7");
+        broken(kind, early(6), "1 ends before its start 0 + its least 7");
+        let mut book = Book::new(kind, 10, 0, [63, 1], 0);
+        early(7).iter().for_each(|(call, answer)| book.enter(call, answer).unwrap());
+    }
+    broken(Kind::Promise, vec![from(21)], "a job of 21 to 20 minutes is taken in");
 }

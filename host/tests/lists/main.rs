@@ -133,6 +133,8 @@ struct Count {
     /// Of these, those of a job that started in that minute, and those refused of a job in cleanup.
     completions_at_start: u64,
     completions_in_cleanup: u64,
+    /// Refused one minute before the least.
+    completions_just_before_least: u64,
     withdrawals: u64,
     ticks: u64,
     profiles: u64,
@@ -141,7 +143,7 @@ struct Count {
     most_live: usize,
     most_points: usize,
     /// By number, of openings and of calls.
-    refusals: [u64; 16],
+    refusals: [u64; 21],
     tried: Tried,
 }
 
@@ -153,6 +155,7 @@ impl Count {
         self.completions += other.completions;
         self.completions_at_start += other.completions_at_start;
         self.completions_in_cleanup += other.completions_in_cleanup;
+        self.completions_just_before_least += other.completions_just_before_least;
         self.withdrawals += other.withdrawals;
         self.ticks += other.ticks;
         self.profiles += other.profiles;
@@ -226,13 +229,14 @@ impl Played {
                         nodes: j.nodes as u16,
                         estimate: j.estimate as u16,
                         state,
-                        tenant: j.house,
+                        tenant: j.house as u16,
+                        least: j.least as u16,
                         start: j.start,
                         promise: j.promise,
                         end: j.end,
                     }
                 }
-                None => Record { ticket: 0, nodes: 0, estimate: 0, state: 0, tenant: 0, start: 0, promise: 0, end: 0 },
+                None => Record { ticket: 0, nodes: 0, estimate: 0, state: 0, tenant: 0, least: 0, start: 0, promise: 0, end: 0 },
             };
             if *record != expected {
                 return Err(format!("record {place}: library {record:?}, model {expected:?}"));
@@ -260,12 +264,12 @@ impl Played {
         Ok(())
     }
 
-    fn submit(&mut self, nodes: u32, estimate: u32, house: u32) -> Result<(), String> {
-        self.done.push(format!("submit {nodes} {estimate} {house}"));
+    fn submit(&mut self, order: Order) -> Result<(), String> {
+        let Order { nodes, estimate, tenant, least } = order;
+        self.done.push(format!("submit {nodes} {least} {estimate} {tenant}"));
         self.count.submissions += 1;
-        let order = Order { nodes, estimate, tenant: house };
-        let (library, model) = (self.desk.submit(order), self.model.submit(nodes, estimate, house));
-        self.same_answer(Call::Submit { nodes, estimate, house }, library, model)
+        let (library, model) = (self.desk.submit(order), self.model.submit(order));
+        self.same_answer(Call::Submit(order), library, model)
     }
 
     fn complete(&mut self, ticket: u32) -> Result<(), String> {
@@ -274,6 +278,8 @@ impl Played {
         if let Some(job) = self.model.jobs.iter().find(|j| j.ticket == ticket) {
             self.count.completions_at_start += u64::from(job.state == State::Running && job.start == self.model.clock);
             self.count.completions_in_cleanup += u64::from(job.state == State::Cleanup);
+            let just_before = job.state == State::Running && self.model.clock + 1 == job.start + job.least;
+            self.count.completions_just_before_least += u64::from(just_before);
         }
         let (library, model) = (self.desk.complete(ticket), self.model.complete(ticket));
         self.same_answer(Call::Complete { ticket }, library, model)
@@ -349,14 +355,17 @@ impl Played {
     }
 }
 
-/// The ticket of a job that is to leave: mostly of one in this state, of those that run often of one that has started just now; else of one
-/// in another, one that is over or withdrawn, or one never given.
+/// The ticket of a job that is to leave: mostly of one in this state, of those that run often of one that has started just now, or that is
+/// at its least or one minute before it; else of one in another, one that is over or withdrawn, or one never given.
 fn leaver(played: &Played, state: State, random: &mut Random) -> u32 {
     let tickets = |test: &dyn Fn(&Job) -> bool| -> Vec<u32> { played.model.jobs.iter().filter(|j| test(j)).map(|j| j.ticket).collect() };
     let (live, wanted, in_cleanup) = (tickets(&|_| true), tickets(&|j| j.state == state), tickets(&|j| j.state == State::Cleanup));
-    let just_started = tickets(&|j| j.state == State::Running && state == State::Running && j.start == played.model.clock);
+    let clock = played.model.clock;
+    let running = |test: &dyn Fn(&Job) -> bool| tickets(&|j| j.state == State::Running && state == State::Running && test(j));
+    let just_started = running(&|j| j.start == clock);
+    let near_least = running(&|j| j.least > 0 && [clock, clock + 1].contains(&(j.start + j.least)));
     let next = played.model.next;
-    match random.below(12) {
+    match random.below(15) {
         0 => random.one_of(&[0, next, next.saturating_sub(1), u32::MAX]),
         1 if !live.is_empty() => random.one_of(&live),
         2 if !played.withdrawn.is_empty() => random.one_of(&played.withdrawn),
@@ -364,6 +373,7 @@ fn leaver(played: &Played, state: State, random: &mut Random) -> u32 {
         4 if !wanted.is_empty() => wanted[0],
         5 if !in_cleanup.is_empty() => random.one_of(&in_cleanup),
         6..=8 if !just_started.is_empty() => random.one_of(&just_started),
+        9..=11 if !near_least.is_empty() => random.one_of(&near_least),
         _ if !wanted.is_empty() => random.one_of(&wanted),
         _ => random.below(next + 1),
     }
@@ -384,16 +394,23 @@ fn step(plan: &Plan, played: &mut Played, random: &mut Random) -> Result<(), Str
             0 => random.one_of(&[0, 10_081, u32::MAX]),
             _ => plan.estimates.pick(random),
         };
+        let least = match random.below(20) {
+            0 => random.one_of(&[estimate.saturating_add(1), 10_081, u32::MAX]),
+            1 => estimate,
+            2..=4 => random.between(0, estimate.min(9)),
+            5 | 6 => random.between(0, estimate.min(10_080)),
+            _ => 0,
+        };
         // Mostly of a house that has places left, so that both fill up.
         let [a, b] = model::HOUSES;
         let left = |house: u32, places: u32| places - played.model.live(house);
-        let house = match random.below(20) {
+        let tenant = match random.below(20) {
             0 => random.one_of(&[0, 1, 64, 67, 97, 255, 65 + (1 << 8), 65 + (1 << 16), u32::MAX]),
             1..=6 => random.one_of(&[a, b]),
             _ if left(a, played.model.places[0]) >= left(b, played.model.places[1]) => a,
             _ => b,
         };
-        played.submit(nodes, estimate, house)
+        played.submit(Order { nodes, estimate, tenant, least })
     } else if roll < plan.submissions + plan.completions {
         let ticket = leaver(played, State::Running, random);
         played.complete(ticket)
@@ -420,12 +437,12 @@ fn step(plan: &Plan, played: &mut Played, random: &mut Random) -> Result<(), Str
         };
         played.wait_refusal(minutes)
     } else {
-        // Some minutes, or as many as it takes until a job that is due ends, starts or leaves.
-        let clock = played.model.clock;
-        let events = played.model.jobs.iter().map(|j| match j.state {
-            State::Waiting => j.start,
-            State::Running => j.start + model::held(j.estimate),
-            State::Cleanup => j.end + played.model.cleanup,
+        // Some minutes, or as many as it takes until a job that is due ends, starts or leaves, or comes to its least or the minute before.
+        let (clock, cleanup) = (played.model.clock, played.model.cleanup);
+        let events = played.model.jobs.iter().flat_map(|j| match j.state {
+            State::Waiting => vec![j.start],
+            State::Running => vec![j.start + model::held(j.estimate), j.start + j.least, (j.start + j.least).saturating_sub(1)],
+            State::Cleanup => vec![j.end + cleanup],
         });
         let next = events.filter(|m| *m > clock).min().map_or(1, |m| m - clock);
         let minutes = match random.below(6) {
@@ -494,7 +511,7 @@ fn main() {
     }
     let all = all.into_inner().unwrap();
     let Tried { promises, bounds, forecasts, withdrawn, heads, sums, sums_in_cleanup, full_in_cleanup, .. } = all.tried;
-    let Tried { houses_full, houses_full_in_cleanup, .. } = all.tried;
+    let Tried { houses_full, houses_full_in_cleanup, leasts, ends_at_the_least, .. } = all.tried;
     println!(
         "{} lists, {} calls: {} submissions, {} completions, {} withdrawals, {} ticks, {} profiles with {} points, {} waits judged",
         all.lists, all.calls, all.submissions, all.completions, all.withdrawals, all.ticks, all.profiles, all.points, all.waits
@@ -502,6 +519,10 @@ fn main() {
     println!(
         "{} completions in the minute of the start, {} of jobs in cleanup, refused",
         all.completions_at_start, all.completions_in_cleanup
+    );
+    println!(
+        "{leasts} early ends of jobs with a least, {ends_at_the_least} of these in its minute, {} refused in the minute before it",
+        all.completions_just_before_least
     );
     println!("at most {} live jobs and {} points; refusals by number, from 0: {:?}", all.most_live, all.most_points, all.refusals);
     println!(

@@ -1,7 +1,7 @@
 //! Document 01's two desks, with what document 02 adds, written from their words and as plainly as they allow, to be compared with: a list
 //! of live jobs, everything worked out anew in each call. Their words are quoted where they are followed.
 
-use hingerota_host::Kind;
+use hingerota_host::{Kind, Order};
 
 pub const MOST_NODES: u32 = 1_024;
 pub const LAST_MINUTE: u32 = 1_000_000;
@@ -29,6 +29,8 @@ pub struct Job {
     pub state: State,
     /// "Each record carries its house".
     pub house: u32,
+    /// The estimate is the most: "Intake gives a least and a most [...]; the desk plans with the most."
+    pub least: u32,
     pub start: u32,
     pub promise: u32,
     /// "its record, and no other, keeps its end"
@@ -164,8 +166,10 @@ impl Model {
         self.jobs.retain(|j| !(j.in_cleanup() && j.end + cleanup == now));
     }
 
-    /// 14: "a house other than A or B, first at intake"; 15: "the house's places are all live, in place of 4".
-    pub fn submit(&mut self, nodes: u32, estimate: u32, house: u32) -> Answer {
+    /// 14: "a house other than A or B, first at intake"; 15: "the house's places are all live, in place of 4"; 19: "least above most, after
+    /// 2".
+    pub fn submit(&mut self, order: Order) -> Answer {
+        let Order { nodes, estimate, tenant: house, least } = order;
         let Some(share) = HOUSES.iter().position(|h| *h == house) else {
             return refused(14);
         };
@@ -175,24 +179,30 @@ impl Model {
         if estimate < 1 || estimate > LONGEST_ESTIMATE {
             return refused(2);
         }
+        if least > estimate {
+            return refused(19);
+        }
         if self.live(house) == self.places[share] {
             return refused(15);
         }
         if self.next > LAST_TICKET {
             return refused(5);
         }
-        let job = Job { ticket: self.next, nodes, estimate, state: State::Waiting, house, start: 0, promise: 0, end: 0 };
+        let job = Job { ticket: self.next, nodes, estimate, state: State::Waiting, house, least, start: 0, promise: 0, end: 0 };
         match self.kind {
             Kind::Promise => self.submit_promise(job),
             Kind::Loose => self.submit_loose(job),
         }
     }
 
-    /// "An end of a clearing stack is refused by 7."
+    /// "An end of a clearing stack is refused by 7." 20: "an end before the least, after 7".
     pub fn complete(&mut self, ticket: u32) -> Answer {
         let Some(place) = self.jobs.iter().position(|j| j.runs() && j.ticket == ticket) else {
             return refused(7);
         };
+        if self.clock < self.jobs[place].start + self.jobs[place].least {
+            return refused(20);
+        }
         let head = self.head();
         self.ends(place);
         self.release();

@@ -78,6 +78,7 @@ fn a_line_is_answered_before_the_next_is_sent() {
         ("in\t6\t20\tA\n", "took\t1\t-\nstart\t1\t0\n"),
         ("in\t8\t10\tB\n", "took\t2\t-\nhead\t2\t20\n"),
         ("in\n", "no\t9\n"),
+        ("in\t1\t6\t5\tB\n", "no\t19\n"),
         ("in\t1\t5\tB\n", "no\t15\n"),
         ("wait\t20\n", "over\t1\t20\nstart\t2\t20\n"),
     ] {
@@ -122,7 +123,7 @@ fn arguments() {
     let of = |arguments| Ended::of(rack(arguments).stdin(Stdio::null()).stdout(Stdio::piped()));
     let help = of(&["--help"]);
     assert_eq!((help.status, help.error.as_str()), (Some(0), ""));
-    for word in ["usage:", "desk", "CLEANUP A B", "in NODES ESTIMATE HOUSE", "end TICKET", "drop TICKET", "wait MINUTES", "profile"] {
+    for word in ["usage:", "desk", "CLEANUP A B", "in NODES [LEAST] MOST HOUSE", "end TICKET", "drop TICKET", "wait MINUTES", "profile"] {
         assert!(help.output.contains(word), "{word}");
     }
     for wrong in [&["-h"][..], &["script"], &["--help", "--help"], &[""]] {

@@ -46,33 +46,48 @@ returns-3 c =
     rw (is-one (w .before), a, b)
 
 -- tenant, nodes and estimate pass: the tests that are left
-rest : (q : tie.After-quota)
-    → let x = q .before .before .before .before .before .before .before .args in
+rest : (c : tie.Else3)
+    → let x = c .before .before .before .before .before .before .args in
     refusalBy (x .settings) (x .live) (x .next) (x .s)
-    ≡ verdict ((leb (q .quota .result) (x .live), refusal.QuotaFull) ∷ (ltb lastTicket (x .next), refusal.NoTicketLeft) ∷ [])
+    ≡ verdict
+    ((ltb (x .s .estimate) (x .s .least), refusal.LeastAboveMost)
+    ∷ (leb (quota (x .settings) (x .s .tenant)) (x .live), refusal.QuotaFull)
+    ∷ (ltb lastTicket (x .next), refusal.NoTicketLeft)
+    ∷ [])
 unfolding verdict refusalBy
-rest q =
-    let c = q .before in
+rest c =
     let v = c .before in
     let w = v .before .before in
     let x = w .before .before .before .args in
     let a : outside 1 (x .settings .nodes) (x .s .nodes) ≡ false = sym (w .outside-range .ensures) ∙ v .before .if2 .left in
     let b : outside 1 longestEstimate (x .s .estimate) ≡ false = sym (v .outside-range2 .ensures) ∙ c .if3 .left in
-    rw (is-one (w .before), a, b, q .quota .ensures)
+    rw (is-one (w .before), a, b)
 
 returns-4 : tie.Need-returns-4
 unfolding verdict
-returns-4 c = rw (rest (c .before), le-leb _ _ (c .if4 .taken))
+returns-4 c = rw (rest (c .before .before), lt-ltb _ _ (c .if4 .taken))
+
+-- and the least is at most the most
+last : (q : tie.After-quota)
+    → let x = q .before .before .before .before .before .before .before .before .before .args in
+    refusalBy (x .settings) (x .live) (x .next) (x .s)
+    ≡ verdict ((leb (q .quota .result) (x .live), refusal.QuotaFull) ∷ (ltb lastTicket (x .next), refusal.NoTicketLeft) ∷ [])
+unfolding verdict
+last q = rw (rest (q .before .before .before), le-ltb _ _ (q .before .if4 .left), q .quota .ensures)
 
 returns-5 : tie.Need-returns-5
 unfolding verdict
-returns-5 c = rw (rest (c .before .before), lt-leb _ _ (c .before .if4 .left), lt-ltb lastTicket _ (c .if5 .taken))
+returns-5 c = rw (last (c .before), le-leb _ _ (c .if5 .taken))
 
 returns-6 : tie.Need-returns-6
 unfolding verdict
-returns-6 c = rw (rest (c .before .before), lt-leb _ _ (c .before .if4 .left), le-ltb lastTicket _ (c .if5 .left))
+returns-6 c = rw (last (c .before .before), lt-leb _ _ (c .before .if5 .left), lt-ltb lastTicket _ (c .if6 .taken))
+
+returns-7 : tie.Need-returns-7
+unfolding verdict
+returns-7 c = rw (last (c .before .before), lt-leb _ _ (c .before .if5 .left), le-ltb lastTicket _ (c .if6 .left))
 
 pub submit-refusal-spec : {M : Type 1} → statement M
 submit-refusal-spec =
-    tie.close (tie.spec (λ c κs. search needs) returns (λ c κs. search needs) returns-2 (λ c κs. search needs) returns-3 (λ c κs. search needs)
-    (λ c. search needs) returns-4 returns-5 returns-6)
+    tie.close (tie.spec (λ c κs. search needs) returns (λ c κs. search needs) returns-2 (λ c κs. search needs) returns-3 returns-4
+    (λ c κs. search needs) (λ c. search needs) returns-5 returns-6 returns-7)

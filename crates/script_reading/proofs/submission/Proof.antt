@@ -9,12 +9,7 @@ returns : tie.Need-returns
 returns c = rw (lt-leb 2 _ (c .if1 .taken))
 
 returns-2 : tie.Need-returns-2
-returns-2 c = rw (le-leb 2 _ (c .before .before .if1 .left), c .enum-told .given .1)
-
-returns-3 : tie.Need-returns-3
-returns-3 c = rw (le-leb 2 _ (c .before .before .before .before .before .if1 .left), c .before .before .before .house .given .1, c .of-letter .ensures)
+returns-2 c = rw (le-leb 2 _ (c .before .before .if1 .left)) (c .submit-for .ensures)
 
 pub submission-spec : {M : Type 1} → statement M
-submission-spec =
-    tie.close (tie.spec returns (λ c. search needs) (λ c. search needs) returns-2 (λ c κs. search needs) (λ c. search needs) (λ c. search needs)
-    returns-3)
+submission-spec = tie.close (tie.spec returns (λ c. search needs) (λ c. search needs) (λ c κs. search needs) returns-2)

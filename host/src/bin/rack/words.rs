@@ -1,7 +1,7 @@
 //! The words of later lines. A word is an entry of `WORDS`, and stands nowhere else.
 
 use crate::fields::{letter, numbers};
-use crate::page::{taken, Done, Page, LACKS_THE_FORM};
+use crate::page::{taken, Done, Page, Refusal, LACKS_THE_FORM};
 use crate::script::Rack;
 use hingerota_host::{Order, Point, MOST_POINTS};
 
@@ -15,18 +15,18 @@ struct Word {
 
 const WORDS: &[Word] = &[
     Word {
-        form: "in NODES ESTIMATE HOUSE",
-        does: "a job of house A or B is submitted",
+        form: "in NODES [LEAST] MOST HOUSE",
+        does: "a job of house A or B is submitted, to run from LEAST, or 0, to MOST minutes",
         play: |rack, fields, page| {
             let (house, rest) = fields.split_last().ok_or(LACKS_THE_FORM)?;
-            let ([nodes, estimate], tenant) = (numbers(rest)?, letter(house)?);
-            let answer = rack.desk.submit(Order { nodes, estimate, tenant });
+            let ([nodes, least, estimate], tenant) = (order(rest)?, letter(house)?);
+            let answer = rack.desk.submit(Order { nodes, estimate, tenant, least });
             page.answer(&rack.desk, &answer)
         },
     },
     Word {
         form: "end TICKET",
-        does: "a running job is over before its time",
+        does: "a running job is over before its time, at its least or later",
         play: |rack, fields, page| {
             let [ticket] = numbers(fields)?;
             let answer = rack.desk.complete(ticket);
@@ -68,6 +68,14 @@ const WORDS: &[Word] = &[
         },
     },
 ];
+
+/// Nodes, least and most. Document 02, No. 7: "An order with one number has least 0."
+fn order(fields: &[&[u8]]) -> Result<[u32; 3], Refusal> {
+    match numbers(fields) {
+        Ok([nodes, most]) => Ok([nodes, 0, most]),
+        Err(_) => numbers(fields),
+    }
+}
 
 impl Word {
     fn name(&self) -> &'static [u8] {
