@@ -18,7 +18,6 @@ use Rattle.scheduler.specs.declared.Job.{Job}
 use Rattle.scheduler.specs.declared.Submission.{Submission}
 use Rattle.scheduler.specs.declared.Refusal.{Refusal}
 use Rattle.scheduler.specs.declared.Refusal.the-variants as refusal
-use Rattle.scheduler.specs.declared.Departure.{Departure}
 use Rattle.scheduler.specs.declared.Departure.the-variants.{Complete, Cancel}
 use Rattle.scheduler.specs.declared.Select.{Select}
 use Rattle.scheduler.specs.declared.Select.the-variants as select
@@ -31,7 +30,7 @@ use Rattle.scheduler.specs.Times.{until-is, until-cleaning}
 use Rattle.scheduler.specs.Table.{liveOf, ticketOf, ticketsOf, endedOf}
 use Rattle.scheduler.specs.Model.{Model, ending, joined}
 use Rattle.scheduler.specs.Answers.{Result, Forecast, verdict, accepts, refuse}
-use Rattle.scheduler.specs.Refusals.{notThere, departRefusal, tickRefusal}
+use Rattle.scheduler.specs.Refusals.{departRefusal, tickRefusal}
 use Rattle.jobs.specs.Judgement.{judged-by, judged-accepted, judged-refusal, judged-refused}
 use Rattle.jobs.specs.Order.{Asc, asc-one, elem-job}
 use Rattle.jobs.specs.Departing.{cancel-judged, departs-alone}

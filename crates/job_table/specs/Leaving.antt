@@ -41,8 +41,7 @@ use Rattle.jobs.specs.Soundness.{Sound, running-clean, ends-runs, all-remain}
 use Rattle.jobs.specs.Premise.{Holds}
 use Rattle.jobs.specs.Slots.{slots-are}
 use Rattle.job_table.specs.declared.Part.{Part}
-use Rattle.job_table.specs.declared.Found.{Found}
-use Rattle.job_table.specs.Parts.{foundAt, ends?, endsIf, cleansIf, withdrawnIf, pastHorizon, cappedClock, departing, ticking, part}
+use Rattle.job_table.specs.Parts.{Found, foundAt, ends?, endsIf, cleansIf, withdrawnIf, pastHorizon, cappedClock, departing, ticking, part}
 use Rattle.job_table.specs.Compacting.{Removed, removed, removed-stored, overwrite, Compacts, compacted, Clears}
 
 abbrev pub withClock : Scheduler → ℕ → Scheduler
@@ -376,15 +375,19 @@ module _ (d : Scheduler) (h : Departure) (t : ℕ) (v : Holds Sound d) where
         rw (any-some (departsAs h t) 0 i (view d .jobs) (sym place ∙ e), early-is ∙ y, ended-one h t (view d .jobs) (alone-here .picked))
         (ap (left refusal.None true) q)
 
-    pub leaves-one : soon? ≡ false → cleansIf h true (d .settings) ≡ false → left refusal.None true (withoutSlot d i) ≡ part (departing (view d) h t)
-    leaves-one y n =
-        leaves-as (withoutSlot d i) y
-        (cut-stored ∙ ap with (sym (alone-here .goes-out (not-false (goes h (d .settings)) (sym (cleans-goes h (d .settings)) ∙ n)))))
+    -- and nothing is refused
+    module _ (r : Refusal) (taken : r ≡ refusal.None) (y : soon? ≡ false) where
+      pub leaves-one : cleansIf h true (d .settings) ≡ false → left r true (withoutSlot d i) ≡ part (departing (view d) h t)
+      leaves-one n =
+          ap (λ (q : Refusal). left q true (withoutSlot d i)) taken
+          ∙ leaves-as (withoutSlot d i) y
+          (cut-stored ∙ ap with (sym (alone-here .goes-out (not-false (goes h (d .settings)) (sym (cleans-goes h (d .settings)) ∙ n)))))
 
-    pub cleans-one : soon? ≡ false → cleansIf h true (d .settings) ≡ true → left refusal.None true (cleaningSlot d i) ≡ part (departing (view d) h t)
-    cleans-one y n =
-        leaves-as (cleaningSlot d i) y
-        (cleaning-stored ∙ ap with (sym (alone-here .cleans (not-true (goes h (d .settings)) (sym (cleans-goes h (d .settings)) ∙ n)))))
+      pub cleans-one : cleansIf h true (d .settings) ≡ true → left r true (cleaningSlot d i) ≡ part (departing (view d) h t)
+      cleans-one n =
+          ap (λ (q : Refusal). left q true (cleaningSlot d i)) taken
+          ∙ leaves-as (cleaningSlot d i) y
+          (cleaning-stored ∙ ap with (sym (alone-here .cleans (not-true (goes h (d .settings)) (sym (cleans-goes h (d .settings)) ∙ n)))))
 
   -- what the search gives: a slot, of a job that can leave now, or the refusal
   pub record Finds (f : Found) : Type 0 where

@@ -25,7 +25,6 @@ use Rattle.scheduler.specs.Model.{Model, ending, store, view, without}
 use Rattle.scheduler.specs.Answers.{verdict, accepts}
 use Rattle.scheduler.specs.Refusals.{testsBy, notThere, departRefusal, tickRefusal}
 use Rattle.job_table.specs.declared.Part.{Part}
-use Rattle.job_table.specs.declared.Found.{Found}
 
 pub record Own : Type 0 where
   pub refusal : Refusal
@@ -88,6 +87,10 @@ abbrev pub sharedRefusal : Model → Submission → Refusal
 sharedRefusal m o = refusalBy (m .settings) (liveOf (o .tenant) (m .jobs)) (m .next) o
 
 -- of an early completion or a withdrawal, by where the job was found; the slot is the one after the last if there is none
+pub record Found : Type 0 where
+  pub refusal : Refusal
+  pub slot : ℕ
+
 abbrev pub foundAt : Scheduler → Departure → Option ℕ → Found
 foundAt d h (some i) =
     cond

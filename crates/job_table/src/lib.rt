@@ -12,14 +12,13 @@ use scheduler::Tickets;
 ghost use mathlib.Core.Path.{_≡_};
 ghost use lib.ListN.{length};
 ghost use Rattle.lists.specs.Lists.{keep};
-ghost use Rattle.lists.specs.Loops.{position};
-ghost use Rattle.scheduler.specs.Jobs.{isWaiting, departsAs};
+ghost use Rattle.scheduler.specs.Jobs.{isWaiting};
 ghost use Rattle.scheduler.specs.Refusals.{notThere};
 ghost use Rattle.scheduler.specs.Table.{liveOf};
 ghost use Rattle.scheduler.specs.Model.{view};
 ghost use Rattle.jobs.specs.Soundness.{Sound};
 ghost use Rattle.jobs.specs.Premise.{Holds};
-ghost use Rattle.job_table.specs.Parts.{refusalBy, foundAt, endsIf, cleansIf, withdrawnIf, pastHorizon, cappedClock, part, departing, ticking};
+ghost use Rattle.job_table.specs.Parts.{refusalBy, endsIf, cleansIf, withdrawnIf, pastHorizon, cappedClock, part, departing, ticking};
 
 // The last slot.
 const LAST: usize = Scheduler::LIVE - 1;
@@ -134,38 +133,6 @@ fn not_there(how: Departure) -> Refusal
     }
 }
 
-// The slot of the job that leaves, or why none does, in this order: 7 or 11, 20. There is no slot 64.
-struct Found {
-    refusal: Refusal,
-    slot: usize,
-}
-
-fn find(d: Scheduler, how: Departure, ticket: u32) -> Found
-    ensures { λ r. ⌜ r ≡ foundAt d how (position (departsAs how ticket) (d .jobs)) ⌝ }
-{
-    let mut i: usize = 0;
-    while i < Scheduler::LIVE {
-        let j = d.jobs[i];
-        if j.departs(how, ticket) {
-            if j.is_early(how, d.clock) {
-                return Found {
-                    refusal: Refusal::BeforeLeast,
-                    slot: Scheduler::LIVE,
-                };
-            }
-            return Found {
-                refusal: Refusal::None,
-                slot: i,
-            };
-        }
-        i += 1;
-    }
-    Found {
-        refusal: not_there(how),
-        slot: Scheduler::LIVE,
-    }
-}
-
 // Whether the run of the job found ends.
 fn ends_if(how: Departure, found: bool) -> bool
     ensures { λ r. ⌜ r ≡ endsIf how found ⌝ }
@@ -208,10 +175,26 @@ pub fn leave(d: Scheduler, how: Departure, ticket: u32) -> Part
     ensures { λ r. ⌜ r ≡ part (departing (view d) how ticket) ⌝ }
 {
     let none = Job::unused();
-    let f = find(d, how, ticket);
-    let refusal = f.refusal;
     let mut e = d;
-    let mut i = f.slot;
+    let mut i: usize = 0;
+    while i < Scheduler::LIVE {
+        let j = e.jobs[i];
+        if j.departs(how, ticket) {
+            break;
+        }
+        i += 1;
+    }
+    // 7 or 11, then 20. (In a function of its own the search would copy the scheduler.)
+    let mut refusal = not_there(how);
+    if i < Scheduler::LIVE {
+        let j = e.jobs[i];
+        if j.is_early(how, e.clock) {
+            refusal = Refusal::BeforeLeast;
+            i = Scheduler::LIVE;
+        } else {
+            refusal = Refusal::None;
+        }
+    }
     let found = i < Scheduler::LIVE;
     let mut leaves = found;
     if cleans_if(how, found, e.settings) {
