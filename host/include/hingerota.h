@@ -23,8 +23,9 @@
  * minute of its submission + 10,080 and the cleanup for each job that waited then and for itself; every head of a Loose Desk hears a
  * forecast and starts no later; the jobs that run, with those that ended fewer minutes ago than the cleanup has, never hold more nodes
  * than the machine has; and of each tenant these and those that wait are never more than its quota. A promise, a bound and a forecast bind
- * until the job is withdrawn: that was before any of these minutes. A job that is withdrawn never starts. Minutes depend on the jobs of
- * both tenants, and are kept for both.
+ * until the job is withdrawn: that was before any of these minutes. A job that is withdrawn never starts. A job never starts before a
+ * minute that hingerota_earliest_start gave of it, whatever calls followed. Minutes depend on the jobs of both tenants, and are kept for
+ * both.
  */
 #ifndef HINGEROTA_H
 #define HINGEROTA_H
@@ -149,6 +150,11 @@ typedef struct {
     size_t count;
 } hingerota_shown; /* 16 bytes */
 
+typedef struct {
+    uint32_t refusal;
+    uint32_t minute; /* 0 where it is refused */
+} hingerota_earliest; /* 8 bytes */
+
 /* An empty desk, as the opening says. Refused by 1, 3, 12 or 13, the first that applies; the desk is then of its kind, with 1 node,
  * minute 0, ticket 1, cleanup 0 and quotas of 63 and 1.
  * Promise: conservative backfilling. Loose: EASY backfilling. */
@@ -181,6 +187,11 @@ hingerota_shown hingerota_profile(const hingerota_desk *d, hingerota_point *poin
 /* Why a wait of `minutes` is refused, by 2 or 6, the first that applies, or 0 where it is not: it is then that number of ticks.
  * The desk is only read. */
 uint32_t hingerota_wait_refusal(const hingerota_desk *d, uint32_t minutes);
+
+/* The earliest minute at which a waiting job can start: the smallest, now or later, at which its nodes would be free if every running job
+ * were over at its start + its least, or now where that is past, its nodes free again after the cleanup, and no other job waited. The job
+ * never starts before that minute, whatever calls follow. Refused by 11. The desk, of either kind, is only read. */
+hingerota_earliest hingerota_earliest_start(const hingerota_desk *d, uint32_t ticket);
 
 #ifdef __cplusplus
 }

@@ -1,6 +1,6 @@
 //! The structs of `raw.rs` have the sizes and offsets of those in `include/hingerota.h`, as a C compiler lays them out.
 
-use crate::raw::{Answer, Desk, Opened, Opening, Order, Point, Record, Shown, Tickets};
+use crate::raw::{Answer, Desk, Earliest, Opened, Opening, Order, Point, Record, Shown, Tickets};
 use std::mem::{offset_of, size_of};
 use std::path::Path;
 use std::process::Command;
@@ -34,6 +34,7 @@ fn layouts_are_those_of_the_header() {
         "hingerota_opened" Opened { refusal desk }
         "hingerota_point" Point { minute free }
         "hingerota_shown" Shown { refusal count }
+        "hingerota_earliest" Earliest { refusal minute }
     };
     let root = Path::new(env!("CARGO_MANIFEST_DIR"));
     let folder = root.join("target/layout");
@@ -65,6 +66,7 @@ fn sizes_are_as_stated() {
         ("hingerota_opened", size_of::<Opened>()),
         ("hingerota_point", size_of::<Point>()),
         ("hingerota_shown", size_of::<Shown>()),
+        ("hingerota_earliest", size_of::<Earliest>()),
     ] {
         let line = header.lines().find(|l| l.starts_with(&format!("}} {name};"))).expect(name);
         let stated: String = line.chars().skip_while(|c| *c != '*').filter(char::is_ascii_digit).collect();

@@ -7,7 +7,7 @@
 mod layout;
 mod raw;
 
-pub use raw::{Answer, Opening, Order, Point, Record, Shown, Tickets};
+pub use raw::{Answer, Earliest, Opening, Order, Point, Record, Shown, Tickets};
 
 /// The list of points that always suffices.
 pub const MOST_POINTS: usize = 129;
@@ -85,6 +85,12 @@ impl Desk {
     /// Why a wait of `minutes` is refused, by 2 or 6, or 0 where it is not: it is then that number of ticks.
     pub fn wait_refusal(&self, minutes: u32) -> u32 {
         unsafe { raw::hingerota_wait_refusal(&self.raw, minutes) }
+    }
+
+    /// The earliest minute at which a waiting job can start, if every running one is over at its least and no other waits; refused by 11.
+    /// Whatever calls follow, it never starts before.
+    pub fn earliest_start(&self, ticket: u32) -> Earliest {
+        unsafe { raw::hingerota_earliest_start(&self.raw, ticket) }
     }
 
     pub fn kind(&self) -> Kind {

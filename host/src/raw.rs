@@ -101,6 +101,15 @@ pub struct Shown {
     pub count: usize,
 }
 
+#[repr(C)]
+#[derive(Clone, Copy, PartialEq, Eq, Debug)]
+#[must_use = "a call may be refused"]
+pub struct Earliest {
+    pub refusal: u32,
+    /// 0 where it is refused.
+    pub minute: u32,
+}
+
 extern "C" {
     pub fn hingerota_open_promise(opening: Opening) -> Opened;
     pub fn hingerota_open_loose(opening: Opening) -> Opened;
@@ -110,4 +119,5 @@ extern "C" {
     pub fn hingerota_tick(d: *mut Desk) -> Answer;
     pub fn hingerota_profile(d: *const Desk, points: *mut Point, room: usize) -> Shown;
     pub fn hingerota_wait_refusal(d: *const Desk, minutes: u32) -> u32;
+    pub fn hingerota_earliest_start(d: *const Desk, ticket: u32) -> Earliest;
 }

@@ -7,11 +7,13 @@ ghost use Rattle.scheduler.specs.Answers.{outcome};
 ghost use Rattle.scheduler.specs.Refusals.{waitRefusal};
 ghost use Rattle.conservative_profile.specs.StoredProfile.{places};
 ghost use Rattle.history.specs.Calls as calls;
+ghost use Rattle.easy_rules.specs.EarliestStart.{earliestStart};
 ghost use Rattle.guarantees.specs.Rules.{call};
 ghost use Rattle.guarantees.specs.Premise.{Premise};
 ghost use Rattle.calls.specs.ProfileCall.{showing, showIn, profileOutcome, pointAt};
 use conservative_profile::Profile;
 use scheduler::Departure;
+use scheduler::Earliest;
 use scheduler::Kind;
 use scheduler::Outcome;
 use scheduler::Refusal;
@@ -135,6 +137,14 @@ pub fn point_at(p: ProfileOutcome, i: usize) -> Point
     ensures { λ r. ⌜ r ≡ pointAt p i ⌝ }
 {
     p.points[i]
+}
+
+// The minute before which the waiting job with this ticket cannot start (document 02, No. 7: "soonest minute"), on either kind.
+pub fn earliest_start(d: Scheduler, ticket: u32) -> Earliest
+    requires { ⌜ Premise d ⌝ }
+    ensures { λ r. ⌜ r ≡ earliestStart (view d) ticket ⌝ }
+{
+    earliest::start(d, ticket)
 }
 
 // Why a wait of `minutes` is refused, or that it is not: it is then that number of ticks.

@@ -25,7 +25,6 @@ use Rattle.scheduler.specs.Table.{ticketsOf, staying, ceased, remaining}
 use Rattle.scheduler.specs.Model.{Model}
 use Rattle.scheduler.specs.Answers.{Result, refusing}
 use Rattle.jobs.specs.Order.{Asc, asc-in, elem-job, elem-picked}
-use Rattle.jobs.specs.Departing.{ended-ran}
 use Rattle.jobs.specs.Soundness.{all-live, Leaving, withdraws-waits, ceased-ticket, ceased-waits, waits-remains, remained-waits, sound-leave}
 use Rattle.jobs.specs.Soundness as soundness
 use Rattle.history.specs.Calls.{Call, submit}
@@ -249,7 +248,7 @@ outcome-joins m o (joins w f l) i = one (in-cons i)
     s = planned m w
 
     new : Newcomer
-    new = record { ticket = m .next; nodes = w .nodes; promise = s; tenant = w .tenant }
+    new = record { ticket = m .next; nodes = w .nodes; promise = s; tenant = w .tenant; least = w .least }
 
     one : (o ≡ new) ⊎ In o [] → (o .ticket ≡ m .next) × StartsBy (o .ticket) (o .promise) (submitted m w s)
     one (inr k) = in-nil k
@@ -290,13 +289,6 @@ outcome-withdraws m u (leaves c clock s after l g t) x =
     let j = elem-job u (keep (table.withdraws s) (m .jobs)) (ap (elem u) (sym (t .departs .withdrew-are)) ∙ x) in
     let k = keep-in (table.withdraws s) (m .jobs) (j .1) in
     queued-by m u (j .0) (k .0) (withdraws-waits s (j .0) (k .1)) (j .2)
-
-pub outcome-ends : (m : Model) {c : Call} {r : Result} (u : ℕ) → CameOut m c r → elem u (r .reply .ended) ≡ true
-    → elem u (ticketsOf (keep isRunning (m .jobs))) ≡ true
-unfolding submitted advanced
-outcome-ends m u (idle c r n) x = true-false false x refl
-outcome-ends m u (joins o f l) x = true-false false x refl
-outcome-ends m u (leaves c clock s after l g t) x = ended-ran s (m .jobs) u x
 
 -- ## The rest
 

@@ -40,20 +40,20 @@ use Rattle.scheduler.specs.Model.{Model, ending}
 use Rattle.scheduler.specs.Answers.{Result, verdict, accepts, refuse}
 use Rattle.scheduler.specs.Refusals.{judged, submitTests, departRefusal, tickRefusal}
 use Rattle.jobs.specs.Order.{Asc, asc-keep, asc-one}
-use Rattle.jobs.specs.Departing.{cancel-judged, departs-alone}
+use Rattle.jobs.specs.Departing.{cancel-judged, departs-alone, left-ran, ticked-ran}
 use Rattle.jobs.specs.Soundness.{SoundJob, Sound, fit-room, submit-fit, early, waiting-clean, ceased-ticket, waits-on, remained-waits, sound-leave}
 use Rattle.history.specs.Calls.{Call, submit, depart, complete, cancel, tick, unchanged}
 use Rattle.history.specs.News.{News, newsOf}
 use Rattle.history.specs.Tickets.{nextAfter}
 use Rattle.history_proof.specs.Obligations.{said, Ticketed}
-use Rattle.history_proof.specs.Departures.{waits-runs, queued-by, lives, unless-said}
+use Rattle.history_proof.specs.Departures.{waits-runs, queued-by, lives, Ended, unless-said}
 use Rattle.conservative_rules.specs.Conservative.{span, spans, planned, newJob, withNew, points, maxPoints, submitRefusal, submitted, begun}
 use Rattle.conservative_rules.specs.Conservative.{advanced, moved, departed, turned, ticked, profileRefusal, call}
 use Rattle.conservative_rules.specs.Computed.{startOf, promiseOf}
 use Rattle.jobs.specs.Judgement.{judged-by, judged-accepted, judged-refusal, judged-refused}
 use Rattle.conservative_laws.specs.Validity.{Valid, zip-left, Follows, follows-ticket, follows-start, follows-promise, CameOut, idle}
 use Rattle.conservative_laws.specs.Validity.{joins, leaves, outcome, call-valid}
-use Rattle.conservative_laws.specs.Obligations.{OnCourse, begun-waited, lives-stays, waits-lives, outcome-joins, outcome-ends}
+use Rattle.conservative_laws.specs.Obligations.{OnCourse, begun-waited, lives-stays, waits-lives, outcome-joins}
 use Rattle.conservative_laws.specs.PassLoop.{loop, pass-as-loop}
 
 -- ## Free nodes
@@ -440,13 +440,24 @@ next-is m (depart h t) = judged-by (Given m (depart h t)) m (departRefusal m h t
 next-is m tick = judged-by (Given m tick) m (tickRefusal m) (ticked m) (λ a. refl) (λ a. rw a)
 next-is m (unchanged w) = case (accepts w) (λ a. rw a) (λ a. rw a)
 
+-- whose run ends ran, for its least or longer
+ended-ran : (m : Model) (c : Call) (u : ℕ) → Sound m → Ended m c u (call m c)
+unfolding call submitted departed ticked advanced
+ended-ran m (submit o) u s =
+    let p = planned m o in
+    judged-by (Ended m (submit o) u) m (submitRefusal m o p) (submitted m o p) (λ a e. true-false false e refl) (λ a e. true-false false e refl)
+ended-ran m (depart h t) u s =
+    judged-by (Ended m (depart h t) u) m (departRefusal m h t) (departed m h t) (λ a e. left-ran m h t u a e) (λ a e. true-false false e refl)
+ended-ran m tick u s = judged-by (Ended m tick u) m (tickRefusal m) (ticked m) (λ a e. ticked-ran m u s e) (λ a e. true-false false e refl)
+ended-ran m (unchanged w) u s = λ e. true-false false e refl
+
 -- what is owed of tickets
 pub conservative-ticketed : Ticketed call Valid OnCourse
 conservative-ticketed = record {
   sound = λ m v. v .sound;
   next = λ m c v. next-is m c;
   gives = λ m c o v i. outcome-joins m o (outcome m c v) i .0;
-  ends = λ m c t v e. outcome-ends m t (outcome m c v) e;
+  ends = λ m c t v. ended-ran m c t (v .sound);
   waits = λ m t b o. queued-by m t (o .job) (o .inside) (o .waits) (o .is-u);
 }
 

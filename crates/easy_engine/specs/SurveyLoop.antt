@@ -28,7 +28,7 @@ use Rattle.jobs.specs.Soundness.{Sound}
 use Rattle.jobs.specs.Premise.{Holds}
 use Rattle.jobs.specs.Slots.{sound-low, slots-are}
 use Rattle.easy_rules.specs.Easy.{queue, free}
-use Rattle.easy_laws.specs.Settling.{idle}
+use Rattle.easy_laws.specs.Settling.{idle, sound-releasing}
 use Rattle.easy_laws.specs.Validity.{Ready}
 use Rattle.easy_engine.specs.Survey.{Column, Blank, nodesOf, fromOf, termOf, estimateOf, asks, running, WaitingColumns, Surveyed}
 use Rattle.easy_engine.specs.Survey.{SlotColumn, Passed, StartsInTime}
@@ -41,10 +41,10 @@ blank = refl
 
 -- ## Sums over the first slots
 
-sum-first : (f : Job → ℕ) (xs : List Job) (i : ℕ) → i < length xs → sum f (take (i + 1) xs) ≡ sum f (take i xs) + f (getD xs i unused)
+pub sum-first : (f : Job → ℕ) (xs : List Job) (i : ℕ) → i < length xs → sum f (take (i + 1) xs) ≡ sum f (take i xs) + f (getD xs i unused)
 sum-first f xs i l = rw (add-one, take-suc xs i unused l) (omega (arith, sum-append f (take i xs) (getD xs i unused ∷ [])))
 
-sum-within : (f : Job → ℕ) (xs : List Job) (i : ℕ) → sum f (take i xs) ≤ sum f xs
+pub sum-within : (f : Job → ℕ) (xs : List Job) (i : ℕ) → sum f (take i xs) ≤ sum f xs
 sum-within f xs zero = omega arith
 sum-within f [] (suc i) = omega arith
 sum-within f (x ∷ xs) (suc i) = omega (arith, sum-within f xs i)
@@ -255,7 +255,7 @@ module _ (d : Scheduler) (h : Holds Ready d) {r w spare : ℕ} {heldₗ starts t
     clock-is = e ∙ clock-of;
     jobs = running js;
     holding = record {
-      sound = h .holds .sound;
+      releasing = sound-releasing (view d) (h .holds .sound);
       runs = record { each = λ j i. keep-in isHolding js i .1; same = λ f. sum-those f isHolding js };
       held-is = v .held-is;
       ends-is = subst (λ (T : Settings). Column (until T) (running js) ends) (z ∙ settings-of) c;

@@ -35,7 +35,7 @@ fn given(nodes: u32, end: u32, minute: u32) -> u32
 }
 
 // The nodes free now and those that are given back by this minute.
-fn avail_at(held: &[u32; 64], ends: &[u32; 64], running: usize, spare: u32, minute: u32) -> u32
+pub fn avail_at(held: &[u32; 64], ends: &[u32; 64], running: usize, spare: u32, minute: u32) -> u32
     requires { ⌜ Held (now held) (now ends) running spare ⌝ }
     ensures { λ r. ⌜ ((h : Held (now (held .entry)) (now (ends .entry)) running spare) → r ≡ avail (h .model) minute) ⌝ }
 {
@@ -70,8 +70,8 @@ fn sooner(
     best
 }
 
-// The shadow: the smallest minute at which the nodes suffice for a head that needs more than are free now.
-fn shadow(
+// The shadow: the smallest minute at which the nodes suffice for one that needs more than are there now.
+pub fn shadow(
     held: &[u32; 64],
     ends: &[u32; 64],
     running: usize,

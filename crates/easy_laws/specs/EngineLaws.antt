@@ -28,25 +28,25 @@ use Rattle.jobs.specs.Order.{Asc, asc-in}
 use Rattle.jobs.specs.Soundness.{Sound}
 use Rattle.lists.specs.FirstLaws.{first-keep, head-keep}
 use Rattle.easy_rules.specs.Easy.{queue, head, free, freed, overBy, avail, shadow, qualifies, pick, choice, begun, mark, begin, settle, settled}
-use Rattle.easy_laws.specs.Settling.{shadow-from, shadow-min, shadow-holds, ended-by, not-ended, avail-now, chosen, mark-same, mark-begun, one-fewer}
+use Rattle.easy_laws.specs.Settling.{shadow-from, shadow-min, Releasing, shadow-suffices, ended-by, not-ended, avail-rises, chosen, mark-same, mark-begun, one-fewer}
 
 -- ## The shadow by the ends of running jobs
 
 -- nodes at a minute are at most the machine's
-pub avail-to : (m : Model) (t : ℕ) → Sound m → avail m t ≤ m .settings .nodes
+pub avail-to : (m : Model) (t : ℕ) → Releasing m → avail m t ≤ m .settings .nodes
 avail-to m t s = omega (arith, s .capacity, sum-le (freed (m .settings) t) held (m .jobs) (λ j i. less j))
   where
     less : (j : Job) → freed (m .settings) t j ≤ held j
     less j = case (isHolding j) (λ r. rw r (on-le (leb (until (m .settings) j) t) (j .nodes))) (λ r. rw r (omega arith))
 
 -- a minute at which the nodes suffice, and before which from now on they do not, is the shadow
-pub shadow-is : (m : Model) (n t : ℕ) → Sound m → n ≤ m .settings .nodes → m .clock ≤ t → n ≤ avail m t → ((k : ℕ) → m .clock ≤ k → k < t → avail m k < n)
-    → t ≡ shadow m n
+pub shadow-is : (m : Model) (n t : ℕ) → Releasing m → n ≤ m .settings .nodes → m .clock ≤ t → n ≤ avail m t
+    → ((k : ℕ) → m .clock ≤ k → k < t → avail m k < n) → t ≡ shadow m n
 shadow-is m n t s l c e f = by (le-or t (shadow m n))
   where
     by : (t ≤ shadow m n) ⊎ (shadow m n < t) → t ≡ shadow m n
     by (inl k) = omega (arith, shadow-min m n t e c)
-    by (inr k) = absurd (omega (arith, f (shadow m n) (shadow-from m n) k, shadow-holds m n s l))
+    by (inr k) = absurd (omega (arith, f (shadow m n) (shadow-from m n) k, shadow-suffices m n s l))
 
 -- the latest end by t, and c where there is none
 abbrev latest : Settings → ℕ → ℕ → List Job → ℕ
@@ -101,14 +101,14 @@ avail-latest m t c l = ap (λ (x : ℕ). free m + x) (sum-cong (freed (m .settin
         (λ e. rw (e, ended-by S k j (both (isHolding j) (leb (until S j) t) e .0) (latest-from S t c i e)))
         (λ e. rw (e, not-ended S k j (λ r. omega (arith, latest-by S t c (m .jobs) l, leb-false (until S j) t (rw r at e)))))
 
--- Where n nodes are not free now: a minute at which they suffice, and before which they suffice at no end, is the shadow.
-pub shadow-by-ends : (m : Model) (n t : ℕ) → Sound m → n ≤ m .settings .nodes → free m < n → m .clock ≤ t → n ≤ avail m t
+-- Where n nodes are not there now: a minute at which they suffice, and before which they suffice at no end, is the shadow.
+pub shadow-by-ends : (m : Model) (n t : ℕ) → Releasing m → n ≤ m .settings .nodes → avail m (m .clock) < n → m .clock ≤ t → n ≤ avail m t
     → ((j : Job) → In j (m .jobs) → isHolding j ≡ true → until (m .settings) j < t → avail m (until (m .settings) j) < n) → t ≡ shadow m n
 shadow-by-ends m n t s l f c e h = shadow-is m n t s l c e (λ k a b. by k a b (latest-is (m .settings) k (m .clock) (m .jobs)))
   where
     by : (k : ℕ) → m .clock ≤ k → k < t → (latest (m .settings) k (m .clock) (m .jobs) ≤ m .clock)
         ⊎ EndsAt (m .settings) (latest (m .settings) k (m .clock) (m .jobs)) (m .jobs) → avail m k < n
-    by k a b (inl p) = omega (arith, avail-latest m k (m .clock) a, avail-now m (latest (m .settings) k (m .clock) (m .jobs)) s p)
+    by k a b (inl p) = omega (arith, avail-latest m k (m .clock) a, avail-rises m (latest (m .settings) k (m .clock) (m .jobs)) (m .clock) p)
     by k a b (inr p) =
         omega (
           arith,

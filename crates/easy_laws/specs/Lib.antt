@@ -7,3 +7,4 @@ pub mod EngineLaws
 pub mod Sentences
 pub mod QuietTick
 pub mod Withdrawal
+pub mod EarliestStart

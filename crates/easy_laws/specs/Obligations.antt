@@ -218,7 +218,7 @@ moved-joins {m} (submits w f room) o i = one (in-cons i)
     Joins : Newcomer → Type 0
     Joins x = (x .ticket ≡ m .next) × OnCourse (joined m (newJob (m .next) w)) (x .ticket) (boundAt m)
 
-    one : (o ≡ record { ticket = m .next; nodes = w .nodes; promise = 0; tenant = w .tenant }) ⊎ In o [] → Joins o
+    one : (o ≡ record { ticket = m .next; nodes = w .nodes; promise = 0; tenant = w .tenant; least = w .least }) ⊎ In o [] → Joins o
     one (inl q) = subst Joins (sym q) (refl, join-course m w)
     one (inr k) = in-nil k
 moved-joins (departs h t a) o i = in-nil i

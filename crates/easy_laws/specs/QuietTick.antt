@@ -22,7 +22,7 @@ use Rattle.scheduler.specs.declared.Refusal.the-variants as refusal
 use Rattle.jobs.specs.Soundness.{Sound, all-remain}
 use Rattle.history.specs.Calls.{tick}
 use Rattle.easy_rules.specs.Easy.{queue, head, free, avail, shadow, extra, qualifies, pick, choice, Settling, forecast, finished, advanced, call}
-use Rattle.easy_laws.specs.Settling.{shadow-min, shadow-holds, none-starts}
+use Rattle.easy_laws.specs.Settling.{shadow-min, sound-releasing, shadow-holds, none-starts}
 use Rattle.easy_laws.specs.Course.{head-in, rest-shadow}
 use Rattle.easy_laws.specs.Validity.{Valid, ticks, moved-ready}
 use Rattle.easy_laws.specs.EngineLaws.{shadow-is, settle-rests}
@@ -58,7 +58,7 @@ module _ (m : Model) (v : Valid m) (l : suc (m .clock) ≤ horizon (m .settings)
     shadow-stays =
         let s = v .ready .sound in
         let n = s .each h (head-in m h rest q .0) .nodes-to in
-        shadow-is (later m) (h .nodes) (shadow m (h .nodes)) later-sound n (rest-shadow m h rest q s (v .rests)) (shadow-holds m (h .nodes) s n)
+        shadow-is (later m) (h .nodes) (shadow m (h .nodes)) (sound-releasing (later m) later-sound) n (rest-shadow m h rest q s (v .rests)) (shadow-holds m (h .nodes) s n)
         (λ k a b. lacks k (omega arith) b)
       where
         lacks : (k : ℕ) → m .clock ≤ k → k < shadow m (h .nodes) → avail m k < h .nodes

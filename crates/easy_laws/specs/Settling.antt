@@ -10,7 +10,7 @@ use lib.Dec.{leb, eqb}
 use lib.ListN.{length, length-map}
 use borrow.Author.Tests.{leb-true, leb-false, le-leb, lt-leb, eqb-true, eqb-false, eq-eqb, ne-eqb}
 use Rattle.lists.specs.Tests.{case, true-false, on, both}
-use Rattle.lists.specs.Lists.{keep, first, elem, sum, In, here, there, map-in, keep-in, first-in, map-same, sum-cong, sum-zero, length-keep}
+use Rattle.lists.specs.Lists.{keep, first, elem, sum, In, here, there, map-in, keep-in, first-in, map-same, sum-cong, sum-zero, sum-le, length-keep}
 use Rattle.lists.specs.Least.{least-from, least-to, least-holds, least-min}
 use Rattle.scheduler.specs.declared.State.{State}
 use Rattle.scheduler.specs.declared.State.the-variants.{Unused, Waiting, Running, Cleanup}
@@ -18,9 +18,10 @@ use Rattle.scheduler.specs.declared.Job.{Job}
 use Rattle.scheduler.specs.States.{waiting?, running?, holding?}
 use Rattle.scheduler.specs.Jobs.{isWaiting, isRunning, isHolding, held}
 use Rattle.scheduler.specs.declared.Settings.{Settings}
-use Rattle.scheduler.specs.Settings.{horizon, holdTime, unit, until}
+use Rattle.scheduler.specs.Limits.{maxNodes}
+use Rattle.scheduler.specs.Settings.{horizon, slots, holdTime, unit, until}
 use Rattle.scheduler.specs.Times.{run-pos, hold-pos, end-is, until-at}
-use Rattle.scheduler.specs.Table.{ofTenant, ticketOf, ticketsOf}
+use Rattle.scheduler.specs.Table.{nodesHeld, ofTenant, ticketOf, ticketsOf}
 use Rattle.scheduler.specs.Model.{Model}
 use Rattle.jobs.specs.Order.{Asc, asc-in, asc-same, asc-one}
 use Rattle.jobs.specs.Soundness.{Sound, SoundJob, holds-short}
@@ -49,28 +50,52 @@ ended-by S t j r l = rw r (le-leb _ t (omega arith))
 pub not-ended : (S : Settings) (t : ℕ) (j : Job) → (isHolding j ≡ true → t < until S j) → overBy S t j ≡ false
 not-ended S t j l = case (isHolding j) (λ r. rw r (lt-leb _ t (omega (arith, l r)))) (λ r. rw r)
 
+-- What the shadow needs of a model: no more nodes are held than it has, and who holds some gives them back now or later, within a unit.
+pub record Releasing (m : Model) : Type 0 where
+  pub few : length (m .jobs) ≤ slots (m .settings)
+  pub nodes-to : m .settings .nodes ≤ maxNodes
+  pub capacity : nodesHeld (m .jobs) ≤ m .settings .nodes
+  pub later : (j : Job) → In j (m .jobs) → isHolding j ≡ true → m .clock ≤ until (m .settings) j
+  pub soon : (j : Job) → In j (m .jobs) → isHolding j ≡ true → until (m .settings) j ≤ m .clock + unit (m .settings)
+
+pub sound-releasing : (m : Model) → Sound m → Releasing m
+sound-releasing m s = record {
+  few = s .few;
+  nodes-to = s .nodes-to;
+  capacity = s .capacity;
+  later = λ j i r. omega (arith, s .each j i .holds r);
+  soon = λ j i r. holds-short (m .settings) (m .clock) j (s .each j i) r;
+}
+
 -- a unit from now all nodes are free
-pub avail-all : (m : Model) → Sound m → avail m (m .clock + unit (m .settings)) ≡ m .settings .nodes
+pub avail-all : (m : Model) → Releasing m → avail m (m .clock + unit (m .settings)) ≡ m .settings .nodes
 avail-all m s =
-    let e = sum-cong (freed (m .settings) (m .clock + unit (m .settings))) held (m .jobs) (λ j i. ended j (s .each j i)) in
+    let e = sum-cong (freed (m .settings) (m .clock + unit (m .settings))) held (m .jobs) ended in
     omega (arith, s .capacity)
   where
-    ended : (j : Job) → SoundJob (m .settings) (m .clock) j → freed (m .settings) (m .clock + unit (m .settings)) j ≡ held j
-    ended j f =
-        case (isHolding j)
-        (λ r. rw (
-          ended-by (m .settings) (m .clock + unit (m .settings)) j r
-              (holds-short (m .settings) (m .clock) j f r),
-          r,
-        ))
-        (λ r. rw r)
+    ended : (j : Job) → In j (m .jobs) → freed (m .settings) (m .clock + unit (m .settings)) j ≡ held j
+    ended j i = case (isHolding j) (λ r. rw (ended-by (m .settings) (m .clock + unit (m .settings)) j r (s .soon j i r), r)) (λ r. rw r)
 
-pub shadow-holds : (m : Model) (n : ℕ) → Sound m → n ≤ m .settings .nodes → n ≤ avail m (shadow m n)
+pub shadow-suffices : (m : Model) (n : ℕ) → Releasing m → n ≤ m .settings .nodes → n ≤ avail m (shadow m n)
 unfolding shadow
-shadow-holds m n s l =
+shadow-suffices m n s l =
     leb-true n (avail m (shadow m n))
     (least-holds (λ (t : ℕ). leb n (avail m t)) (unit (m .settings)) (m .clock)
     (le-leb n (avail m (m .clock + unit (m .settings))) (omega (arith, avail-all m s))))
+
+pub shadow-holds : (m : Model) (n : ℕ) → Sound m → n ≤ m .settings .nodes → n ≤ avail m (shadow m n)
+shadow-holds m n s l = shadow-suffices m n (sound-releasing m s) l
+
+-- the nodes do not get fewer with time
+pub avail-rises : (m : Model) (t u : ℕ) → t ≤ u → avail m t ≤ avail m u
+avail-rises m t u l = omega (arith, sum-le (freed (m .settings) t) (freed (m .settings) u) (m .jobs) (λ j i. more j))
+  where
+    more : (j : Job) → freed (m .settings) t j ≤ freed (m .settings) u j
+    more j =
+        case (overBy (m .settings) t j)
+        (λ e. let b = both (isHolding j) (leb (until (m .settings) j) t) e in
+        rw (e, ended-by (m .settings) u j (b .0) (omega (arith, leb-true (until (m .settings) j) t (b .1)))) (omega arith))
+        (λ e. rw e (omega arith))
 
 -- no nodes that are held come free by now, so that nothing but the free nodes is there now
 pub avail-now : (m : Model) (t : ℕ) → Sound m → t ≤ m .clock → avail m t ≡ free m

@@ -194,7 +194,7 @@ moved-settings (ticks l) = refl
 
 -- who comes by it
 abbrev pub joiner : {m : Model} {c : Call} {mid : Model} {t : ℕ} {ts : List ℕ} → OwnPart m c mid t ts → List Newcomer
-joiner {m} (submits o f room) = record { ticket = m .next; nodes = o .nodes; promise = 0; tenant = o .tenant } ∷ []
+joiner {m} (submits o f room) = record { ticket = m .next; nodes = o .nodes; promise = 0; tenant = o .tenant; least = o .least } ∷ []
 joiner (departs h t a) = []
 joiner (ticks l) = []
 

@@ -1,7 +1,7 @@
 -- For the reader: a job behind the head is withdrawn, and nothing else changes: nobody starts, the head hears nothing new, and its shadow
 -- stays. And what this kind owes of tickets, from which it follows that one withdrawn is in no later answer.
 -- Assumes nothing.
-use Prim.Native.Nat.{ℕ, _+_, _-_}
+use Prim.Native.Nat.{ℕ, suc, _+_, _-_}
 use native.Mathlib.Omega.{arith}
 use mathlib.Core.Path.{_≡_, refl, sym, ap, _∙_}
 use mathlib.Core.Bool.{Bool, true, false, not, _&&_, _||_}
@@ -11,25 +11,25 @@ use mathlib.Core.Logic.{⊎-elim}
 use lib.Dec.{leb, eqb}
 use borrow.Author.Tests.{lt-leb, ne-eqb}
 use Rattle.lists.specs.Tests.{true-false}
-use Rattle.lists.specs.Lists.{keep, first, elem, In, here, there, keep-in}
+use Rattle.lists.specs.Lists.{keep, first, In, here, there, keep-in}
 use Rattle.scheduler.specs.declared.Departure.the-variants.{Cancel}
 use Rattle.scheduler.specs.declared.Job.{Job}
 use Rattle.scheduler.specs.declared.Select.the-variants as select
-use Rattle.scheduler.specs.Jobs.{isRunning}
 use Rattle.scheduler.specs.Settings.{holdTime}
-use Rattle.scheduler.specs.Table.{ticketsOf}
-use Rattle.scheduler.specs.Model.{Model, ending}
+use Rattle.scheduler.specs.Model.{Model, ending, joined}
 use Rattle.scheduler.specs.Answers.{Result, accepts}
-use Rattle.scheduler.specs.Refusals.{departRefusal}
-use Rattle.jobs.specs.Judgement.{judged-accepted}
-use Rattle.jobs.specs.Departing.{ended-ran}
-use Rattle.history.specs.Calls.{Call, cancel}
+use Rattle.scheduler.specs.Refusals.{departRefusal, tickRefusal}
+use Rattle.jobs.specs.Judgement.{judged-by, judged-accepted}
+use Rattle.jobs.specs.Departing.{left-ran, ticked-ran}
+use Rattle.jobs.specs.Soundness.{Sound}
+use Rattle.history.specs.Calls.{Call, submit, depart, cancel, tick, unchanged}
 use Rattle.history_proof.specs.Obligations.{Ticketed}
-use Rattle.easy_rules.specs.Easy.{queue, head, free, avail, shadow, extra, qualifies, pick, choice, Settling, finished, advanced, call}
+use Rattle.history_proof.specs.Departures.{Ended}
+use Rattle.easy_rules.specs.Easy.{queue, head, free, avail, shadow, extra, qualifies, pick, choice, Settling, finished, newJob, submitRefusal, advanced, call}
 use Rattle.easy_laws.specs.Settling.{none-starts}
 use Rattle.easy_laws.specs.Course.{OnCourse, left, queue-left, free-left, avail-left, shadow-left}
 use Rattle.easy_laws.specs.EngineLaws.{settle-rests}
-use Rattle.easy_laws.specs.Validity.{Valid, OwnPart, submits, departs, ticks, CallAccepted, Unchanged, called}
+use Rattle.easy_laws.specs.Validity.{Valid, CallAccepted, Unchanged, called}
 use Rattle.easy_laws.specs.Obligations.{waits-queued, taken-joins, quiet-comes}
 use Rattle.easy_laws.specs.Sentences.{call-next}
 
@@ -90,11 +90,18 @@ module _ (m : Model) (t : ℕ) (v : Valid m) (h : Job) (later : List Job) (e : q
 
 -- ## Tickets
 
-moved-ran : {m : Model} {c : Call} {mid : Model} {t : ℕ} {ts : List ℕ} → OwnPart m c mid t ts → (u : ℕ) → elem u ts ≡ true
-    → elem u (ticketsOf (keep isRunning (m .jobs))) ≡ true
-moved-ran (submits o f room) u e = true-false false e refl
-moved-ran {m} (departs h t a) u e = ended-ran (select.Departing h t) (m .jobs) u e
-moved-ran {m} (ticks l) u e = ended-ran (ending m) (m .jobs) u e
+-- whose run ends ran, for its least or longer
+ended-ran : (m : Model) (c : Call) (u : ℕ) → Sound m → Ended m c u (call m c)
+unfolding call advanced finished
+ended-ran m (submit o) u s =
+    judged-by (Ended m (submit o) u) m (submitRefusal m o) (finished m (joined m (newJob (m .next) o)) (m .next) [])
+    (λ a e. true-false false e refl) (λ a e. true-false false e refl)
+ended-ran m (depart h t) u s =
+    judged-by (Ended m (depart h t) u) m (departRefusal m h t) (advanced m (m .clock) (select.Departing h t))
+    (λ a e. left-ran m h t u a e) (λ a e. true-false false e refl)
+ended-ran m tick u s =
+    judged-by (Ended m tick u) m (tickRefusal m) (advanced m (suc (m .clock)) (ending m)) (λ a e. ticked-ran m u s e) (λ a e. true-false false e refl)
+ended-ran m (unchanged w) u s = λ e. true-false false e refl
 
 pub easy-ticketed : Ticketed call Valid OnCourse
 easy-ticketed = record {
@@ -105,10 +112,6 @@ easy-ticketed = record {
       (λ (t : CallAccepted m c (call m c)). taken-joins m c (call m c) v t o i .0)
       (λ (q : Unchanged m c (call m c)). quiet-comes m c (call m c) v q o i)
       (called m c v);
-  ends = λ m c t v e.
-      ⊎-elim
-      (λ (x : CallAccepted m c (call m c)). moved-ran (x .moved) t e)
-      (λ (q : Unchanged m c (call m c)). true-false false (ap (λ (o : Result). elem t (o .reply .ended)) (sym (q .same)) ∙ e) refl)
-      (called m c v);
+  ends = λ m c t v. ended-ran m c t (v .ready .sound);
   waits = λ m t b o. waits-queued m t (o .waits);
 }

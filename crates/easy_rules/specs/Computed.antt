@@ -1,5 +1,5 @@
--- Document 01's slips of the Loose Desk, one where two jobs might pass the head in one call, and document 02's clearing and houses,
--- computed from the definitions.
+-- Document 01's slips of the Loose Desk, one where two jobs might pass the head in one call, and document 02's clearing, houses and soonest
+-- minute, computed from the definitions.
 -- Assumes nothing.
 use mathlib.Core.Path.{_≡_, refl}
 use mathlib.Core.List.{List, [], _∷_, map}
@@ -8,7 +8,7 @@ use Prim.Native.Nat.{ℕ}
 use lib.ListN.{replicate}
 use Rattle.scheduler.specs.declared.Kind.the-variants.{Easy}
 use Rattle.scheduler.specs.declared.Job.{Job}
-use Rattle.scheduler.specs.declared.Tenant.the-variants.{Nobody, B}
+use Rattle.scheduler.specs.declared.Tenant.the-variants.{Nobody, A, B}
 use Rattle.scheduler.specs.declared.Submission.{Submission}
 use Rattle.scheduler.specs.declared.Refusal.{Refusal}
 use Rattle.scheduler.specs.declared.Refusal.the-variants as refusal
@@ -17,7 +17,8 @@ use Rattle.scheduler.specs.Answers.{verdict}
 use Rattle.scheduler.specs.Settings as times
 use Rattle.scheduler.specs.Refusals as refusals
 use Rattle.scheduler.specs.Opening.{openingRefusal, opening}
-use Rattle.history.specs.Calls.{Call, submit, orderOf, order, complete, cancel, tick, after}
+use Rattle.history.specs.Calls.{Call, submit, orderBetween, orderOf, order, complete, cancel, tick, after}
+use Rattle.easy_rules.specs.EarliestStart.{earliestStart}
 use Rattle.easy_rules.specs.Easy.{rank, shadow, extra, qualifies, pick, settle, forecast, finished, submitRefusal, advanced, call}
 
 -- 63 places are A's and one is B's
@@ -93,6 +94,22 @@ b-running = after call (cleared 2 10 0) (submit (orderOf B 1 5) ∷ [])
 abbrev b-over : Model
 b-over = after call b-running (complete 1 ∷ tick ∷ [])
 
+-- document 02, No. 7: "A faded hand takes anything from 20 to 90 minutes": on a machine of 4 nodes that are cleared for 2, behind such a job
+-- wait one of 4 nodes and one of 3, and a second runs beside it for 5 to 10 minutes
+abbrev faded : Model
+faded = after call (cleared 2 4 0)
+    (submit (orderBetween A 3 20 90) ∷ submit (orderBetween A 1 5 10) ∷ submit (order 4 5) ∷ submit (order 3 120) ∷ submit (order 1 120) ∷ [])
+
+-- the clock at 30, past the least of the first; and there the first is over
+abbrev faded-later : Model
+faded-later = after call faded (replicate 30 tick)
+
+abbrev faded-over : Model
+faded-over = after call faded-later (complete 1 ∷ tick ∷ [])
+
+abbrev soonest : Model → ℕ → Refusal × ℕ
+soonest m t = let e = earliestStart m t in (e .refusal, e .minute)
+
 pub examples : (call (call (fresh 10 0) (submit (order 6 20)) .model) (submit (order 8 10)) .reply .head ≡ some (record { ticket = 2; minute = 20 }))
     -- "on the Loose Desk the promise, and a waiting stack's start, are 0"
     × (stored (after call (fresh 10 5) (submit (order 6 20) ∷ submit (order 8 10) ∷ [])) ≡ (5, 0, 0) ∷ (0, 0, 0) ∷ [])
@@ -147,6 +164,17 @@ pub examples : (call (call (fresh 10 0) (submit (order 6 20)) .model) (submit (o
     -- 14 comes first, and 2 before 15
     × (asking crowded (orderOf Nobody 0 0) ≡ refusal.UnknownTenant)
     × (asking crowded (order 1 0) ≡ refusal.MinutesOutOfRange)
+    -- document 02, No. 7: for all 4 nodes and for 3 the first must be over, and 1 is free once the second is, whoever waits
+    × (soonest faded 3 ≡ (refusal.None, 22))
+    × (soonest faded 4 ≡ (refusal.None, 22))
+    × (soonest faded 5 ≡ (refusal.None, 7))
+    -- "or now if that is past, followed by clearing", and what is cleared at its release
+    × (soonest faded-later 3 ≡ (refusal.None, 32))
+    × (soonest faded-later 5 ≡ (refusal.None, 30))
+    × (soonest faded-over 3 ≡ (refusal.None, 32))
+    -- "11 if it is not"
+    × (soonest faded 1 ≡ (refusal.NotWaiting, 0))
+    × (soonest faded 6 ≡ (refusal.NotWaiting, 0))
 unfolding
     opening
     openingRefusal
@@ -169,7 +197,16 @@ unfolding
     submitRefusal
     advanced
     call
+    earliestStart
 examples = (
+  refl,
+  refl,
+  refl,
+  refl,
+  refl,
+  refl,
+  refl,
+  refl,
   refl,
   refl,
   refl,

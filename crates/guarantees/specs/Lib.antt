@@ -9,3 +9,4 @@ pub mod Tickets
 pub mod Withdrawn
 pub mod Cleanup
 pub mod Quotas
+pub mod EarliestStart

@@ -13,6 +13,8 @@ use Rattle.hingerota.proofs.Order.Laws as X′
 use Rattle.hingerota.proofs.Answer as N
 use Rattle.hingerota.proofs.Answer.Laws as N′
 use Rattle.hingerota.proofs.Outcome as S
+use Rattle.hingerota.proofs.Earliest as E
+use Rattle.hingerota.proofs.Earliest.Laws as E′
 use Rattle.hingerota.proofs.Shown as W
 use Rattle.hingerota.proofs.Shown.Laws as W′
 use Rattle.hingerota.proofs.ProfileOutcome as P
@@ -32,6 +34,12 @@ order-laws = struct-laws X.the-type X′.the-laws X′.the-plain
 abbrev pub outcome-two : Two answer D.the-type D′.the-laws
 outcome-two = two-of N.the-type N′.the-laws N′.lowers (S.the-type .name) (S.the-type .D) (λ r. r .answer) D.the-type D′.the-laws D′.lowers (λ r. r .desk)
     (S.the-type .to-one)
+
+abbrev pub earliest : Flat
+earliest = struct-flat E.the-type E′.the-laws
+
+pub earliest-laws : FlatLaws earliest
+earliest-laws = struct-laws E.the-type E′.the-laws E′.the-plain
 
 abbrev pub shown : Flat
 shown = struct-flat W.the-type W′.the-laws

@@ -12,6 +12,7 @@ use Rattle.scheduler.specs.declared.Opening.{Opening}
 use Rattle.scheduler.specs.Model.{Model, store, view}
 use Rattle.scheduler.specs.Answers.{Reply, answer, replyOf, noTickets}
 use Rattle.scheduler.specs.Opening.{opening, opened}
+use Rattle.easy_rules.specs.EarliestStart.{earliestStart}
 use Rattle.history.specs.Calls.{Call, unchanged, Event, after, events, eventsOf}
 use Rattle.history.specs.Guarantee.{Guarantee}
 use Rattle.guarantees.specs.Rules.{call}
@@ -23,11 +24,13 @@ use Rattle.calls.specs.ProfileCall.{profileRefusal}
 use Rattle.hingerota.specs.declared.Desk.{Desk}
 use Rattle.hingerota.specs.declared.Answer.{Answer}
 use Rattle.hingerota.specs.declared.Point.{Point}
+use Rattle.hingerota.specs.declared.Earliest.{Earliest}
 use Rattle.hingerota.specs.declared.Shown.{Shown}
 use Rattle.hingerota.specs.Mirror.{mirror, mirrorTickets, mirrorAnswer, read, read-mirror, readAnswer, read-answer}
 use Rattle.hingerota.specs.DeskPremise.{opens}
 use Rattle.hingerota.specs.CallContract.{HostLeaves}
 use Rattle.hingerota.specs.ProfileContract.{HostShows}
+use Rattle.hingerota.specs.EarliestContract.{earliestOn}
 use Rattle.hingerota.specs.Waits.{waitRefusalOn, waitNumber}
 
 -- the reply that an answer in numbers says
@@ -44,7 +47,10 @@ pub data HostMade (d : Desk) : Call → Answer → Desk → Type 0 where
   -- a profile counts as a call that leaves the desk as it is, by the refusal that it answers
   profileOnLent : {lent after : List Point} {s : Shown} → HostShows d lent s after
       → HostMade d (unchanged (profileRefusal (view (read d)) (length lent))) (refusedBy (s .refusal)) d
-  -- and so does a wait which is refused; one that is not is as many ticks
+  -- and so does the question for an earliest start
+  earliestAsked : {e : Earliest} (ticket : ℕ) → e ≡ earliestOn d ticket
+      → HostMade d (unchanged (earliestStart (view (read d)) ticket .refusal)) (refusedBy (e .refusal)) d
+  -- and a wait which is refused; one that is not is as many ticks
   waitRefused : {n : ℕ} (minutes : ℕ) → n ≡ waitNumber d minutes → eqb n 0 ≡ false → HostMade d (unchanged (waitRefusalOn d minutes)) (refusedBy n) d
 
 -- where d mirrors a valid model, stored: what each leaves and answers is that of its definition
@@ -61,6 +67,8 @@ module _ (m : Model) (v : Valid m) where
   )
   made-is (profileOnLent {lent} {after} {s} w) =
       rw (unchanged-refuses m (profileRefusal (view (read (mirror (store m)))) (length lent))) (refl, ap (λ (x : Shown). refusedBy (x .refusal)) (w .answers))
+  made-is (earliestAsked ticket q) =
+      rw (unchanged-refuses m (earliestStart (view (read (mirror (store m)))) ticket .refusal)) (refl, ap (λ (x : Earliest). refusedBy (x .refusal)) q)
   made-is (waitRefused {n} minutes e q) = rw (unchanged-refuses m (waitRefusalOn (mirror (store m)) minutes)) (refl, ap refusedBy e)
 
 -- From the desk that an opening hands back, a refused one too: desk and answers are those of the list of calls, and the book of the calls

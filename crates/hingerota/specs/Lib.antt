@@ -3,4 +3,5 @@ pub mod DeskPremise
 pub mod CallContract
 pub mod ProfileContract
 pub mod Waits
+pub mod EarliestContract
 pub mod Chain

@@ -10,6 +10,7 @@ ghost use Rattle.conservative_profile.specs.StoredProfile.{places};
 ghost use Rattle.hingerota.specs.DeskPremise.{Handed, gives, opens, promiseOpening, looseOpening};
 ghost use Rattle.hingerota.specs.CallContract.{HostLeaves};
 ghost use Rattle.hingerota.specs.ProfileContract.{mirrorShown, mirrorPoint, shownIn, pointAt, HostShows};
+ghost use Rattle.hingerota.specs.EarliestContract.{earliestOn};
 ghost use Rattle.hingerota.specs.Waits.{waitNumber};
 use scheduler::Job;
 use scheduler::Kind;
@@ -108,6 +109,13 @@ pub struct Point {
 pub struct Shown {
     pub refusal: u32,
     pub count: usize,
+}
+
+// The minute before which a waiting job cannot start; the refusal is document 02's number, and the minute is then 0.
+#[repr(C)]
+pub struct Earliest {
+    pub refusal: u32,
+    pub minute: u32,
 }
 
 pub struct ProfileOutcome {
@@ -371,6 +379,18 @@ fn point_at(p: ProfileOutcome, i: usize) -> Point
     mirror_point(q)
 }
 
+fn earliest_start(d: Desk, ticket: u32) -> Earliest
+    requires { ⌜ Handed d ⌝ }
+    ensures { λ r. ⌜ r ≡ earliestOn d ticket ⌝ }
+{
+    let e = calls::earliest_start(read(d), ticket);
+    let refusal = e.refusal;
+    Earliest {
+        refusal: refusal.code(),
+        minute: e.minute,
+    }
+}
+
 fn wait_refusal(d: Desk, minutes: u32) -> u32
     requires { ⌜ Handed d ⌝ }
     ensures { λ r. ⌜ r ≡ waitNumber d minutes ⌝ }
@@ -474,6 +494,15 @@ pub extern "C" fn hingerota_profile(d: &Desk, points: &mut [Point]) -> Shown
         i += 1;
     }
     p.answer
+}
+
+// The minute before which the waiting job with this ticket cannot start. The desk is only read.
+#[no_mangle]
+pub extern "C" fn hingerota_earliest_start(d: &Desk, ticket: u32) -> Earliest
+    requires { ⌜ Handed (now d) ⌝ }
+    ensures { λ r. ⌜ r ≡ earliestOn (now (d .entry)) ticket ⌝ }
+{
+    earliest_start(*d, ticket)
 }
 
 // Why a wait of `minutes` is refused, by number, or 0: it is then that number of ticks. The desk is only read.

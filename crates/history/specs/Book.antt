@@ -29,8 +29,9 @@ pub record Entry : Type 0 where
   pub ticket : ℕ
   pub nodes : ℕ
   pub promise : ℕ
-  -- the house that its intake named
+  -- the house and the least that its intake named
   pub tenant : Tenant
+  pub least : ℕ
   -- "Its bound is the clock at intake + r × 10,080."
   pub bound : ℕ
   pub fate : Fate
@@ -88,6 +89,7 @@ entry u b o = record {
   nodes = o .nodes;
   promise = o .promise;
   tenant = o .tenant;
+  least = o .least;
   bound = b .clock + rank (b .entries) * u;
   fate = waiting;
   headed = false;
@@ -106,12 +108,18 @@ fateAfter k c e t (cleaning s m) = over k c s m
 fateAfter k c e t (ended s) = ended s
 fateAfter k c e t (withdrawn w) = withdrawn w
 
+-- after each of these events, the clock being c before them
+abbrev pub fateFrom : (k c : ℕ) → ℕ → Fate → List Event → Fate
+fateFrom k c t f [] = f
+fateFrom k c t f (e ∷ es) = let c′ = clockAfter (news e) c in fateFrom k c′ t (fateAfter k c′ (news e) t f) es
+
 abbrev pub withFate : Entry → Fate → Entry
 withFate x f = record {
   ticket = x .ticket;
   nodes = x .nodes;
   promise = x .promise;
   tenant = x .tenant;
+  least = x .least;
   bound = x .bound;
   fate = f;
   headed = x .headed;
@@ -157,6 +165,7 @@ hearing f x = record {
   nodes = x .nodes;
   promise = x .promise;
   tenant = x .tenant;
+  least = x .least;
   bound = x .bound;
   fate = x .fate;
   headed = true;

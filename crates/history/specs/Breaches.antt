@@ -73,7 +73,7 @@ promise-late-ended g = too-late _ 1 refl (g .promises refl _ (here refl) .starts
 
 -- one that waits on, minute after minute
 late : Entry
-late = record { ticket = 1; nodes = 4; promise = 0; tenant = A; bound = 10080; fate = waiting; headed = true; forecast = none }
+late = record { ticket = 1; nodes = 4; promise = 0; tenant = A; least = 0; bound = 10080; fate = waiting; headed = true; forecast = none }
 
 abbrev waiting-at : ℕ → Book
 waiting-at c = record { clock = c; entries = late ∷ []; strays = [] }

@@ -19,6 +19,7 @@ pub record Newcomer : Type 0 where
   pub nodes : ℕ
   pub promise : ℕ
   pub tenant : Tenant
+  pub least : ℕ
 
 pub record News : Type 0 where
   -- a minute has passed
@@ -38,7 +39,7 @@ passes tick = true
 passes (unchanged w) = false
 
 abbrev comes : Call → Reply → List Newcomer
-comes (submit o) r = record { ticket = r .ticket; nodes = o .nodes; promise = r .promise; tenant = o .tenant } ∷ []
+comes (submit o) r = record { ticket = r .ticket; nodes = o .nodes; promise = r .promise; tenant = o .tenant; least = o .least } ∷ []
 comes (depart h t) r = []
 comes tick r = []
 comes (unchanged w) r = []

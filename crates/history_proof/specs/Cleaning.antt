@@ -2,7 +2,7 @@
 -- Assumes nothing.
 use mathlib.Core.Path.{_≡_, refl, sym, ap, subst, _∙_}
 use mathlib.Core.Bool.{Bool, true, false, cond}
-use mathlib.Core.List.{_++_, map}
+use mathlib.Core.List.{map}
 use Prim.Native.Nat.{ℕ, _+_, _≤_, _<_}
 use native.Mathlib.Omega.{arith}
 use borrow.Author.Tests.{lt-ltb}
@@ -43,6 +43,14 @@ module _ {k : Kind} {R : Rules} {Valid : Model → Type 0} {OnCourse : Model →
   pub clock-rises : m .clock ≤ R m c .model .clock
   clock-rises = omega (arith, L .clock m c v, clock-up (said R m c) (m .clock))
 
+  -- who lives on is there after the call, as it says
+  pub lives-shown : (x : JobShown) → In x (map shown (m .jobs))
+      → isLive (remark (cleanup (R m c .model .settings)) (R m c .model .clock) (said R m c) x) ≡ true
+      → In (remark (cleanup (R m c .model .settings)) (R m c .model .clock) (said R m c) x) (map shown (R m c .model .jobs))
+  lives-shown x i l =
+      let r = remark (cleanup (R m c .model .settings)) (R m c .model .clock) (said R m c) in
+      subst (In (r x)) (sym (L .tells m c v)) (in-keep isLive (in-map r (in-left (comers (said R m c)) i)) l)
+
   -- where the clock is below its end and the cleanup, it is there after the call
   pub cleaning-stays : (x : JobShown) (s n : ℕ) → x .fate ≡ cleaning s n → R m c .model .clock < n + cleanup (m .settings)
       → In x (map shown (m .jobs)) → In x (map shown (R m c .model .jobs))
@@ -55,8 +63,4 @@ module _ {k : Kind} {R : Rules} {Valid : Model → Type 0} {OnCourse : Model →
       ∙ ap (λ (b : Bool). cond b (cleaning s n) (ended s)) (lt-ltb (m′ .clock) (n + p) (omega arith))
       ∙ sym f in
       let same : remark p (m′ .clock) (said R m c) x ≡ x = shown-with x _ fate in
-      subst (In x) (sym (L .tells m c v))
-      (in-keep isLive
-      (subst (λ (y : JobShown). In y (map (remark p (m′ .clock) (said R m c)) (map shown (m .jobs) ++ comers (said R m c)))) same
-      (in-map (remark p (m′ .clock) (said R m c)) (in-left (comers (said R m c)) i)))
-      (ap live f))
+      subst (λ (y : JobShown). In y (map shown (m′ .jobs))) same (lives-shown x i (ap live (fate ∙ f)))

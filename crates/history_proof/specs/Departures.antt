@@ -25,16 +25,19 @@ use Rattle.scheduler.specs.Settings.{cleanup, until}
 use Rattle.scheduler.specs.Times.{until-cleaning}
 use Rattle.scheduler.specs.Table.{ticketsOf, ends, endedOf, withdraws, releases, leaves, ceased}
 use Rattle.scheduler.specs.Model.{Model}
+use Rattle.scheduler.specs.Answers.{Result}
 use Rattle.jobs.specs.Order.{asc-in, job-elem, elem-picked}
+use Rattle.jobs.specs.Departing.{Ran}
 use Rattle.jobs.specs.Soundness.{SoundJob, Sound, Leaving, early, in-time, withdraws-waits, ends-runs, releases-cleaned, stays, cleans-on, cleaning-holds}
-use Rattle.history.specs.News.{Newcomer, News, nothing}
+use Rattle.history.specs.Calls.{Call}
+use Rattle.history.specs.News.{Newcomer, News, newsOf, nothing, clockAfter}
 use Rattle.history.specs.Book.{Fate, waiting, cleaning, ended, over, fateAfter}
 use Rattle.history_proof.specs.Obligations.{JobShown, shown, fateBy, live, isLive, remark, shownAfter, newly, comers, Tells, Aim, Kept}
 use Rattle.history_proof.specs.Obligations.{Queued}
 
 pub shown-with : (x : JobShown) (f : Fate) → f ≡ x .fate
-    → _≡_ {A = JobShown} (record { ticket = x .ticket; nodes = x .nodes; promise = x .promise; tenant = x .tenant; fate = f }) x
-shown-with x f e = λ i. record { ticket = x .ticket; nodes = x .nodes; promise = x .promise; tenant = x .tenant; fate = e i }
+    → _≡_ {A = JobShown} (record { ticket = x .ticket; nodes = x .nodes; promise = x .promise; tenant = x .tenant; least = x .least; fate = f }) x
+shown-with x f e = λ i. record { ticket = x .ticket; nodes = x .nodes; promise = x .promise; tenant = x .tenant; least = x .least; fate = e i }
 
 -- a job that waits does not run
 pub waits-runs : (s : State) → waiting? s ≡ true → running? s ≡ false
@@ -237,6 +240,12 @@ module _ (m : Model) (e : News) (v : Sound m) (d : e .ended ≡ []) (w : e .with
 pub tells-nothing : (m : Model) (e : News) → Sound m → e ≡ nothing → Tells m e m
 tells-nothing m e v n =
     subst (λ (x : News). Tells m x m) (sym n) (rw (append-nil (m .jobs)) at (tells-stay m nothing v refl refl [] (λ j i. refl) refl))
+
+-- ## Whose run ends
+
+-- it ran, for its least or longer
+abbrev pub Ended : Model → Call → ℕ → Result → Type 0
+Ended m c u r = elem u (r .reply .ended) ≡ true → Ran m (clockAfter (newsOf c (r .reply)) (m .clock)) u
 
 -- ## What is kept of a start
 

@@ -2,7 +2,7 @@
 -- forecasts it or gives its ticket again.
 -- Assumes nothing.
 use mathlib.Core.Path.{_≡_, refl, sym, ap, subst, _∙_}
-use mathlib.Core.Bool.{Bool, true, false}
+use mathlib.Core.Bool.{true, false}
 use mathlib.Core.List.{List, [], _∷_, _++_, map}
 use mathlib.Core.Logic.{_⊎_, inl, inr}
 use mathlib.Core.Option.{some}
@@ -18,13 +18,13 @@ use Rattle.scheduler.specs.declared.State.the-variants.{Unused, Waiting, Runnin
 use Rattle.scheduler.specs.States.{running?, cleaning?}
 use Rattle.scheduler.specs.Jobs.{isWaiting, isRunning, isCleaning}
 use Rattle.scheduler.specs.Settings.{cleanup}
-use Rattle.scheduler.specs.Table.{ticketsOf}
 use Rattle.scheduler.specs.Model.{Model}
 use Rattle.scheduler.specs.Answers.{Forecast}
 use Rattle.jobs.specs.Order.{asc-one, elem-job}
+use Rattle.jobs.specs.Departing.{Ran}
 use Rattle.jobs.specs.Soundness.{waiting-clean, running-clean}
 use Rattle.history.specs.Calls.{Call, Rules, Event, events}
-use Rattle.history.specs.News.{Newcomer, News, news}
+use Rattle.history.specs.News.{Newcomer, News, news, clockAfter}
 use Rattle.history.specs.Tickets.{nextAfter}
 use Rattle.history.specs.Book.{over, fateAfter}
 use Rattle.history_proof.specs.Obligations.{JobShown, fateBy, shown, live, isLive, remark, newly, comers, said, Queued, Comes, Lawful, Ticketed}
@@ -48,16 +48,12 @@ pub record Gone (m : Model) (t : ℕ) : Type 0 where
   pub given : t < m .next
   pub absent : (j : Job) → In j (m .jobs) → j .ticket ≡ t → isCleaning j ≡ true
 
--- so none that waits or runs
-gone-picked : (m : Model) (t : ℕ) (p : Job → Bool) → ((j : Job) → p j ≡ true → isCleaning j ≡ false) → Gone m t
-    → elem t (ticketsOf (keep p (m .jobs))) ≡ true → ⊥
-gone-picked m t p f g e =
-    let j = elem-job t (keep p (m .jobs)) e in
-    let k = keep-in p (m .jobs) (j .1) in
-    true-false (isCleaning (j .0)) (g .absent (j .0) (k .0) (j .2)) (f (j .0) (k .1))
-
+-- so none that waits
 gone-waits : (m : Model) (t : ℕ) → Gone m t → Queued m t → ⊥
-gone-waits m t = gone-picked m t isWaiting (λ j w. waiting-clean (j .state) w)
+gone-waits m t g e =
+    let j = elem-job t (keep isWaiting (m .jobs)) e in
+    let k = keep-in isWaiting (m .jobs) (j .1) in
+    true-false (isCleaning (j .0)) (g .absent (j .0) (k .0) (j .2)) (waiting-clean (j .0 .state) (k .1))
 
 abbrev ticketShown : JobShown → ℕ
 ticketShown x = x .ticket
@@ -151,10 +147,9 @@ module _ {k : Kind} {R : Rules} {Valid : Model → Type 0} {OnCourse : Model →
 
     pub ended-gone : (t : ℕ) → elem t (r .ended) ≡ true → Gone m′ t
     ended-gone t q =
-        let j = elem-job t (keep isRunning (m .jobs)) (T .ends m c t v q) in
-        let p = keep-in isRunning (m .jobs) (j .1) in
-        gone-after t (omega (arith, j .2, T .sound m v .below (j .0) (p .0)))
-        (λ i k e y. inr (ap isRunning (alone t i (j .0) k (p .0) e (j .2)) ∙ p .1, q))
+        let j = T .ends m c t v q in
+        gone-after t (omega (arith, j .named, T .sound m v .below (j .job) (j .inside)))
+        (λ i k e y. inr (ap isRunning (alone t i (j .job) k (j .inside) e (j .named)) ∙ j .runs, q))
 
     -- and the call that withdraws does not start
     pub withdrawn-unstarted : (t : ℕ) → elem t (r .withdrew) ≡ true → elem t (r .started) ≡ false
@@ -165,13 +160,16 @@ module _ {k : Kind} {R : Rules} {Valid : Model → Type 0} {OnCourse : Model →
     gone-unsaid t g = record {
       came = new;
       withdrew = never (r .withdrew) (λ e. gone-waits m t g (L .withdraws m c t v e));
-      ended = never (r .ended) (λ e. gone-picked m t isRunning (λ j q. running-clean (j .state) q) g (T .ends m c t v e));
+      ended = never (r .ended) (λ e. ran (T .ends m c t v e));
       started = never (r .started) (λ e. waited (L .starts m c t v e .1));
       head = λ f h e. gone-waits m′ t (gone-stays t g) (subst (Queued m′) e (T .waits m′ (f .ticket) (f .minute) (L .forecasts m c f v h)));
     }
       where
         never : (ts : List ℕ) → (elem t ts ≡ true → ⊥) → elem t ts ≡ false
         never ts f = case (elem t ts) (λ e. absurd (f e)) (λ e. e)
+
+        ran : Ran m (clockAfter r (m .clock)) t → ⊥
+        ran j = true-false (isCleaning (j .job)) (g .absent (j .job) (j .inside) (j .named)) (running-clean (j .job .state) (j .runs))
 
         new : Comes r t → ⊥
         new (o, i, e) = omega (arith, g .given, T .gives m c o v i)

@@ -4,3 +4,5 @@ pub mod Seen
 pub mod Proof
 pub mod Cleaning
 pub mod Gone
+pub mod LeastHolds
+pub mod Entries

@@ -15,11 +15,12 @@ use Rattle.scheduler.specs.declared.State.{State}
 use Rattle.scheduler.specs.declared.State.the-variants.{Unused, Waiting, Running, Cleanup}
 use Rattle.scheduler.specs.declared.Job.{Job}
 use Rattle.scheduler.specs.declared.Tenant.{Tenant}
-use Rattle.scheduler.specs.Jobs.{isWaiting, isRunning}
+use Rattle.scheduler.specs.Jobs.{isWaiting}
 use Rattle.scheduler.specs.Settings.{cleanup, unit, quota}
 use Rattle.scheduler.specs.Table.{nodesHeld, liveOf, ticketsOf}
 use Rattle.scheduler.specs.Model.{Model, Live}
 use Rattle.scheduler.specs.Answers.{Forecast}
+use Rattle.jobs.specs.Departing.{Ran}
 use Rattle.jobs.specs.Soundness.{Sound}
 use Rattle.history.specs.Calls.{Call, Rules}
 use Rattle.history.specs.News.{Newcomer, News, newsOf, clockAfter}
@@ -33,6 +34,7 @@ pub record JobShown : Type 0 where
   pub nodes : ℕ
   pub promise : ℕ
   pub tenant : Tenant
+  pub least : ℕ
   pub fate : Fate
 
 abbrev pub fateBy : State → (start end : ℕ) → Fate
@@ -42,7 +44,14 @@ fateBy Running s e = running s
 fateBy Cleanup s e = cleaning s e
 
 abbrev pub shown : Job → JobShown
-shown j = record { ticket = j .ticket; nodes = j .nodes; promise = j .promise; tenant = j .tenant; fate = fateBy (j .state) (j .start) (j .end) }
+shown j = record {
+  ticket = j .ticket;
+  nodes = j .nodes;
+  promise = j .promise;
+  tenant = j .tenant;
+  least = j .least;
+  fate = fateBy (j .state) (j .start) (j .end);
+}
 
 abbrev pub live : Fate → Bool
 live waiting = true
@@ -56,7 +65,14 @@ isLive x = live (x .fate)
 
 -- after an event that left the clock at c, where nodes stay taken for k minutes
 abbrev pub remark : (k c : ℕ) → News → JobShown → JobShown
-remark k c e x = record { ticket = x .ticket; nodes = x .nodes; promise = x .promise; tenant = x .tenant; fate = fateAfter k c e (x .ticket) (x .fate) }
+remark k c e x = record {
+  ticket = x .ticket;
+  nodes = x .nodes;
+  promise = x .promise;
+  tenant = x .tenant;
+  least = x .least;
+  fate = fateAfter k c e (x .ticket) (x .fate);
+}
 
 -- the jobs that are live after it
 abbrev pub shownAfter : (k c : ℕ) → News → List JobShown → List JobShown
@@ -64,7 +80,7 @@ shownAfter k c e xs = keep isLive (map (remark k c e) xs)
 
 -- the jobs that come
 abbrev pub newly : Newcomer → JobShown
-newly o = record { ticket = o .ticket; nodes = o .nodes; promise = o .promise; tenant = o .tenant; fate = waiting }
+newly o = record { ticket = o .ticket; nodes = o .nodes; promise = o .promise; tenant = o .tenant; least = o .least; fate = waiting }
 
 abbrev pub comers : News → List JobShown
 comers e = map newly (e .came)
@@ -169,6 +185,6 @@ pub record Ticketed (R : Rules) (Valid : Model → Type 0) (OnCourse : Model →
   -- tickets are given upward by one
   pub next : (m : Model) (c : Call) → Valid m → R m c .model .next ≡ nextAfter (said R m c .came) (m .next)
   pub gives : (m : Model) (c : Call) (o : Newcomer) → Valid m → In o (said R m c .came) → o .ticket ≡ m .next
-  -- whose run ends ran, and who is on course waits
-  pub ends : (m : Model) (c : Call) (t : ℕ) → Valid m → elem t (said R m c .ended) ≡ true → elem t (ticketsOf (keep isRunning (m .jobs))) ≡ true
+  -- whose run ends ran, for its least or longer; and who is on course waits
+  pub ends : (m : Model) (c : Call) (t : ℕ) → Valid m → elem t (said R m c .ended) ≡ true → Ran m (clockAfter (said R m c) (m .clock)) t
   pub waits : (m : Model) (t b : ℕ) → OnCourse m t b → Queued m t

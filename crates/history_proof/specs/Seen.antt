@@ -27,7 +27,7 @@ use Rattle.history.specs.Guarantee.{held-nodes, counts, live-jobs}
 use Rattle.history_proof.specs.Obligations.{JobShown, fateBy, shown, live, isLive, remark, newly}
 
 abbrev pub seen : Entry → JobShown
-seen x = record { ticket = x .ticket; nodes = x .nodes; promise = x .promise; tenant = x .tenant; fate = x .fate }
+seen x = record { ticket = x .ticket; nodes = x .nodes; promise = x .promise; tenant = x .tenant; least = x .least; fate = x .fate }
 
 abbrev pub isLiveEntry : Entry → Bool
 isLiveEntry x = live (x .fate)

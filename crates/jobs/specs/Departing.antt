@@ -1,26 +1,29 @@
 -- A job leaves on request, early or withdrawn: it is the only one of its ticket. Whose run ends ran.
 -- Assumes nothing.
-use mathlib.Core.Path.{_≡_, refl, subst}
-use mathlib.Core.Bool.{true, false, cond}
+use mathlib.Core.Path.{_≡_, refl}
+use mathlib.Core.Bool.{true, false, not, cond}
 use mathlib.Core.List.{List, [], _∷_}
-use Prim.Native.Nat.{ℕ, suc, _<_}
+use Prim.Native.Nat.{ℕ, suc, _+_, _≤_, _<_}
 use native.Mathlib.Omega.{arith}
 use lib.Dec.{eqb}
-use borrow.Author.Tests.{eqb-true, ne-eqb}
+use borrow.Author.Tests.{eqb-true, ne-eqb, ltb-false}
 use Rattle.lists.specs.Tests.{case, true-false, both, and-right-false}
-use Rattle.lists.specs.Lists.{keep, any, elem, In, keep-in, in-keep, keep-none}
+use Rattle.lists.specs.Lists.{keep, any, elem, In, keep-in, keep-none, any-none}
 use Rattle.scheduler.specs.declared.Departure.{Departure}
 use Rattle.scheduler.specs.declared.Departure.the-variants.{Complete, Cancel}
 use Rattle.scheduler.specs.declared.Job.{Job}
 use Rattle.scheduler.specs.declared.Select.{Select}
+use Rattle.scheduler.specs.declared.Select.the-variants as select
 use Rattle.scheduler.specs.Jobs.{isRunning, departs?, departsAs}
 use Rattle.scheduler.specs.Table.{ticketsOf, ends, endedOf}
 use Rattle.scheduler.specs.declared.Refusal.the-variants as refusal
-use Rattle.scheduler.specs.Model.{Model}
+use Rattle.scheduler.specs.Settings.{endOf}
+use Rattle.scheduler.specs.Times.{run-from, end-is}
+use Rattle.scheduler.specs.Model.{Model, ending}
 use Rattle.scheduler.specs.Answers.{verdict, accepts}
 use Rattle.scheduler.specs.Refusals.{notThere, departsEarly, departRefusal}
-use Rattle.jobs.specs.Order.{Asc, asc-in, elem-job, job-elem}
-use Rattle.jobs.specs.Soundness.{ends-runs}
+use Rattle.jobs.specs.Order.{Asc, asc-in, elem-job}
+use Rattle.jobs.specs.Soundness.{Sound, passed, ends-runs}
 
 pub not-there : (h : Departure) → accepts (notThere h) ≡ false
 not-there Complete = refl
@@ -49,10 +52,43 @@ module _ (h : Departure) (t : ℕ) where
           let is : j .ticket ≡ t = eqb-true (j .ticket) t (both (departs? h (j .state)) (eqb (j .ticket) t) y .1) in
           rw (y, keep-none (departsAs h t) js (none-departs (suc (j .ticket)) js (omega arith) (a .1)), is)
 
--- whose run ends ran
-pub ended-ran : (s : Select) (js : List Job) (u : ℕ) → elem u (endedOf s js) ≡ true → elem u (ticketsOf (keep isRunning js)) ≡ true
-ended-ran s js u e =
-    let j = elem-job u (keep (ends s) js) e in
-    let k = keep-in (ends s) js (j .1) in
-    subst (λ (t : ℕ). elem t (ticketsOf (keep isRunning js)) ≡ true) (j .2)
-    (job-elem (keep isRunning js) (in-keep isRunning (k .0) (ends-runs s (j .0) (k .1))))
+-- ## Whose run ends
+
+-- the job of this ticket runs, and has run for its least by then
+pub record Ran (m : Model) (now t : ℕ) : Type 0 where
+  pub job : Job
+  pub inside : In job (m .jobs)
+  pub runs : isRunning job ≡ true
+  pub named : job .ticket ≡ t
+  pub least-over : job .start + job .least ≤ now
+
+ended-ran : (m : Model) (s : Select) (now u : ℕ) → ((j : Job) → In j (m .jobs) → ends s j ≡ true → j .start + j .least ≤ now)
+    → elem u (endedOf s (m .jobs)) ≡ true → Ran m now u
+ended-ran m s now u f e =
+    let j = elem-job u (keep (ends s) (m .jobs)) e in
+    let k = keep-in (ends s) (m .jobs) (j .1) in
+    record { job = j .0; inside = k .0; runs = ends-runs s (j .0) (k .1); named = j .2; least-over = f (j .0) (k .0) (k .1) }
+
+-- an early end that is not refused is not before the least
+pub left-ran : (m : Model) (h : Departure) (t u : ℕ) → accepts (departRefusal m h t) ≡ true → elem u (endedOf (select.Departing h t) (m .jobs)) ≡ true
+    → Ran m (m .clock) u
+unfolding departRefusal
+left-ran m h t u a = ended-ran m (select.Departing h t) (m .clock) u (λ j i e. by h j (none j i) e)
+  where
+    none : (j : Job) → In j (m .jobs) → departsEarly (m .clock) h t j ≡ false
+    none j i =
+        let p = passed (not (any (departsAs h t) (m .jobs))) (notThere h) _ (not-there h) a in
+        any-none (departsEarly (m .clock) h t) (passed (any (departsEarly (m .clock) h t) (m .jobs)) refusal.BeforeLeast [] refl (p .1) .0) i
+
+    by : (h : Departure) (j : Job) → departsEarly (m .clock) h t j ≡ false → ends (select.Departing h t) j ≡ true → j .start + j .least ≤ m .clock
+    by Complete j n e = ltb-false (m .clock) (j .start + j .least) (rw e at n)
+    by Cancel j n e = true-false false e refl
+
+-- nor is a planned one
+pub ticked-ran : (m : Model) (u : ℕ) → Sound m → elem u (endedOf (ending m) (m .jobs)) ≡ true → Ran m (suc (m .clock)) u
+ticked-ran m u s =
+    ended-ran m (ending m) (suc (m .clock)) u (λ j i e.
+    let S = m .settings in
+    let f = s .each j i in
+    let t = eqb-true (endOf S j) (suc (m .clock)) (both (isRunning j) (eqb (endOf S j) (suc (m .clock))) e .1) in
+    omega (arith, end-is S j, f .least-to, run-from S (j .estimate) (f .estimate-to)))

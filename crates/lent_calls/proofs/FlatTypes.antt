@@ -16,6 +16,8 @@ use Rattle.scheduler.proofs.Answer.Laws as N′
 use Rattle.scheduler.proofs.Submission as X
 use Rattle.scheduler.proofs.Submission.Laws as X′
 use Rattle.scheduler.proofs.Outcome as S
+use Rattle.scheduler.proofs.Earliest as E
+use Rattle.scheduler.proofs.Earliest.Laws as E′
 
 abbrev pub answer : Flat
 answer = struct-flat N.the-type N′.the-laws
@@ -32,6 +34,12 @@ submission-laws = struct-laws X.the-type X′.the-laws X′.the-plain
 abbrev pub outcome-two : Two answer D.the-type D′.the-laws
 outcome-two = two-of N.the-type N′.the-laws N′.lowers (S.the-type .name) (S.the-type .D) (λ r. r .answer) D.the-type D′.the-laws D′.lowers (λ r. r .scheduler)
     (S.the-type .to-one)
+
+abbrev pub earliest : Flat
+earliest = struct-flat E.the-type E′.the-laws
+
+pub earliest-laws : FlatLaws earliest
+earliest-laws = struct-laws E.the-type E′.the-laws E′.the-plain
 
 abbrev pub shown : Flat
 shown = struct-flat W.the-type W′.the-laws

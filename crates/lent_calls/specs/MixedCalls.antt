@@ -27,6 +27,8 @@ use Rattle.guarantees.specs.Statement.{bookOf}
 use Rattle.calls.specs.declared.Shown.{Shown}
 use Rattle.calls.specs.declared.ProfileOutcome.{ProfileOutcome}
 use Rattle.calls.specs.ProfileCall.{profileOutcome}
+use Rattle.scheduler.specs.declared.Earliest.{Earliest}
+use Rattle.easy_rules.specs.EarliestStart.{earliestStart}
 use Rattle.lent_calls.specs.CallContract.{Leaves}
 use Rattle.lent_calls.specs.ProfileContract.{Shows}
 
@@ -38,7 +40,9 @@ pub data Made (d : Scheduler) : Call → Answer → Scheduler → Type 0 where
   profileByValue : (room : ℕ) {p : ProfileOutcome} → p ≡ profileOutcome (view d) room
       → Made d (unchanged (p .answer .refusal)) (refusedAnswer (p .answer .refusal)) d
   profileOnLent : {lent after : List Point} {s : Shown} → Shows d lent s after → Made d (unchanged (s .refusal)) (refusedAnswer (s .refusal)) d
-  -- and so does a wait which is refused; one that is not is as many ticks
+  -- and so does the question for an earliest start, by value or on what is lent
+  earliestAsked : {e : Earliest} (ticket : ℕ) → e ≡ earliestStart (view d) ticket → Made d (unchanged (e .refusal)) (refusedAnswer (e .refusal)) d
+  -- and a wait which is refused; one that is not is as many ticks
   waitRefused : {r : Refusal} (minutes : ℕ) → r ≡ waitRefusal (view d) minutes → accepts r ≡ false → Made d (unchanged r) (refusedAnswer r) d
 
 -- where d is a valid model, stored: what each leaves and answers is that of its definition
@@ -56,6 +60,7 @@ module _ (m : Model) (v : Valid m) where
   )
   made-is (profileByValue room {p} e) = unchanged-is (p .answer .refusal)
   made-is (profileOnLent {lent} {after} {s} w) = unchanged-is (s .refusal)
+  made-is (earliestAsked {e} ticket q) = unchanged-is (e .refusal)
   made-is (waitRefused {r} minutes e n) = unchanged-is r
 
 -- From the scheduler that an opening hands back, a refused one too: scheduler and answers are those of the list of calls, and the book of

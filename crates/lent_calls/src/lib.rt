@@ -1,11 +1,15 @@
 // The calls on a scheduler that is lent (document 01: "A rack lends its desk to each call and finds it changed there afterwards"): each
 // is its call by value, and what that hands back is left where the scheduler was lent.
+ghost use mathlib.Core.Path.{_≡_};
+ghost use Rattle.scheduler.specs.Model.{view};
 ghost use Rattle.history.specs.Calls as calls;
+ghost use Rattle.easy_rules.specs.EarliestStart.{earliestStart};
 ghost use Rattle.guarantees.specs.Premise.{Premise};
 ghost use Rattle.lent_calls.specs.CallContract.{Leaves};
 ghost use Rattle.lent_calls.specs.ProfileContract.{Shows};
 use calls::Shown;
 use scheduler::Answer;
+use scheduler::Earliest;
 use scheduler::Scheduler;
 use scheduler::Submission;
 use spans::Point;
@@ -44,6 +48,14 @@ pub fn tick(d: &mut Scheduler) -> Answer
     let o = calls::tick(*d);
     *d = o.scheduler;
     o.answer
+}
+
+// The minute before which the waiting job with this ticket cannot start. The scheduler is only read.
+pub fn earliest_start(d: &Scheduler, ticket: u32) -> Earliest
+    requires { ⌜ Premise (now d) ⌝ }
+    ensures { λ r. ⌜ r ≡ earliestStart (view (now (d .entry))) ticket ⌝ }
+{
+    calls::earliest_start(*d, ticket)
 }
 
 // The free nodes from now on, into the list lent. A profile leaves the scheduler as it is, so that `&` serves.

@@ -1,12 +1,14 @@
 -- Laws of the first element that passes a test.
 -- Assumes nothing.
-use Prim.Native.Nat.{ℕ, suc, _+_, _-_}
+use Prim.Native.Nat.{ℕ, suc, _+_, _-_, _≤_, _<_}
 use native.Mathlib.Omega.{arith}
+use native.Mathlib.Numerals.{add-one}
 use mathlib.Core.Path.{_≡_, refl, ap, _∙_}
-use mathlib.Core.Bool.{Bool, false, _&&_}
+use mathlib.Core.Bool.{Bool, true, false, _&&_}
 use mathlib.Core.Option.{none, some}
 use mathlib.Core.List.{List, [], _∷_, head?}
-use lib.ListN.{getD}
+use lib.ListN.{length, getD, drop, drop-of-length-le}
+use lib.Seq.{drop-cons}
 use Rattle.lists.specs.Tests.{case}
 use Rattle.lists.specs.Lists.{keep, first, In, in-nil, in-cons}
 use Rattle.lists.specs.Loops.{position, positionFrom, position-says}
@@ -29,6 +31,17 @@ module _ {A : Type 0} where
   pub first-keep : (p q : A → Bool) (xs : List A) → first p (keep q xs) ≡ first (λ (x : A). q x && p x) xs
   first-keep p q [] = refl
   first-keep p q (x ∷ xs) = case (q x) (λ e. rw e (case (p x) (λ k. rw k) (λ k. rw k (first-keep p q xs)))) (λ e. rw e (first-keep p q xs))
+
+  -- the same search among those that are left, one by one
+  module _ (p : A → Bool) (xs : List A) (z : A) (i : ℕ) where
+    pub first-hit : i < length xs → p (getD xs i z) ≡ true → first p (drop i xs) ≡ some (getD xs i z)
+    first-hit h e = rw (drop-cons xs i z h, e)
+
+    pub first-miss : i < length xs → p (getD xs i z) ≡ false → first p (drop i xs) ≡ first p (drop (i + 1) xs)
+    first-miss h e = rw (drop-cons xs i z h, e, add-one)
+
+    pub first-end : length xs ≤ i → first p (drop i xs) ≡ none
+    first-end h = rw (drop-of-length-le xs h)
 
   pub head-keep : (p : A → Bool) (xs : List A) → head? (keep p xs) ≡ first p xs
   head-keep p [] = refl

@@ -9,7 +9,7 @@ use mathlib.Core.List.{List, [], _∷_, _++_, map}
 use mathlib.Core.Logic.{_⊎_, inl, inr, ⊎-elim}
 use lib.Dec.{eqb}
 use lib.ListN.{length, getD}
-use Rattle.lists.specs.Tests.{case, on}
+use Rattle.lists.specs.Tests.{case, on, neither}
 
 -- the elements that pass a test, in order
 abbrev pub keep {ℓ} : {A : Type ℓ} → (A → Bool) → List A → List A
@@ -141,6 +141,11 @@ module _ {A : Type 0} where
   pub keep-all : (p : A → Bool) (xs : List A) → ((a : A) → In a xs → p a ≡ true) → keep p xs ≡ xs
   keep-all p [] f = refl
   keep-all p (x ∷ xs) f = rw (f x (here refl), keep-all p xs (λ a i. f a (there i)))
+
+  -- where none passes a test, each fails it
+  pub any-none : (p : A → Bool) {xs : List A} {a : A} → any p xs ≡ false → In a xs → p a ≡ false
+  any-none p e (here {x = x} {xs = xs} z) = ap p z ∙ neither (p x) (any p xs) e .0
+  any-none p e (there {x = x} {xs = xs} i) = any-none p (neither (p x) (any p xs) e .1) i
 
   pub keep-none : (p : A → Bool) (xs : List A) → ((a : A) → In a xs → p a ≡ false) → keep p xs ≡ []
   keep-none p [] f = refl

@@ -6,7 +6,7 @@ use native.Mathlib.Omega.{arith}
 use native.Mathlib.Nat.{mul-le-mul}
 use mathlib.Core.Path.{_≡_, refl}
 use mathlib.Core.Bool.{false, true}
-use Rattle.walltime.specs.Laws.{wallTime-le, wallTime-pos, wallTime-mono}
+use Rattle.walltime.specs.Laws.{wallTime-le, le-wallTime, wallTime-pos, wallTime-mono}
 use Rattle.scheduler.specs.declared.Settings.{Settings}
 use Rattle.scheduler.specs.declared.Submission.{Submission}
 use Rattle.scheduler.specs.declared.State.{State}
@@ -29,6 +29,11 @@ module _ (S : Settings) where
   pub run-pos : (e : ℕ) → 1 ≤ e → 1 ≤ runTime S e
   unfolding runTime
   run-pos e l = wallTime-pos e l
+
+  -- no run is planned for less than its estimate
+  pub run-from : (e : ℕ) → e ≤ longest S → e ≤ runTime S e
+  unfolding runTime
+  run-from e l = le-wallTime e l
 
   pub hold-is : (e : ℕ) → holdTime S e ≡ runTime S e + cleanup S
   unfolding holdTime

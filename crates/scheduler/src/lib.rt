@@ -2,7 +2,7 @@
 ghost use mathlib.Core.Path.{_≡_};
 ghost use Prim.Native.Nat.{_≤_};
 ghost use Rattle.scheduler.specs.Limits.{maxNodes, longestEstimate, limits, outside, misdivided};
-ghost use Rattle.scheduler.specs.Jobs.{unused, fresh, jobAt, cleaning, isRunning, isCleaning, tooEarly, releasedAt, picks};
+ghost use Rattle.scheduler.specs.Jobs.{unused, fresh, jobAt, cleaning, isRunning, isCleaning, isHolding, tooEarly, releasedAt, picks};
 ghost use Rattle.scheduler.specs.Tenants.{known, number, sameTenant, tenantOf, letterOf};
 ghost use Rattle.scheduler.specs.Settings.{refusedSettings, quota, cleanup, runTime, holdTime, unit};
 ghost use Rattle.scheduler.specs.Table.{tickets, oneIf};
@@ -115,6 +115,12 @@ pub struct Answer {
 pub struct Outcome {
     pub answer: Answer,
     pub scheduler: Scheduler,
+}
+
+// The minute before which a waiting job cannot start (document 02, No. 7: "soonest minute"); 0 where it is refused.
+pub struct Earliest {
+    pub refusal: Refusal,
+    pub minute: u32,
 }
 
 pub struct Opening {
@@ -423,6 +429,19 @@ impl Job {
             State::Unused => false,
             State::Waiting => false,
             State::Running => false,
+            State::Cleanup => true,
+        }
+    }
+
+    // Whether it runs or is in cleanup: its nodes are taken.
+    pub fn is_holding(self) -> bool
+        ensures { λ r. ⌜ r ≡ isHolding self ⌝ }
+    {
+        let s = self.state;
+        match s {
+            State::Unused => false,
+            State::Waiting => false,
+            State::Running => true,
             State::Cleanup => true,
         }
     }

@@ -1,7 +1,7 @@
 //! The guarantees of a list of calls, watched by the calls and their answers alone: nothing here looks into a desk.
 
 use crate::model::{held, HOUSES, LONGEST_ESTIMATE};
-use hingerota_host::{Answer, Kind, Order, Tickets};
+use hingerota_host::{Answer, Earliest, Kind, Order, Tickets};
 use std::collections::BTreeMap;
 
 /// What has become of a job taken in.
@@ -25,6 +25,8 @@ struct Entry {
     fate: Fate,
     least: u32,
     hold: u32,
+    /// The largest minute given as its earliest start, and the minute in which that was first given.
+    earliest: Option<(u32, u32)>,
 }
 
 impl Entry {
@@ -52,7 +54,8 @@ pub struct Book {
 /// How often each claim was tried: of jobs that started, of those withdrawn, of heads and of sums of nodes after a call; of these, how
 /// often nodes of jobs that had ended stood in the sum, and how often it was all of the machine's by them; how often a house had all of its
 /// places live, and how often by jobs that had ended; of early ends of jobs with a least, and of these, in the first minute in which it is
-/// reached.
+/// reached; of earliest starts given, and of these, larger ones than before; of jobs that started and had been given one, and of these, in
+/// that very minute, given before it came.
 #[derive(Default, Clone, Copy)]
 pub struct Tried {
     pub promises: u64,
@@ -67,6 +70,10 @@ pub struct Tried {
     pub houses_full_in_cleanup: u64,
     pub leasts: u64,
     pub ends_at_the_least: u64,
+    pub earliest_given: u64,
+    pub earliest_risen: u64,
+    pub earliest_kept: u64,
+    pub starts_at_the_earliest: u64,
 }
 
 impl Tried {
@@ -83,6 +90,10 @@ impl Tried {
         self.houses_full_in_cleanup += other.houses_full_in_cleanup;
         self.leasts += other.leasts;
         self.ends_at_the_least += other.ends_at_the_least;
+        self.earliest_given += other.earliest_given;
+        self.earliest_risen += other.earliest_risen;
+        self.earliest_kept += other.earliest_kept;
+        self.starts_at_the_earliest += other.starts_at_the_earliest;
     }
 }
 
@@ -127,7 +138,7 @@ impl Book {
                 let rank = self.waiting().count() as u32 + 1;
                 let bound = self.clock + rank * (LONGEST_ESTIMATE + self.cleanup);
                 let (promise, hold) = (answer.promise, held(estimate));
-                let entry = Entry { nodes, house, promise, bound, forecast: None, fate: Fate::Waiting, least, hold };
+                let entry = Entry { nodes, house, promise, bound, forecast: None, fate: Fate::Waiting, least, hold, earliest: None };
                 claim!(self.entries.insert(answer.ticket, entry).is_none(), "ticket {} is given twice", answer.ticket);
             }
             Call::Tick => self.clock += 1,
@@ -165,6 +176,11 @@ impl Book {
                 Kind::Loose => self.tried.bounds += 1,
             }
             self.tried.forecasts += u64::from(entry.forecast.is_some());
+            if let Some((earliest, given)) = entry.earliest {
+                claim!(self.clock >= earliest, "{ticket} starts before its earliest start {earliest}");
+                self.tried.earliest_kept += 1;
+                self.tried.starts_at_the_earliest += u64::from(given < earliest && earliest == self.clock);
+            }
         }
         self.forecast(answer)?;
         self.overdue()?;
@@ -210,6 +226,31 @@ impl Book {
         }
         entry.fate = Fate::Withdrawn(self.clock);
         self.tried.withdrawn += 1;
+        Ok(())
+    }
+
+    /// Of every job that waits and of no other an earliest start is given, now or later, and no later than by when it starts. While it
+    /// waits, that never falls.
+    pub fn earliest_start(&mut self, ticket: u32, answer: Earliest) -> Result<(), String> {
+        let Earliest { refusal, minute } = answer;
+        let waiting = self.entries.get_mut(&ticket).filter(|e| e.fate == Fate::Waiting);
+        if refusal != 0 {
+            claim!(minute == 0, "a refusal gives more than its number");
+            claim!(waiting.is_none(), "{ticket} waits and its earliest start is refused");
+            return Ok(());
+        }
+        let entry = waiting.ok_or_else(|| format!("{ticket} has an earliest start and does not wait"))?;
+        claim!(minute >= self.clock, "the earliest start {minute} of {ticket} is past");
+        for (what, deadline) in entry.deadlines(self.kind) {
+            claim!(minute <= deadline, "the earliest start {minute} of {ticket} is after its {what} {deadline}");
+        }
+        let before = entry.earliest.map_or(0, |(earliest, _)| earliest);
+        claim!(minute >= before, "the earliest start {minute} of {ticket} was {before}");
+        if entry.earliest.is_none() || minute > before {
+            self.tried.earliest_risen += u64::from(entry.earliest.is_some());
+            entry.earliest = Some((minute, self.clock));
+        }
+        self.tried.earliest_given += 1;
         Ok(())
     }
 
@@ -360,4 +401,49 @@ pub fn finds_broken_claims() {
         early(7).iter().for_each(|(call, answer)| book.enter(call, answer).unwrap());
     }
     broken(Kind::Promise, vec![from(21)], "a job of 21 to 20 minutes is taken in");
+
+    // Job 1 waits and is to start by 9. It starts one minute before the earliest start given of it, and in that minute.
+    let waiting = |kind| {
+        let mut book = Book::new(kind, 10, 0, [63, 1], 0);
+        let (call, answer) = if kind == Kind::Promise { promised(9) } else { waits(9) };
+        book.enter(&call, &answer).unwrap();
+        book
+    };
+    let given = |minute| Earliest { refusal: 0, minute };
+    let refused = Earliest { refusal: 11, minute: 0 };
+    let started_after = |kind, minutes: usize, earliest| {
+        let mut book = waiting(kind);
+        book.earliest_start(1, given(earliest)).unwrap();
+        for (call, answer) in std::iter::repeat_with(nothing).take(minutes - 1) {
+            book.enter(&call, &answer).unwrap();
+        }
+        let (call, answer) = starts();
+        book.enter(&call, &answer).map(|()| book)
+    };
+    let finds = |found: Result<(), String>, claim: &str| {
+        let found = found.expect_err(claim);
+        assert!(found.contains(claim), "{claim}: {found}");
+    };
+    for kind in [Kind::Promise, Kind::Loose] {
+        finds(started_after(kind, 1, 6).map(|_| ()), "1 starts before its earliest start 6");
+        finds(started_after(kind, 5, 6).map(|_| ()), "1 starts before its earliest start 6");
+        let mut book = started_after(kind, 6, 6).unwrap();
+        assert_eq!(book.tried.starts_at_the_earliest, 1);
+        book.earliest_start(1, refused).unwrap();
+        finds(book.earliest_start(1, given(6)), "1 has an earliest start and does not wait");
+        finds(book.earliest_start(2, given(6)), "2 has an earliest start and does not wait");
+        finds(book.earliest_start(1, Earliest { refusal: 11, minute: 6 }), "a refusal gives more than its number");
+        finds(waiting(kind).earliest_start(1, refused), "1 waits and its earliest start is refused");
+        let mut book = waiting(kind);
+        book.earliest_start(1, given(3)).unwrap();
+        book.earliest_start(1, given(3)).unwrap();
+        book.earliest_start(1, given(9)).unwrap();
+        finds(book.earliest_start(1, given(8)), "the earliest start 8 of 1 was 9");
+        let (call, answer) = nothing();
+        let mut book = waiting(kind);
+        book.enter(&call, &answer).unwrap();
+        finds(book.earliest_start(1, given(0)), "the earliest start 0 of 1 is past");
+    }
+    finds(waiting(Kind::Promise).earliest_start(1, given(10)), "the earliest start 10 of 1 is after its promise 9");
+    finds(waiting(Kind::Loose).earliest_start(1, given(10)), "the earliest start 10 of 1 is after its forecast 9");
 }

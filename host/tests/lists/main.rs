@@ -1,13 +1,13 @@
-//! Random lists of calls, on the library and on a model written from document 01's words: after every call the answers, every field of the
-//! desk and of its 64 records, and the points are compared, and the guarantees are watched by the calls and their answers. The lists are the
-//! same in every run; LISTS says how many, and LIST plays one alone.
+//! Random lists of calls, on the library and on a model written from document 01's words: after every call the answers, every field of
+//! the desk and of its 64 records, the points and an earliest start are compared, and the guarantees are watched by the calls and their
+//! answers. The lists are the same in every run; LISTS says how many, and LIST plays one alone.
 
 mod book;
 mod model;
 mod random;
 
 use book::{Book, Call, Tried};
-use hingerota_host::{Answer, Desk, Kind, Opening, Order, Point, Record};
+use hingerota_host::{Answer, Desk, Earliest, Kind, Opening, Order, Point, Record};
 use model::{Job, Model, Search, State};
 use random::Random;
 use std::io::IsTerminal;
@@ -140,6 +140,9 @@ struct Count {
     profiles: u64,
     points: u64,
     waits: u64,
+    earliest_starts: u64,
+    /// Of these, those of jobs that wait and cannot start before a later minute than now.
+    earliest_starts_later: u64,
     most_live: usize,
     most_points: usize,
     /// By number, of openings and of calls.
@@ -161,6 +164,8 @@ impl Count {
         self.profiles += other.profiles;
         self.points += other.points;
         self.waits += other.waits;
+        self.earliest_starts += other.earliest_starts;
+        self.earliest_starts_later += other.earliest_starts_later;
         self.most_live = self.most_live.max(other.most_live);
         self.most_points = self.most_points.max(other.most_points);
         for (sum, n) in self.refusals.iter_mut().zip(other.refusals) {
@@ -310,9 +315,12 @@ impl Played {
         self.same_answer(Call::Tick, library, model)
     }
 
-    fn ticks(&mut self, minutes: u32) -> Result<(), String> {
+    fn ticks(&mut self, minutes: u32, random: &mut Random) -> Result<(), String> {
         self.done.push(format!("{minutes} ticks"));
-        (0..minutes).try_for_each(|_| self.tick())
+        (0..minutes).try_for_each(|_| {
+            self.tick()?;
+            self.earliest_start(some_ticket(self, State::Waiting, random))
+        })
     }
 
     /// A list of so many places, in the middle of a longer one of which no place may change but those of the points.
@@ -353,11 +361,26 @@ impl Played {
         same("refusal of the wait", self.desk.wait_refusal(minutes), refusal)?;
         self.same_desk()
     }
+
+    fn earliest_start(&mut self, ticket: u32) -> Result<(), String> {
+        self.count.earliest_starts += 1;
+        self.count.calls += 1;
+        let (refusal, minute) = match self.model.earliest_start(ticket) {
+            Ok(minute) => (0, minute),
+            Err(refusal) => (refusal, 0),
+        };
+        self.count.refusals[refusal as usize] += 1;
+        self.count.earliest_starts_later += u64::from(minute > self.model.clock);
+        let library = self.desk.earliest_start(ticket);
+        same(&format!("earliest start of {ticket}"), library, Earliest { refusal, minute })?;
+        self.same_desk()?;
+        self.book.earliest_start(ticket, library)
+    }
 }
 
-/// The ticket of a job that is to leave: mostly of one in this state, of those that run often of one that has started just now, or that is
-/// at its least or one minute before it; else of one in another, one that is over or withdrawn, or one never given.
-fn leaver(played: &Played, state: State, random: &mut Random) -> u32 {
+/// The ticket of a call: mostly of a job in this state, of those that run often of one that has started just now, or that is at its least
+/// or one minute before it; else of one in another, one that is over or withdrawn, or one never given.
+fn some_ticket(played: &Played, state: State, random: &mut Random) -> u32 {
     let tickets = |test: &dyn Fn(&Job) -> bool| -> Vec<u32> { played.model.jobs.iter().filter(|j| test(j)).map(|j| j.ticket).collect() };
     let (live, wanted, in_cleanup) = (tickets(&|_| true), tickets(&|j| j.state == state), tickets(&|j| j.state == State::Cleanup));
     let clock = played.model.clock;
@@ -412,10 +435,10 @@ fn step(plan: &Plan, played: &mut Played, random: &mut Random) -> Result<(), Str
         };
         played.submit(Order { nodes, estimate, tenant, least })
     } else if roll < plan.submissions + plan.completions {
-        let ticket = leaver(played, State::Running, random);
+        let ticket = some_ticket(played, State::Running, random);
         played.complete(ticket)
     } else if roll < plan.submissions + plan.completions + plan.withdrawals {
-        let ticket = leaver(played, State::Waiting, random);
+        let ticket = some_ticket(played, State::Waiting, random);
         played.cancel(ticket)
     } else if roll < plan.submissions + plan.completions + plan.withdrawals + plan.profiles {
         let points = played.model.profile(usize::MAX).unwrap().len();
@@ -451,7 +474,7 @@ fn step(plan: &Plan, played: &mut Played, random: &mut Random) -> Result<(), Str
             _ if next <= 60 || random.percent(3) => next,
             _ => 3,
         };
-        played.ticks(minutes)
+        played.ticks(minutes, random)
     }
 }
 
@@ -463,7 +486,8 @@ fn play(list: u64) -> Result<Count, String> {
         played.model.search = Search::EveryMinute;
     }
     for _ in 0..plan.calls {
-        step(&plan, &mut played, random).map_err(|e| format!("list {list}: {}\n{e}", played.done.join(", ")))?;
+        let done = step(&plan, &mut played, random).and_then(|()| played.earliest_start(some_ticket(&played, State::Waiting, random)));
+        done.map_err(|e| format!("list {list}: {}\n{e}", played.done.join(", ")))?;
     }
     played.count.tried = played.book.tried;
     Ok(played.count)
@@ -512,9 +536,14 @@ fn main() {
     let all = all.into_inner().unwrap();
     let Tried { promises, bounds, forecasts, withdrawn, heads, sums, sums_in_cleanup, full_in_cleanup, .. } = all.tried;
     let Tried { houses_full, houses_full_in_cleanup, leasts, ends_at_the_least, .. } = all.tried;
+    let Tried { earliest_given, earliest_risen, earliest_kept, starts_at_the_earliest, .. } = all.tried;
     println!(
         "{} lists, {} calls: {} submissions, {} completions, {} withdrawals, {} ticks, {} profiles with {} points, {} waits judged",
         all.lists, all.calls, all.submissions, all.completions, all.withdrawals, all.ticks, all.profiles, all.points, all.waits
+    );
+    println!(
+        "and {} earliest starts asked for: {earliest_given} given, {} of these later than now, {earliest_risen} larger than before",
+        all.earliest_starts, all.earliest_starts_later
     );
     println!(
         "{} completions in the minute of the start, {} of jobs in cleanup, refused",
@@ -532,5 +561,8 @@ fn main() {
         "{heads} heads with a forecast, {sums} sums of nodes, {sums_in_cleanup} with jobs in cleanup, {full_in_cleanup} of these full"
     );
     println!("{houses_full} times a house had all of its places live, {houses_full_in_cleanup} of these with jobs in cleanup");
+    println!(
+        "{earliest_kept} jobs started no earlier than given, {starts_at_the_earliest} of these in the minute given, which was to come"
+    );
     println!("library and model agree ({:.1} s)", began.elapsed().as_secs_f64());
 }

@@ -282,6 +282,29 @@ impl Model {
         0
     }
 
+    /// Document 02, No. 7: "For a waiting ticket (11 if it is not) the desk also gives a soonest minute: the smallest, now or later, at
+    /// which its nodes would be free if every running stack ended at its least, or now if that is past, followed by clearing, and no
+    /// waiting one were there."
+    pub fn earliest_start(&self, ticket: u32) -> Result<u32, u32> {
+        let Some(job) = self.jobs.iter().find(|j| j.waits() && j.ticket == ticket) else {
+            return Err(11);
+        };
+        let mut holds = Vec::new();
+        for j in &self.jobs {
+            match j.state {
+                State::Running => holds.push((self.clock.max(j.start + j.least) + self.cleanup, j.nodes)),
+                State::Cleanup => holds.push((self.freed(j), j.nodes)),
+                State::Waiting => {}
+            }
+        }
+        let taken = |t: u32| holds.iter().filter(|(freed, _)| *freed > t).map(|(_, nodes)| nodes).sum::<u32>();
+        let mut minute = self.clock;
+        while self.nodes - taken(minute) < job.nodes {
+            minute += 1;
+        }
+        Ok(minute)
+    }
+
     // The Promise Desk.
 
     /// "Free nodes at minute t are the rack's, less those of running stacks whose end is after t, less those of waiting stacks with

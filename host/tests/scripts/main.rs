@@ -123,7 +123,17 @@ fn arguments() {
     let of = |arguments| Ended::of(rack(arguments).stdin(Stdio::null()).stdout(Stdio::piped()));
     let help = of(&["--help"]);
     assert_eq!((help.status, help.error.as_str()), (Some(0), ""));
-    for word in ["usage:", "desk", "CLEANUP A B", "in NODES [LEAST] MOST HOUSE", "end TICKET", "drop TICKET", "wait MINUTES", "profile"] {
+    for word in [
+        "usage:",
+        "desk",
+        "CLEANUP A B",
+        "in NODES [LEAST] MOST HOUSE",
+        "end TICKET",
+        "drop TICKET",
+        "wait MINUTES",
+        "profile",
+        "soonest TICKET",
+    ] {
         assert!(help.output.contains(word), "{word}");
     }
     for wrong in [&["-h"][..], &["script"], &["--help", "--help"], &[""]] {

@@ -1,6 +1,6 @@
 //! What a line prints.
 
-use hingerota_host::{Answer, Desk, Kind, Point};
+use hingerota_host::{Answer, Desk, Earliest, Kind, Point};
 
 /// Why a line is refused, by its number.
 #[derive(Clone, Copy, PartialEq, Eq, Debug)]
@@ -64,5 +64,11 @@ impl Page {
         for point in points {
             self.row("free", point.minute, point.free);
         }
+    }
+
+    pub fn earliest_start(&mut self, ticket: u32, earliest: &Earliest) -> Done {
+        taken(earliest.refusal)?;
+        self.row("soonest", ticket, earliest.minute);
+        Ok(())
     }
 }

@@ -67,6 +67,14 @@ const WORDS: &[Word] = &[
             Ok(())
         },
     },
+    Word {
+        form: "soonest TICKET",
+        does: "of a waiting job: prints soonest TICKET MINUTE, before which it never starts",
+        play: |rack, fields, page| {
+            let [ticket] = numbers(fields)?;
+            page.earliest_start(ticket, &rack.desk.earliest_start(ticket))
+        },
+    },
 ];
 
 /// Nodes, least and most. Document 02, No. 7: "An order with one number has least 0."

@@ -1,0 +1,87 @@
+-- The machine in which each run is over at its least, or now if that is past: what it holds, and when that is free.
+-- Assumes nothing.
+use Prim.Native.Nat.{ℕ, _+_, _≤_, max}
+use native.Mathlib.Omega.{arith}
+use mathlib.Core.Path.{_≡_, sym, ap, _∙_}
+use mathlib.Core.Bool.{true, false}
+use lib.ListN.{length-map}
+use Rattle.lists.specs.Tests.{case, true-false}
+use Rattle.lists.specs.Lists.{In, map-in, sum-map, sum-cong}
+use Rattle.scheduler.specs.declared.Job.{Job}
+use Rattle.scheduler.specs.declared.Settings.{Settings}
+use Rattle.scheduler.specs.Jobs.{isRunning, isCleaning, isHolding, held}
+use Rattle.scheduler.specs.Settings.{cleanup, unit, until}
+use Rattle.scheduler.specs.Times.{run-from, hold-is, hold-unit, cleanup-unit, until-cleaning, until-cleaned}
+use Rattle.scheduler.specs.Table.{nodesHeld}
+use Rattle.scheduler.specs.Model.{Model}
+use Rattle.jobs.specs.Soundness.{SoundJob, Sound, running-holds, running-clean, holds-short}
+use Rattle.easy_rules.specs.Easy.{avail}
+use Rattle.easy_rules.specs.EarliestStart.{overAtLeast, atLeast, earliestFor}
+use Rattle.easy_laws.specs.Settling.{shadow-from, shadow-min, Releasing}
+
+-- it holds its nodes still
+module _ (now : ℕ) (j : Job) where
+  pub over-holding : isHolding (overAtLeast now j) ≡ isHolding j
+  over-holding = case (isRunning j) (λ r. rw (r, running-holds (j .state) r)) (λ r. rw r)
+
+  pub over-nodes : overAtLeast now j .nodes ≡ j .nodes
+  over-nodes = case (isRunning j) (λ r. rw r) (λ r. rw r)
+
+  pub over-held : held (overAtLeast now j) ≡ held j
+  over-held = rw (over-holding, over-nodes)
+
+-- who does not run is as it was
+pub over-same : (now : ℕ) (j : Job) → isRunning j ≡ false → overAtLeast now j ≡ j
+over-same now j r = rw r
+
+-- one that runs gives them back after its least or now, and cleanup; one in cleanup as before
+module _ (S : Settings) (now : ℕ) (j : Job) where
+  pub until-over : isRunning j ≡ true → until S (overAtLeast now j) ≡ max now (j .start + j .least) + cleanup S
+  until-over r = rw r (until-cleaned S (max now (j .start + j .least)) j)
+
+  pub until-cleared : isCleaning j ≡ true → until S (overAtLeast now j) ≡ j .end + cleanup S
+  until-cleared c =
+      ap (until S) (over-same now j (case (isRunning j) (λ r. true-false (isCleaning j) c (running-clean (j .state) r)) (λ r. r)))
+      ∙ until-cleaning S j c
+
+-- now or later, and within a unit
+over-soon : (S : Settings) (now : ℕ) (j : Job) → SoundJob S now j → isHolding j ≡ true
+    → (now ≤ until S (overAtLeast now j)) × (until S (overAtLeast now j) ≤ now + unit S)
+over-soon S now j f h =
+    case (isRunning j)
+    (λ r. omega (
+      arith,
+      until-over S now j r,
+      f .holds h,
+      f .least-to,
+      run-from S (j .estimate) (f .estimate-to),
+      hold-is S (j .estimate),
+      hold-unit S (j .estimate) (f .estimate-to),
+      cleanup-unit S,
+    ))
+    (λ r. omega (arith, ap (until S) (over-same now j r), f .holds h, holds-short S now j f h))
+
+-- where the nodes would be there now, it is now
+pub earliest-now : (m : Model) (n : ℕ) → n ≤ avail (atLeast m) (m .clock) → m .clock ≡ earliestFor m n
+earliest-now m n l = omega (arith, shadow-from (atLeast m) n, shadow-min (atLeast m) n (m .clock) l (omega arith))
+
+module _ (m : Model) (s : Sound m) where
+  pub least-held : nodesHeld (atLeast m .jobs) ≡ nodesHeld (m .jobs)
+  least-held =
+      sum-map held (overAtLeast (m .clock)) (m .jobs)
+      ∙ sum-cong (λ (j : Job). held (overAtLeast (m .clock) j)) held (m .jobs) (λ j i. over-held (m .clock) j)
+
+  pub least-releasing : Releasing (atLeast m)
+  least-releasing = record {
+    few = omega (arith, s .few, length-map (m .jobs) (overAtLeast (m .clock)));
+    nodes-to = s .nodes-to;
+    capacity = omega (arith, least-held, s .capacity);
+    later = λ j i h. each j i h .0;
+    soon = λ j i h. each j i h .1;
+  }
+    where
+      each : (j : Job) → In j (atLeast m .jobs) → isHolding j ≡ true → (m .clock ≤ until (m .settings) j) × (until (m .settings) j ≤ m .clock + unit (m .settings))
+      each j i h =
+          let k = map-in (overAtLeast (m .clock)) (m .jobs) i in
+          rw (k .2) (over-soon (m .settings) (m .clock) (k .0) (s .each (k .0) (k .1))
+          (sym (over-holding (m .clock) (k .0)) ∙ sym (ap isHolding (k .2)) ∙ h))
