@@ -35,7 +35,7 @@ use Rattle.easy_rules.specs.EarliestStart.{overAtLeast, atLeast, earliestFor, e
 use Rattle.easy_laws.specs.EarliestStart.{over-holding, over-nodes, least-held, least-releasing, earliest-now}
 use Rattle.easy_engine.specs.Survey.{Column, nodesOf, running, Holding, Held, Lacks}
 use Rattle.easy_engine.specs.Columns.{column-push}
-use Rattle.easy_engine.specs.SurveyLoop.{sum-first, sum-within, sum-those}
+use Rattle.easy_engine.specs.SurveyLoop.{sum-first, sum-those, slot-fits}
 
 -- the nodes of a job found; 0 where there is none
 abbrev pub nodesIn : Option Job → ℕ
@@ -98,11 +98,7 @@ module _ {d : Scheduler} {heldₗ ends : List ℕ} {r spare : ℕ} (h : Holds So
   -- it holds some
   module _ (e : isHolding x ≡ true) where
     pub room-for : x .nodes ≤ spare
-    unfolding view
-    room-for =
-        let z : held x ≡ x .nodes = rw e in
-        let a : nodesHeld xs ≡ nodesHeld (view d .jobs) = ap nodesHeld (slots-are d h) ∙ nodesHeld-stored (view d) in
-        omega (arith, v .spare-is, sum-first held xs i inside, sum-within held xs (i + 1), h .holds .capacity)
+    room-for = slot-fits d h i spare inside e (v .spare-is)
 
     pub holds-next : (n t : ℕ) → n ≡ x .nodes → t ≡ until (d .settings) (overAtLeast (d .clock) x)
         → Passed d (take (i + 1) xs) (set heldₗ r n) (set ends r t) (r + 1) (spare - n)

@@ -44,7 +44,7 @@ blank = refl
 pub sum-first : (f : Job → ℕ) (xs : List Job) (i : ℕ) → i < length xs → sum f (take (i + 1) xs) ≡ sum f (take i xs) + f (getD xs i unused)
 sum-first f xs i l = rw (add-one, take-suc xs i unused l) (omega (arith, sum-append f (take i xs) (getD xs i unused ∷ [])))
 
-pub sum-within : (f : Job → ℕ) (xs : List Job) (i : ℕ) → sum f (take i xs) ≤ sum f xs
+sum-within : (f : Job → ℕ) (xs : List Job) (i : ℕ) → sum f (take i xs) ≤ sum f xs
 sum-within f xs zero = omega arith
 sum-within f [] (suc i) = omega arith
 sum-within f (x ∷ xs) (suc i) = omega (arith, sum-within f xs i)
@@ -52,6 +52,16 @@ sum-within f (x ∷ xs) (suc i) = omega (arith, sum-within f xs i)
 pub sum-those : (f : Job → ℕ) (p : Job → Bool) (xs : List Job) → sum f (keep p xs) ≡ sum (λ (j : Job). on (p j) (f j)) xs
 sum-those f p [] = refl
 sum-those f p (x ∷ xs) = case (p x) (λ e. rw e (omega (arith, sum-those f p xs))) (λ e. rw e (omega (arith, sum-those f p xs)))
+
+-- who holds nodes after the first slots fits what these leave
+pub slot-fits : (d : Scheduler) → Holds Sound d → (i spare : ℕ) → i < length (d .jobs) → isHolding (getD (d .jobs) i unused) ≡ true
+    → spare + nodesHeld (take i (d .jobs)) ≡ d .settings .nodes → getD (d .jobs) i unused .nodes ≤ spare
+unfolding view
+slot-fits d h i spare l e s =
+    let xs = d .jobs in
+    let z : held (getD xs i unused) ≡ getD xs i unused .nodes = rw e in
+    let a : nodesHeld xs ≡ nodesHeld (view d .jobs) = ap nodesHeld (slots-are d h) ∙ nodesHeld-stored (view d) in
+    omega (arith, sum-first held xs i l, sum-within held xs (i + 1), h .holds .capacity)
 
 -- ## One slot more
 
@@ -117,11 +127,7 @@ module _ {d : Scheduler} {r w spare : ℕ} {heldₗ starts terms asked estimates
   -- it holds nodes
   module _ (h : Holds Sound d) (e : isHolding x ≡ true) (f : isWaiting x ≡ false) where
     pub room-for : x .nodes ≤ spare
-    unfolding view
-    room-for =
-        let z : held x ≡ x .nodes = rw e in
-        let a : nodesHeld xs ≡ nodesHeld (view d .jobs) = ap nodesHeld (slots-are d h) ∙ nodesHeld-stored (view d) in
-        omega (arith, v .spare-is, sum-first held xs i inside, sum-within held xs (i + 1), h .holds .capacity)
+    room-for = slot-fits d h i spare inside e (v .spare-is)
 
     holds-next : (from term : ℕ) → from ≡ fromOf x → term ≡ termOf x
         → Passed d (take (i + 1) xs) (r + 1) w (spare - x .nodes) (set heldₗ r (x .nodes)) (set starts r from) (set terms r term) asked estimates tickets places

@@ -80,7 +80,8 @@ module _ (m : Model) (s : Sound m) where
     soon = λ j i h. each j i h .1;
   }
     where
-      each : (j : Job) → In j (atLeast m .jobs) → isHolding j ≡ true → (m .clock ≤ until (m .settings) j) × (until (m .settings) j ≤ m .clock + unit (m .settings))
+      each : (j : Job) → In j (atLeast m .jobs) → isHolding j ≡ true
+          → (m .clock ≤ until (m .settings) j) × (until (m .settings) j ≤ m .clock + unit (m .settings))
       each j i h =
           let k = map-in (overAtLeast (m .clock)) (m .jobs) i in
           rw (k .2) (over-soon (m .settings) (m .clock) (k .0) (s .each (k .0) (k .1))

@@ -197,7 +197,8 @@ module _ {κ : Kind} {Fit : Model → Type 0} {OnCourse : Model → ℕ → ℕ 
       starts-later : fate ≡ running (m′ .clock) → earliestFor m n ≤ m′ .clock
       starts-later e =
           let f = found (running (m′ .clock)) e refl in
-          let own : on (eqb (f .job .ticket) t) (held (f .job)) ≡ n = rw (eq-eqb (f .job .ticket) t (f .named), runs (f .job .state) (f .job .start) (f .job .end) (f .fate-is ∙ e)) (f .asks) in
+          let runs-now = runs (f .job .state) (f .job .start) (f .job .end) (f .fate-is ∙ e) in
+          let own : on (eqb (f .job .ticket) t) (held (f .job)) ≡ n = rw (eq-eqb (f .job .ticket) t (f .named), runs-now) (f .asks) in
           shadow-min (atLeast m) n (m′ .clock)
           (omega (
             arith,
@@ -273,7 +274,8 @@ module _ {κ : Kind} {Fit : Model → Type 0} {OnCourse : Model → ℕ → ℕ 
         subst (λ (x : ℕ). Meets (from b) (NoSooner n b) (after R (R m c .model) cs) t
         (fateFrom p x t (fateAfter p x (said R m c) t f) (events R (R m c .model) cs))) (L .clock m c v)
         (subst (λ (q : ℕ). Meets (from b) (NoSooner n b) (after R (R m c .model) cs) t
-        (fateFrom q (R m c .model .clock) t (fateAfter p (R m c .model .clock) (said R m c) t f) (events R (R m c .model) cs))) (ap cleanup (L .settings m c v)) h)
+        (fateFrom q (R m c .model .clock) t (fateAfter p (R m c .model .clock) (said R m c) t f) (events R (R m c .model) cs)))
+        (ap cleanup (L .settings m c v)) h)
 
     no-sooner : (n : ℕ) (m : Model) (t s : ℕ) (cs : List Call) → Fit m → WaitsFor m t n
         → start (fateFrom (cleanup (m .settings)) (m .clock) t waiting (events (rulesOf κ) m cs)) ≡ some s → earliestFor m n ≤ s
@@ -291,7 +293,8 @@ module _ {κ : Kind} {Fit : Model → Type 0} {OnCourse : Model → ℕ → ℕ 
     no-sooner-call : (n : ℕ) (m : Model) (t s : ℕ) (cs : List Call) → Fit m → WaitsFor m t n
         → start (fateFrom (cleanup (m .settings)) (m .clock) t waiting (events call m cs)) ≡ some s → earliestFor m n ≤ s
     no-sooner-call n m t s cs v w e =
-        no-sooner n m t s cs v w (subst (λ (es : List Event). start (fateFrom (cleanup (m .settings)) (m .clock) t waiting es) ≡ some s) (same-events L m cs v) e)
+        no-sooner n m t s cs v w
+        (subst (λ (es : List Event). start (fateFrom (cleanup (m .settings)) (m .clock) t waiting es) ≡ some s) (same-events L m cs v) e)
 
 -- ## For the reader
 

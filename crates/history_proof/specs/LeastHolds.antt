@@ -118,7 +118,8 @@ module _ {k : Kind} {R : Rules} {Valid : Model → Type 0} {OnCourse : Model →
       by (inl a) =
           let j = map-in shown (m .jobs) a in
           let r = T .ends m c (x .ticket) v q in
-          let same = asc-one 1 (m .jobs) (j .0) (r .job) (T .sound m v .asc) (j .1) (r .inside) (sym (ap (λ (y : JobShown). y .ticket) (j .2)) ∙ sym (r .named)) in
+          let ticket = sym (ap (λ (y : JobShown). y .ticket) (j .2)) ∙ sym (r .named) in
+          let same = asc-one 1 (m .jobs) (j .0) (r .job) (T .sound m v .asc) (j .1) (r .inside) ticket in
           let begin = running-start (j .0 .state) (j .0 .start) (j .0 .end) s (sym (ap (λ (y : JobShown). y .fate) (j .2)) ∙ f) in
           omega (
             arith,

@@ -43,7 +43,8 @@ returns-2 : tie.Need-returns-2 Inv-loop μ-loop
 returns-2 c =
     let o = c .before .loop in
     let s = c .before .before in
-    ap nodesIn (sym (first-end (departsAs Cancel (s .args .ticket)) (s .args .t1 .jobs) unused (o .i) (omega (arith, whole (s .args .t1) (s .good .0)))) ∙ o .inv .1)
+    let l = whole (s .args .t1) (s .good .0) in
+    ap nodesIn (sym (first-end (departsAs Cancel (s .args .ticket)) (s .args .t1 .jobs) unused (o .i) (omega arith)) ∙ o .inv .1)
 
 pub asked-by-spec : {M : Type 1} → statement M
 asked-by-spec =

@@ -20,7 +20,8 @@ returns : tie.Need-returns
 returns c =
     let w = c .before .before in
     let s = w .before .before in
-    omega (arith, c .before .cleanup .ensures, until-cleared (s .args .settings) (s .args .now) (s .args .job) (sym (w .before .is-cleaning .ensures) ∙ w .if1 .taken))
+    let e = sym (w .before .is-cleaning .ensures) ∙ w .if1 .taken in
+    omega (arith, c .before .cleanup .ensures, until-cleared (s .args .settings) (s .args .now) (s .args .job) e)
 
 add-result-2 : tie.Need-add-result-2
 add-result-2 c =
