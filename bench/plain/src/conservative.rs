@@ -151,7 +151,6 @@ impl Conservative {
         if until > HORIZON {
             return Err(Refusal::Horizon);
         }
-        // No test for refusal 8: 64 jobs have at most 1 + 2 * 64 = 129 points.
         self.profile.reserve(start, until, nodes);
         let ticket = self.next;
         self.next += 1;

@@ -1,1 +1,3 @@
+pub mod ListCall
 pub mod ProfileCall
+pub mod IndexCall

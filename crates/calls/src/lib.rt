@@ -5,12 +5,15 @@ ghost use Prim.Native.Nat.{_<_};
 ghost use Rattle.scheduler.specs.Model.{view};
 ghost use Rattle.scheduler.specs.Answers.{outcome};
 ghost use Rattle.scheduler.specs.Refusals.{waitRefusal};
+ghost use Rattle.conservative_index.specs.StoredIndex.{blockPlaces};
 ghost use Rattle.conservative_profile.specs.StoredProfile.{places};
 ghost use Rattle.history.specs.Calls as calls;
 ghost use Rattle.easy_rules.specs.EarliestStart.{earliestStart};
 ghost use Rattle.guarantees.specs.Rules.{call};
 ghost use Rattle.guarantees.specs.Premise.{Premise};
 ghost use Rattle.calls.specs.ProfileCall.{showing, showIn, profileOutcome, pointAt};
+ghost use Rattle.calls.specs.IndexCall.{indexing, indexIn, indexOutcome, blockAt};
+use conservative_index::Blocks;
 use conservative_profile::Profile;
 use scheduler::Departure;
 use scheduler::Earliest;
@@ -20,6 +23,7 @@ use scheduler::Refusal;
 use scheduler::Request;
 use scheduler::Scheduler;
 use scheduler::Submission;
+use spans::Block;
 use spans::Point;
 
 // What is asked, by the kind's rules.
@@ -137,6 +141,72 @@ pub fn point_at(p: ProfileOutcome, i: usize) -> Point
     ensures { λ r. ⌜ r ≡ pointAt p i ⌝ }
 {
     p.points[i]
+}
+
+// What a call for the index gives, before it is written: how many blocks there are to write, the answer, and the blocks. The places past the
+// count are all zero.
+pub struct IndexOutcome {
+    pub count: usize,
+    pub answer: Shown,
+    pub blocks: [Block; 9],
+}
+
+// No block is to be written.
+fn no_blocks(refusal: Refusal) -> IndexOutcome
+    ensures { λ r. ⌜ r ≡ indexing refusal [] ⌝ }
+{
+    let nothing = Block { fewest: 0, most: 0 };
+    let blocks = [nothing; 9];
+    let answer = Shown {
+        refusal: refusal,
+        count: 0,
+    };
+    IndexOutcome {
+        count: 0,
+        answer: answer,
+        blocks: blocks,
+    }
+}
+
+// All the blocks of the index, or a refusal where there is no room for them.
+fn show_blocks(p: Blocks, room: usize) -> IndexOutcome
+    ensures { λ r. ⌜ r ≡ indexIn p room ⌝ }
+{
+    let n = p.count;
+    if room < n {
+        return no_blocks(Refusal::TooShort);
+    }
+    let blocks = p.list;
+    let answer = Shown {
+        refusal: Refusal::None,
+        count: n,
+    };
+    IndexOutcome {
+        count: n,
+        answer: answer,
+        blocks: blocks,
+    }
+}
+
+// The index of the profile (document 02, No. 5), for a list of `room` blocks. EASY has none to write.
+pub fn index(d: Scheduler, room: usize) -> IndexOutcome
+    requires { ⌜ Premise d ⌝ }
+    ensures { λ r. ⌜ r ≡ indexOutcome (view d) room ⌝ }
+{
+    let settings = d.settings;
+    let kind = settings.kind;
+    match kind {
+        Kind::Conservative => show_blocks(conservative_plan::index_of(d), room),
+        Kind::Easy => no_blocks(Refusal::None),
+    }
+}
+
+// The block in a place.
+pub fn block_at(p: IndexOutcome, i: usize) -> Block
+    requires { ⌜ i < blockPlaces ⌝ }
+    ensures { λ r. ⌜ r ≡ blockAt p i ⌝ }
+{
+    p.blocks[i]
 }
 
 // The minute before which the waiting job with this ticket cannot start (document 02, No. 7: "soonest minute"), on either kind.

@@ -79,6 +79,7 @@ advancedBy p after = record {
     refusal = p .refusal;
     ticket = 0;
     promise = 0;
+    reads = 0;
     ended = p .ended;
     started = tickets (begun (p .scheduler .jobs) (after .jobs));
     head = 0;
@@ -103,7 +104,7 @@ pub refused-stored : (m : Model) (r : Refusal) → advancedBy (part (refusedOwn 
 unfolding advancedBy
 refused-stored m r =
     ap (λ (ts : List ℕ). outcome
-    (record { reply = record { refusal = r; ticket = 0; promise = 0; ended = []; started = ts; head = none }; model = m })) (begun-self (store m .jobs))
+    (record { reply = record { refusal = r; ticket = 0; promise = 0; reads = 0; ended = []; started = ts; head = none }; model = m })) (begun-self (store m .jobs))
 
 pub advanced-stored : (m : Model) (clock : ℕ) (s : Select) (w : ℕ) (ks : List Job) → length (without m clock s .jobs) ≡ length ks
     → advancedBy (part (leaving m clock s w)) (store (withModelJobs (without m clock s) ks)) ≡ outcome (advanced m clock s ks)
@@ -113,6 +114,7 @@ advanced-stored m clock s w ks e = λ i. record {
     refusal = refusal.None;
     ticket = 0;
     promise = 0;
+    reads = 0;
     ended = tickets (endedOf s (m .jobs));
     started = tickets (begun-stored (without m clock s) ks e i);
     head = 0;

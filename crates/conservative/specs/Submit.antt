@@ -2,14 +2,12 @@
 -- Assumes nothing.
 use mathlib.Core.Path.{_≡_, refl, sym, ap, _∙_}
 use mathlib.Core.Bool.{Bool, true, false, cond}
-use mathlib.Core.List.{List, [], _∷_}
+use mathlib.Core.List.{[], _∷_}
 use Prim.Native.Nat.{ℕ, _+_, _-_, _≤_, _<_}
 use native.Mathlib.Omega.{arith}
 use lib.Dec.{eqb, ltb}
 use lib.ListN.{length, set}
 use borrow.Author.Tests.{lt-ltb, le-ltb}
-use Rattle.lists.specs.Lists.{All, In, here, there}
-use Rattle.scheduler.specs.declared.Job.{Job}
 use Rattle.scheduler.specs.declared.Submission.{Submission}
 use Rattle.scheduler.specs.declared.State.the-variants.{Waiting}
 use Rattle.scheduler.specs.declared.Refusal.the-variants as refusal
@@ -17,32 +15,30 @@ use Rattle.scheduler.specs.declared.Scheduler.{Scheduler}
 use Rattle.scheduler.specs.declared.Outcome.{Outcome}
 use Rattle.scheduler.specs.Limits.{maxNodes, longestEstimate, lastTicket}
 use Rattle.scheduler.specs.Jobs.{fresh}
-use Rattle.scheduler.specs.Settings.{horizon, slots, holdTime, until}
+use Rattle.scheduler.specs.Settings.{horizon, slots, holdTime}
 use Rattle.scheduler.specs.Times.{hold-pos, hold-le}
 use Rattle.scheduler.specs.Table.{withJobs, liveOf, tickets, oneIf}
 use Rattle.scheduler.specs.Model.{Model, view}
 use Rattle.scheduler.specs.Answers.{answer, outcome, refuse, verdict, accepts, refusedOutcome}
 use Rattle.history.specs.Calls.{submit}
-use Rattle.conservative_rules.specs.Conservative.{spans, call, newJob, placed, planned, submitRefusal, submitted}
+use Rattle.conservative_rules.specs.Conservative.{spans, call, newJob, placed, planned, submitRefusal, readsFor, submitted}
 use Rattle.lists.specs.Least.{least-to}
 use Rattle.spans.specs.Spans.{free, lastEnd, fits, earliest}
-use Rattle.spans.specs.UsedNodes.{last-le}
-use Rattle.spans.specs.declared.Span.{Span}
 use Rattle.jobs.specs.Soundness.{Sound, Fit, fit-room, submit-fit}
 use Rattle.jobs.specs.Premise.{Holds, holds-as, refused-held}
 use Rattle.job_table.specs.Parts.{refusalBy, sharedRefusal}
 use Rattle.job_table.specs.Submitting.{tests-more, withNext, enters}
 use Rattle.conservative_laws.specs.Validity.{Valid}
-use Rattle.conservative_laws.specs.Sentences.{eight-never}
-use Rattle.conservative_plan.specs.PlannedSlots.{Planned, valid-planned}
+use Rattle.conservative_plan.specs.PlannedSlots.{Planned, valid-planned, last-slots}
 use Rattle.conservative_plan.specs.EarliestStart.{startFor, Askable}
 
-unfoldable pub accepted : Scheduler → Submission → ℕ → ℕ → Outcome
-accepted d o slot s = record {
+unfoldable pub accepted : Scheduler → Submission → ℕ → (start reads : ℕ) → Outcome
+accepted d o slot s reads = record {
   answer = record {
     refusal = refusal.None;
     ticket = d .next;
     promise = s;
+    reads = reads;
     ended = tickets [];
     started = tickets (oneIf (eqb s (d .clock)) (d .next));
     head = 0;
@@ -58,8 +54,8 @@ module _ (m : Model) (o : Submission) (v : Sound m) where
   past = ltb (horizon (m .settings)) (planned m o + holdTime (m .settings) (o .estimate))
 
   refusal-is : submitRefusal m o (planned m o) ≡ cond (accepts (sharedRefusal m o)) (verdict ((past, refusal.PastHorizon) ∷ [])) (sharedRefusal m o)
-  unfolding past
-  refusal-is = eight-never m o (planned m o) v ∙ tests-more (m .settings) (liveOf (o .tenant) (m .jobs)) (m .next) o ((past, refusal.PastHorizon) ∷ [])
+  unfolding past submitRefusal
+  refusal-is = tests-more (m .settings) (liveOf (o .tenant) (m .jobs)) (m .next) o ((past, refusal.PastHorizon) ∷ [])
 
   -- refused by one of the tests that both kinds share
   pub submit-checked : accepts (sharedRefusal m o) ≡ false → call m (submit o) ≡ refuse m (sharedRefusal m o)
@@ -89,14 +85,9 @@ module _ (d : Scheduler) (o : Submission) (h : Holds Valid d) where
       omega (
         arith,
         least-to (fits (free (m .settings .nodes) xs) (o .nodes) (holdTime (m .settings) (o .estimate))) (lastEnd xs - m .clock) (m .clock),
-        last-le (horizon (m .settings)) xs (ends (m .jobs) (λ j i. h .holds .sound .each j i .ends)),
+        last-slots (m .settings) (horizon (m .settings)) (m .jobs) (λ j i. h .holds .sound .each j i .ends),
         h .holds .sound .clock-to,
       )
-    where
-      ends : (js : List Job) → ((j : Job) → In j js → until (m .settings) j ≤ horizon (m .settings))
-          → All (λ (x : Span). x .until ≤ horizon (m .settings)) (spans (m .settings) js)
-      ends [] f = tt
-      ends (j ∷ js) f = (f j (here refl), ends js (λ k i. f k (there i)))
 
   pub shared-held : (live : ℕ) → live ≡ liveOf (o .tenant) (m .jobs) → refusalBy (d .settings) live (d .next) o ≡ sharedRefusal m o
   unfolding view
@@ -134,7 +125,7 @@ module _ (d : Scheduler) (o : Submission) (h : Holds Valid d) where
     unfolding planned
     start-held = refl
 
-    accepted-held : (slot s : ℕ) → slot ≡ length (m .jobs) → accepted d o slot s ≡ outcome (submitted m o s)
+    accepted-held : (slot s : ℕ) → slot ≡ length (m .jobs) → accepted d o slot s (readsFor m o s) ≡ outcome (submitted m o s)
     unfolding accepted submitted view
     accepted-held slot s q = λ i. record {
       answer = answer (submitted m o s .reply);
@@ -143,7 +134,7 @@ module _ (d : Scheduler) (o : Submission) (h : Holds Valid d) where
     }
 
     pub taken-held : (slot : ℕ) → slot ≡ length (m .jobs) → planned m o + holdTime (m .settings) (o .estimate) ≤ horizon (m .settings)
-        → accepted d o slot (planned m o) ≡ outcome (call m (submit o))
+        → accepted d o slot (planned m o) (readsFor m o (planned m o)) ≡ outcome (call m (submit o))
     taken-held slot q l = accepted-held slot (planned m o) q ∙ ap outcome (sym (submit-taken m o (h .holds .sound) a l))
 
     pub past-held : horizon (m .settings) < planned m o + holdTime (m .settings) (o .estimate) → refusedOutcome d refusal.PastHorizon ≡ outcome (call m (submit o))

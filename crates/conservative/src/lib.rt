@@ -62,7 +62,7 @@ fn began(before: Job, after: Job) -> bool
 }
 
 // The answer of a call that has done its part on the table, after which the others stand as in `after`.
-fn advance(left: Part, after: Scheduler) -> Outcome
+pub fn advance(left: Part, after: Scheduler) -> Outcome
     ensures { λ r. ⌜ r ≡ advancedBy left after ⌝ }
 {
     let started = newly_running(left.scheduler, after);
@@ -72,6 +72,7 @@ fn advance(left: Part, after: Scheduler) -> Outcome
         refusal: refusal,
         ticket: 0,
         promise: 0,
+        reads: 0,
         ended: ended,
         started: started,
         head: 0,
@@ -97,10 +98,11 @@ pub fn depart(d: Scheduler, how: Departure, ticket: u32) -> Outcome
     advance(left, after)
 }
 
-// The outcome of a submission that is taken into the slot with the planned start: that start is its promise.
-fn accept(d: Scheduler, s: Submission, slot: usize, start: u32) -> Outcome
+// The outcome of a submission that is taken into the slot with the planned start, for which so many points were read: that start is its
+// promise.
+pub fn accept(d: Scheduler, s: Submission, slot: usize, start: u32, reads: u32) -> Outcome
     requires { ⌜ (slot < slots) × (d .next ≤ lastTicket) × (s .nodes ≤ maxNodes) × (s .estimate ≤ longestEstimate) × (s .least ≤ s .estimate) ⌝ }
-    ensures { λ r. ⌜ r ≡ accepted d s slot start ⌝ }
+    ensures { λ r. ⌜ r ≡ accepted d s slot start reads ⌝ }
 {
     let now = d.clock;
     let ticket = d.next;
@@ -115,6 +117,7 @@ fn accept(d: Scheduler, s: Submission, slot: usize, start: u32) -> Outcome
         refusal: Refusal::None,
         ticket: ticket,
         promise: start,
+        reads: reads,
         ended: none,
         started: started,
         head: 0,
@@ -137,11 +140,12 @@ pub fn submit(d: Scheduler, s: Submission) -> Outcome
     let refusal = job_table::submit_refusal(s, settings, live, d.next);
     if refusal.is_none() {
         let hold = settings.hold_time(s.estimate);
-        let start = conservative_plan::earliest(d, s.nodes, hold);
+        let found = conservative_plan::earliest(d, s.nodes, hold);
+        let start = found.minute;
         if Scheduler::HORIZON < start + hold {
             return d.refused(Refusal::PastHorizon);
         }
-        return accept(d, s, slot, start);
+        return accept(d, s, slot, start, found.reads as u32);
     }
     d.refused(refusal)
 }
@@ -187,6 +191,7 @@ fn start_due(p: Part) -> Outcome
         refusal: refusal,
         ticket: 0,
         promise: 0,
+        reads: 0,
         ended: ended,
         started: started,
         head: 0,

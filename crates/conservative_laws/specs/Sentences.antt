@@ -2,14 +2,14 @@
 -- bent along with the code.
 -- Assumes nothing.
 use mathlib.Core.Logic.{_⊎_, inl, inr}
-use Prim.Native.Nat.{ℕ, suc, _+_, _-_, _≤_, _<_}
+use Prim.Native.Nat.{ℕ, suc, _+_, _-_, _≤_}
 use native.Mathlib.Omega.{arith}
 use mathlib.Core.Path.{_≡_, refl, sym, ap, _∙_}
 use mathlib.Core.Bool.{Bool, true, false, not, _&&_, _||_, cond}
 use mathlib.Core.List.{List, [], _∷_, _++_, map, map-map}
 use lib.Dec.{leb, ltb, eqb}
-use lib.ListN.{length, length-append, length-map}
-use borrow.Author.Tests.{le-leb, le-ltb, eqb-true, ne-eqb}
+use lib.ListN.{length, length-map}
+use borrow.Author.Tests.{le-leb, eqb-true, ne-eqb}
 use Rattle.lists.specs.Tests.{case, true-false, and-right-false, on}
 use Rattle.lists.specs.Lists.{keep, any, sum, elem, In, here, there, in-left, in-map, in-keep, keep-keep, keep-cong, keep-none, keep-map, map-cong}
 use Rattle.walltime.specs.WallTime.{wallTime}
@@ -27,12 +27,11 @@ use Rattle.scheduler.specs.declared.Departure.the-variants.{Complete, Cancel}
 use Rattle.scheduler.specs.declared.Select.{Select}
 use Rattle.scheduler.specs.declared.Select.the-variants as select
 use Rattle.scheduler.specs.Limits as limit
-use Rattle.scheduler.specs.Limits.{lastTicket, outside}
 use Rattle.scheduler.specs.Tenants.{known}
 use Rattle.scheduler.specs.States.{live?, waiting?, running?, cleaning?, holding?}
 use Rattle.scheduler.specs.Jobs.{fresh, jobAt, cleaning, isWaiting, isRunning, isCleaning, departsAs}
 use Rattle.scheduler.specs.declared.Settings.{Settings}
-use Rattle.scheduler.specs.Settings.{horizon, quota, longest, cleanup, runTime, holdTime, until}
+use Rattle.scheduler.specs.Settings.{horizon, quota, cleanup, runTime, holdTime, until}
 use Rattle.scheduler.specs.Times.{cleanup-is, hold-is, end-is, until-is, until-cleaning}
 use Rattle.scheduler.specs.Table as table
 use Rattle.scheduler.specs.Table.{liveOf, ticketOf, ticketsOf, ends, staying, ceased, remaining}
@@ -41,14 +40,14 @@ use Rattle.scheduler.specs.Answers.{Result, verdict, accepts, refuse}
 use Rattle.scheduler.specs.Refusals.{judged, submitTests, departRefusal, tickRefusal}
 use Rattle.jobs.specs.Order.{Asc, asc-keep, asc-one}
 use Rattle.jobs.specs.Departing.{cancel-judged, departs-alone, left-ran, ticked-ran}
-use Rattle.jobs.specs.Soundness.{SoundJob, Sound, fit-room, submit-fit, early, waiting-clean, ceased-ticket, waits-on, remained-waits, sound-leave}
+use Rattle.jobs.specs.Soundness.{SoundJob, Sound, early, waiting-clean, ceased-ticket, waits-on, remained-waits, sound-leave}
 use Rattle.history.specs.Calls.{Call, submit, depart, complete, cancel, tick, unchanged}
 use Rattle.history.specs.News.{News, newsOf}
 use Rattle.history.specs.Tickets.{nextAfter}
 use Rattle.history_proof.specs.Obligations.{said, Ticketed}
 use Rattle.history_proof.specs.Departures.{waits-runs, queued-by, lives, Ended, unless-said}
-use Rattle.conservative_rules.specs.Conservative.{span, spans, planned, newJob, withNew, points, maxPoints, submitRefusal, submitted, begun}
-use Rattle.conservative_rules.specs.Conservative.{advanced, moved, departed, turned, ticked, profileRefusal, call}
+use Rattle.conservative_rules.specs.Conservative.{span, spans, planned, points, submitRefusal, submitted, begun}
+use Rattle.conservative_rules.specs.Conservative.{advanced, moved, departed, turned, ticked, call}
 use Rattle.conservative_rules.specs.Computed.{startOf, promiseOf}
 use Rattle.jobs.specs.Judgement.{judged-by, judged-accepted, judged-refusal, judged-refused}
 use Rattle.conservative_laws.specs.Validity.{Valid, zip-left, Follows, follows-ticket, follows-start, follows-promise, CameOut, idle}
@@ -471,6 +470,16 @@ points-are m = profile-is (m .settings .nodes) (spans (m .settings) (m .jobs)) (
 pub points-as-written : (m : Model) → Valid m → Profile (freeNodes m) (m .clock) (points m)
 points-as-written m v = profile-agrees (m .clock) (points m) (λ t h. free-as-written m t v h) (points-are m)
 
+-- Document 02, No. 5: "64 live stacks never give more than 129 points".
+pub few-points : (m : Model) → Valid m → length (points m) ≤ 129
+few-points m v =
+    omega (
+      arith,
+      profile-length (m .settings .nodes) (spans (m .settings) (m .jobs)) (m .clock),
+      length-map (m .jobs) (span (m .settings)),
+      v .sound .few,
+    )
+
 -- ## Refusals
 
 -- "A refusal gives its number, no tickets, and the desk .. unchanged": a refused call is its refusal and nothing else
@@ -480,28 +489,6 @@ refused-is m (submit o) = let s = planned m o in judged-refused m (submitRefusal
 refused-is m (depart h t) = judged-refused m (departRefusal m h t) (departed m h t) refl
 refused-is m tick = judged-refused m (tickRefusal m) (ticked m) refl
 refused-is m (unchanged w) = λ a. refl
-
--- 8 is "none known": 64 live jobs make at most 129 points, so the test that comes after the places never refuses
-few-points : (m : Model) (o : Submission) (s : ℕ) → length (m .jobs) < limit.slots → length (points (withNew m o s)) ≤ maxPoints
-few-points m o s l =
-    omega (
-      arith,
-      profile-length (m .settings .nodes) (spans (m .settings) (withNew m o s .jobs)) (m .clock),
-      length-map (withNew m o s .jobs) (span (m .settings)),
-      length-append (m .jobs) (newJob m o s ∷ []),
-    )
-
-pub eight-never : (m : Model) (o : Submission) (s : ℕ) → Sound m → submitRefusal m o s ≡ verdict
-    (submitTests m o ((ltb (horizon (m .settings)) (s + holdTime (m .settings) (o .estimate)), refusal.PastHorizon) ∷ []))
-unfolding submitRefusal verdict
-eight-never m o s v =
-    case (accepts (verdict (submitTests m o [])))
-    (λ a. rw (le-ltb maxPoints (length (points (withNew m o s))) (few-points m o s (fit-room m o v (submit-fit m o [] a .0)))))
-    (λ a. case (known (o .tenant)) (λ k. rw k (case (outside 1 (m .settings .nodes) (o .nodes)) (λ x. rw x)
-    (λ x. rw x (case (outside 1 (longest (m .settings)) (o .estimate)) (λ y. rw y)
-    (λ y. rw y (case (ltb (o .estimate) (o .least)) (λ l. rw l)
-    (λ l. rw l (case (leb (quota (m .settings) (o .tenant)) (liveOf (o .tenant) (m .jobs))) (λ z. rw z)
-    (λ z. rw z (case (ltb lastTicket (m .next)) (λ t. rw t) (λ t. true-false true refl (rw (k, x, y, l, z, t) at a)))))))))))) (λ k. rw k))
 
 -- Each refusal, with its conditions in the documents' order and no others. 14: "a house other than A or B"; 1: "stack nodes 0 or above the
 -- rack's"; 2: "estimate .. outside 1 to 10,080"; 19: "least above most"; 15: "the house's places are all live"; 5: "ticket 999,999 has been
@@ -515,11 +502,10 @@ pub submit-refusal : (m : Model) (o : Submission) → Valid m → call m (submit
     ∷ (ltb 999999 (m .next), refusal.NoTicketLeft)
     ∷ (ltb 1000000 (planned m o + (wallTime (o .estimate) + m .settings .cleanup)), refusal.PastHorizon)
     ∷ [])
-unfolding call submitted runTime
+unfolding call submitRefusal submitted runTime
 submit-refusal m o v =
     let s = planned m o in
     judged-refusal m (submitRefusal m o s) (submitted m o s) refl
-    ∙ eight-never m o s (v .sound)
     ∙ ap (λ (h : ℕ). verdict (submitTests m o ((ltb (horizon (m .settings)) (s + h), refusal.PastHorizon) ∷ [])))
     (hold-is (m .settings) (o .estimate) ∙ ap (λ (k : ℕ). wallTime (o .estimate) + k) (cleanup-is (m .settings) (v .sound .cleanup-to)))
 
@@ -544,8 +530,3 @@ cancel-refusal m t =
 pub tick-refusal : (m : Model) → call m tick .reply .refusal ≡ verdict ((ltb 1000000 (suc (m .clock)), refusal.PastHorizon) ∷ [])
 unfolding call ticked advanced tickRefusal
 tick-refusal m = judged-refusal m (tickRefusal m) (ticked m) refl
-
--- 10: "the lent list .. is shorter than what goes into it"
-pub profile-refusal : (m : Model) (room : ℕ) → profileRefusal m room ≡ verdict ((ltb room (length (points m)), refusal.TooShort) ∷ [])
-unfolding profileRefusal
-profile-refusal m room = refl

@@ -322,7 +322,7 @@ module _ (S : Settings) (now : ℕ) where
   turns-follow [] w = tt
   turns-follow (j ∷ js) w = (turned-follows now j (w j (here refl)), turns-follow js (λ x i. w x (there i)))
 
-  turns-used : (t : ℕ) (js : List Job) → used t (spans S (map (turned now) js)) ≡ used t (spans S js)
+  pub turns-used : (t : ℕ) (js : List Job) → used t (spans S (map (turned now) js)) ≡ used t (spans S js)
   turns-used t [] = refl
   turns-used t (j ∷ js) = omega (arith, turned-takes S now t j, turns-used t js)
 

@@ -3,7 +3,7 @@
 use mathlib.Core.Path.{_≡_, refl, sym, ap, subst, _∙_}
 use mathlib.Core.Bool.{true, false}
 use mathlib.Core.List.{List, [], _∷_, _++_}
-use Prim.Native.Nat.{ℕ, zero, suc, _+_, _-_, _*_, _≤_, _<_}
+use Prim.Native.Nat.{ℕ, zero, suc, _+_, _-_, _≤_, _<_}
 use native.Mathlib.Numerals.{add-one}
 use native.Mathlib.Nat.{add-zero}
 use native.Mathlib.Omega.{arith}
@@ -12,7 +12,7 @@ use lib.Seq.{set-split, set-getD, split-at, drop-set-lt, drop-drop, getD-drop}
 use Rattle.lists.specs.Tests.{true-false}
 use Rattle.lists.specs.Lists.{All, In, all-of, all-in, all-at}
 use Rattle.lists.specs.Pads.{pad, all-pad}
-use Rattle.spans.specs.Spans.{used, free}
+use Rattle.spans.specs.Spans.{used}
 use Rattle.scheduler.specs.declared.Job.{Job}
 use Rattle.scheduler.specs.declared.Scheduler.{Scheduler}
 use Rattle.scheduler.specs.Limits.{slots}
@@ -24,12 +24,12 @@ use Rattle.scheduler.specs.Table.{withJobs}
 use Rattle.scheduler.specs.Model.{Model, store, view, withModelJobs}
 use Rattle.jobs.specs.Soundness.{waiting-clean}
 use Rattle.jobs.specs.Premise.{Holds}
-use Rattle.conservative_table.specs.Table.{Table}
+use Rattle.conservative_table.specs.ProfileLists.{IsProfile}
 use Rattle.conservative_rules.specs.Conservative.{spans, moved, pass}
 use Rattle.conservative_laws.specs.Validity.{used-append}
 use Rattle.conservative_laws.specs.PassLoop.{moved-same, loop, pass-as-loop}
 use Rattle.conservative_plan.specs.declared.Replanned.{Replanned}
-use Rattle.conservative_plan.specs.PlannedSlots.{Planned, Slots, Tabulated, HoldsTo, planned-slots, takes-unused, waiting-live}
+use Rattle.conservative_plan.specs.PlannedSlots.{Planned, Slots, Tabulated, planned-slots, takes-unused}
 use Rattle.conservative_plan.specs.Replan.{Replans, TurnDone, movedTo, fits-after}
 
 -- a model whose waiting jobs are planned for later than now
@@ -38,6 +38,7 @@ pub record Replannable (m : Model) : Type 0 where
   pub ahead : (j : Job) → In j (m .jobs) → isWaiting j ≡ true → m .clock < j .start
 
 pub record SlotJob (S : Settings) (now : ℕ) (j : Job) : Type 0 where
+  pub nodes-from : isWaiting j ≡ true → 1 ≤ j .nodes
   pub nodes-to : j .nodes ≤ S .nodes
   pub ahead : isWaiting j ≡ true → now < j .start
   pub hold-from : isWaiting j ≡ true → 1 ≤ holdTime S (j .estimate)
@@ -49,6 +50,7 @@ slot-jobs m r = all-pad slots unused (SlotJob (m .settings) (m .clock)) (m .jobs
   where
     none : SlotJob (m .settings) (m .clock) unused
     none = record {
+      nodes-from = λ e. true-false false e refl;
       nodes-to = omega arith;
       ahead = λ e. true-false false e refl;
       hold-from = λ e. true-false false e refl;
@@ -59,6 +61,7 @@ slot-jobs m r = all-pad slots unused (SlotJob (m .settings) (m .clock)) (m .jobs
     one j i =
         let s = r .planned .sound .each j i in
         record {
+          nodes-from = λ e. s .nodes-from;
           nodes-to = s .nodes-to;
           ahead = λ e. r .ahead j i e;
           hold-from = λ e. hold-pos (m .settings) (j .estimate) (s .estimate-from);
@@ -76,18 +79,17 @@ held-before d h =
     subst (λ (e : Scheduler). Before (view d .settings) (d .clock) (e .jobs)) (sym (h .stored))
     (record { fits = planned-slots (view d) (h .holds .planned); each = slot-jobs (view d) (h .holds) })
 
--- the turns before i are over: js are the slots now, and the lists are their table
+-- the turns before i are over: js are the slots now, and the lists are their profile
 pub record Passing (S : Settings) (now : ℕ) (js₀ js : List Job) (i n : ℕ) (ms fs : List ℕ) : Type 0 where
   pub low : i ≤ slots
   pub fits : Slots S now js
   pub same : drop i js ≡ drop i js₀
   pub rest : loop S now unused (slots - i) i js ≡ loop S now unused slots 0 js₀
-  pub table : Table (free (S .nodes) (spans S js)) now n ms fs
-  pub most : n ≤ 129 + 4 * i
+  pub profile : IsProfile (S .nodes) (spans S js) now n ms fs
 
-pub pass-begins : {d : Scheduler} {n : ℕ} {ms fs : List ℕ} → Slots (view d .settings) (d .clock) (d .jobs) → Tabulated d n ms fs
+pub pass-begins : (d : Scheduler) {n : ℕ} {ms fs : List ℕ} → Slots (view d .settings) (d .clock) (d .jobs) → Tabulated d n ms fs
     → Passing (view d .settings) (d .clock) (d .jobs) (d .jobs) 0 n ms fs
-pass-begins s t = record { low = omega arith; fits = s; same = refl; rest = refl; table = t .table; most = omega (arith, t .most) }
+pass-begins d s t = record { low = omega arith; fits = s; same = refl; rest = refl; profile = t }
 
 module _ {S : Settings} {now : ℕ} {js₀ js : List Job} {i n : ℕ} {ms fs : List ℕ} (b : Before S now js₀) (v : Passing S now js₀ js i n ms fs)
     (l : i < slots) where
@@ -118,22 +120,19 @@ module _ {S : Settings} {now : ℕ} {js₀ js : List Job} {i n : ℕ} {ms fs : L
         xs = take i js;
         ys = drop (i + 1) js;
         fits = subst (Slots S now) split (v .fits);
-        table = subst (λ (ks : List Job). Table (free (S .nodes) (spans S ks)) now n ms fs) split (v .table);
-        room-left = omega (arith, v .most);
+        profile = subst (λ (ks : List Job). IsProfile (S .nodes) (spans S ks) now n ms fs) split (v .profile);
         waits = w;
         ahead = s .ahead w;
+        nodes-from = s .nodes-from w;
         nodes-to = s .nodes-to;
         hold-from = s .hold-from w;
         no-end = s .no-end w;
       }
 
-  hold-is : {hs : List ℕ} → HoldsTo S js₀ slots hs → isWaiting j ≡ true → getD hs i 0 ≡ holdTime S (j .estimate)
-  hold-is h w = h .are i l (waiting-live (getD js₀ i unused) (ap isWaiting here-is ∙ w)) ∙ ap (λ (k : Job). holdTime S (k .estimate)) here-is
-
-  pub turn-asked : {hs : List ℕ} → HoldsTo S js₀ slots hs → isWaiting j ≡ true
-      → (q : Replans ms fs n j now) × (getD hs i 0 ≡ holdTime (q .settings) (j .estimate))
+  pub turn-asked : {hold : ℕ} → hold ≡ holdTime S (j .estimate) → isWaiting j ≡ true
+      → (q : Replans ms fs n j now) × (hold ≡ holdTime (q .settings) (j .estimate))
   unfolding replans
-  turn-asked h w = (replans w, hold-is h w)
+  turn-asked h w = (replans w, h)
 
   more : slots - i ≡ suc (slots - (i + 1))
   more = omega arith
@@ -150,13 +149,13 @@ module _ {S : Settings} {now : ℕ} {js₀ js : List Job} {i n : ℕ} {ms fs : L
   unfolding loop
   loop-turn = rw more at (v .rest)
 
-  pub turn-taken : {hs : List ℕ} → HoldsTo S js₀ slots hs → (w : isWaiting j ≡ true) (r : Replanned) {ms′ fs′ : List ℕ}
-      → ((q : Replans ms fs n j now) → getD hs i 0 ≡ holdTime (q .settings) (j .estimate) → TurnDone q r ms′ fs′)
+  pub turn-taken : {hold : ℕ} → hold ≡ holdTime S (j .estimate) → (w : isWaiting j ≡ true) (r : Replanned) {ms′ fs′ : List ℕ}
+      → ((q : Replans ms fs n j now) → hold ≡ holdTime (q .settings) (j .estimate) → TurnDone q r ms′ fs′)
       → Passing S now js₀ (set js i (r .job)) (i + 1) (r .count) ms′ fs′
   unfolding replans
   turn-taken h w r {ms′} {fs′} f =
       let q = replans w in
-      let done = f q (hold-is h w) in
+      let done = f q h in
       let job-is : r .job ≡ movedTo q = done .job-is in
       let set-is : set js i (r .job) ≡ take i js ++ movedTo q ∷ drop (i + 1) js = ap (set js i) job-is ∙ set-split js i (movedTo q) in₀ ∙ rw (← add-one i) in
       record {
@@ -164,8 +163,7 @@ module _ {S : Settings} {now : ℕ} {js₀ js : List Job} {i n : ℕ} {ms fs : L
         fits = subst (Slots S now) (sym set-is) (fits-after q);
         same = same-next (r .job);
         rest = ap (λ (k : Job). loop S now unused (slots - (i + 1)) (i + 1) (set js i k)) job-is ∙ loop-turn;
-        table = subst (λ (ks : List Job). Table (free (S .nodes) (spans S ks)) now (r .count) ms′ fs′) (sym set-is) (done .table);
-        most = omega (arith, done .most, v .most);
+        profile = subst (λ (ks : List Job). IsProfile (S .nodes) (spans S ks) now (r .count) ms′ fs′) (sym set-is) (done .profile);
       }
 
   pub turn-passed : isWaiting j ≡ false → Passing S now js₀ js (i + 1) n ms fs
@@ -177,8 +175,7 @@ module _ {S : Settings} {now : ℕ} {js₀ js : List Job} {i n : ℕ} {ms fs : L
         fits = v .fits;
         same = ap (drop (i + 1)) set-is ∙ same-next (moved S now (take i js ++ drop (i + 1) js) j);
         rest = ap (loop S now unused (slots - (i + 1)) (i + 1)) set-is ∙ loop-turn;
-        table = v .table;
-        most = omega (arith, v .most);
+        profile = v .profile;
       }
 
 -- all turns are over

@@ -1,28 +1,24 @@
 -- The plan on the 64 slots of the table: an unused slot takes nothing, so the slots plan as the model's jobs do.
 -- Assumes nothing.
 use mathlib.Core.Path.{_≡_, refl, sym, ap, subst, _∙_}
-use mathlib.Core.Bool.{true, false}
+use mathlib.Core.Bool.{false}
 use mathlib.Core.List.{List, [], _∷_, map-append}
-use mathlib.Core.Logic.{_⊎_, inl, inr}
-use Prim.Native.Nat.{ℕ, _+_, _*_, _≤_, _<_}
+use Prim.Native.Nat.{ℕ, _+_, _≤_, _<_}
 use native.Mathlib.Numerals.{add-one}
 use native.Mathlib.Omega.{arith}
-use lib.ListN.{length, getD, take, drop, set, length-map, length-set, take-append-drop}
-use lib.Seq.{take-suc, take-all, getD-set-same, getD-set-other}
-use Rattle.lists.specs.Tests.{true-false, le-or}
-use Rattle.lists.specs.Lists.{All, all-of, all-at, sum-append, sum-map}
+use lib.ListN.{length, getD, take, drop, length-map, take-append-drop}
+use lib.Seq.{take-suc, take-all, length-take-le}
+use Rattle.lists.specs.Tests.{true-false}
+use Rattle.lists.specs.Lists.{All, In, all-of, all-in, all-at, map-in, in-left, sum-append, sum-map}
 use Rattle.lists.specs.Pads.{pad, sum-pad, length-pad, all-pad}
 use Rattle.spans.specs.declared.Span.{Span}
-use Rattle.spans.specs.Spans.{takes, used, free, profile}
-use Rattle.spans.specs.UsedNodes.{takes-le, free-less}
-use Rattle.spans.specs.ProfileLaws.{profile-same, profile-length}
+use Rattle.spans.specs.Spans.{takes, used, free, lastEnd, profile}
+use Rattle.spans.specs.UsedNodes.{takes-le, last-le}
+use Rattle.spans.specs.ProfileLaws.{profile-length}
 use Rattle.scheduler.specs.declared.Job.{Job}
 use Rattle.scheduler.specs.declared.Scheduler.{Scheduler}
 use Rattle.scheduler.specs.Limits.{maxNodes, slots}
-use Rattle.scheduler.specs.declared.State.{State}
-use Rattle.scheduler.specs.declared.State.the-variants.{Unused, Waiting, Running, Cleanup}
-use Rattle.scheduler.specs.States.{live?, waiting?}
-use Rattle.scheduler.specs.Jobs.{unused, isLive, isWaiting, isCleaning}
+use Rattle.scheduler.specs.Jobs.{unused, isLive, isCleaning}
 use Rattle.scheduler.specs.declared.Settings.{Settings}
 use Rattle.scheduler.specs.Settings.{horizon, holdTime, until}
 use Rattle.scheduler.specs.Times.{hold-le, until-is}
@@ -30,11 +26,14 @@ use Rattle.scheduler.specs.Model.{Model, store, view}
 use Rattle.jobs.specs.Soundness.{Sound}
 use Rattle.jobs.specs.Premise.{Holds}
 use Rattle.jobs.specs.Slots.{Low, sound-low}
+use Rattle.spans.specs.Index.{blocks, freeAt, index}
+use Rattle.conservative_table.specs.declared.Row.{Row}
+use Rattle.conservative_table.specs.Points.{Kept}
+use Rattle.conservative_table.specs.ProfileLists.{IsProfile, Laying, Changed, exact-kept, exact-same}
+use Rattle.conservative_index.specs.BuiltIndex.{length-blocks}
 use Rattle.conservative_profile.specs.declared.Profile.{Profile}
 use Rattle.conservative_profile.specs.StoredProfile.{stored}
-use Rattle.conservative_profile.specs.TablePoints.{Tabled}
-use Rattle.conservative_table.specs.Table.{Table, Opened, opened-table, table-same}
-use Rattle.conservative_table.specs.LaidSpans.{Lays, Laid}
+use Rattle.conservative_profile.specs.CopiedPoints.{Copies}
 use Rattle.conservative_rules.specs.Conservative.{span, spans, points}
 use Rattle.conservative_laws.specs.Validity.{Valid}
 
@@ -96,18 +95,21 @@ slot-low {js = js} s i h = all-at Low js i unused (s .low) (omega (arith, s .all
 
 -- ## The profile of the slots
 
--- the first i slots are laid over the idle machine
-pub record Laying (S : Settings) (now : ℕ) (js : List Job) (i n : ℕ) (ms fs : List ℕ) : Type 0 where
-  pub table : Table (free (S .nodes) (spans S (take i js))) now n ms fs
-  pub most : n ≤ 1 + 2 * i
+-- no slot ends past the last minute
+pub last-slots : (S : Settings) (L : ℕ) (js : List Job) → ((j : Job) → In j js → until S j ≤ L) → lastEnd (spans S js) ≤ L
+last-slots S L js h = last-le L (spans S js) (all-of _ (spans S js) (λ x i. one x (map-in (span S) js i)))
+  where
+    one : (x : Span) → (j : Job) × In j js × (x ≡ span S j) → x .until ≤ L
+    one x k = omega (arith, h (k .0) (k .1), ap (λ (y : Span). y .until) (k .2))
 
-pub laying-begin : {S : Settings} {now : ℕ} {js : List Job} → Slots S now js → (ms fs : List ℕ) → Opened (S .nodes) now ms fs → Laying S now js 0 1 ms fs
-laying-begin {S} {now} s ms fs o = record {
-  table = opened-table (free (S .nodes) []) (S .nodes) now ms fs o (s .clock-to) (λ t l. omega arith);
-  most = omega arith;
-}
+pub slot-ends : {S : Settings} {now : ℕ} {js : List Job} → Slots S now js → (j : Job) → In j js → until S j ≤ horizon S
+slot-ends {S} s j i = all-in (λ (k : Job). until S k ≤ horizon S) (s .ends) i
 
-module _ {S : Settings} {now : ℕ} {js : List Job} (s : Slots S now js) {i : ℕ} (low : i < slots) {n : ℕ} {ms fs : List ℕ} (v : Laying S now js i n ms fs) where
+-- the profile of the first i slots
+abbrev pub Front : Settings → ℕ → List Job → ℕ → ℕ → List ℕ → List ℕ → Type 0
+Front S now js i n ms fs = IsProfile (S .nodes) (spans S (take i js)) now n ms fs
+
+module _ {S : Settings} {now : ℕ} {js : List Job} (s : Slots S now js) {i : ℕ} (low : i < slots) {n : ℕ} {ms fs : List ℕ} (v : Front S now js i n ms fs) where
   abbrev j : Job
   j = getD js i unused
 
@@ -133,103 +135,72 @@ module _ {S : Settings} {now : ℕ} {js : List Job} (s : Slots S now js) {i : �
       ∙ rw (map-append (span S) (take (i + 1) js) (drop (i + 1) js)) (sum-append (takes t) (spans S (take (i + 1) js)) (spans S (drop (i + 1) js))) in
       omega arith
 
-  pub lay : Lays ms fs n (span S j) false
+  ends-front : lastEnd (spans S (take i js)) ≤ horizon S
+  ends-front = last-slots S (horizon S) (take i js) (λ k l. slot-ends s k (subst (In k) (take-append-drop i js) (in-left (drop i js) l)))
+
+  kept : Kept (free (S .nodes) (spans S (take i js))) now n ms fs
+  kept = exact-kept v (s .clock-to) ends-front
+
+  pub lay : Laying ms fs 0 n (span S j)
   lay = record {
-    f = free (S .nodes) (spans S (take i js));
-    g = free (S .nodes) (spans S (take (i + 1) js));
+    machine = S .nodes;
+    spans = spans S (take i js);
     now = now;
-    table = v .table;
-    change = λ t l. free-less t (S .nodes) (span S j) (spans S (take i js)) (spans S (take (i + 1) js)) (used-more t);
-    room = λ t l. omega (arith, used-more t, used-front t, s .room t l);
+    profile = v;
+    few = omega (arith, length-map (take i js) (span S), length-take-le i js (omega (arith, in₀)));
+    clock = s .clock-to;
+    ends = ends-front;
     until = end-low;
-    fits = omega (arith, v .most);
+    room = λ t l. omega (arith, used-more t, used-front t, s .room t l);
+    near-in = kept .table .some;
+    near-to = omega (arith, kept .table .first);
   }
 
-  pub laid-more : {r : ℕ} {ms′ fs′ : List ℕ} → ((l : Lays ms fs n (span S j) false) → Laid l r ms′ fs′) → Laying S now js (i + 1) r ms′ fs′
+  pub laid-more : {r : Row} {ms′ fs′ : List ℕ}
+      → ((l : Laying ms fs 0 n (span S j)) → Changed (l .machine) (span S j ∷ l .spans) (l .now) (span S j) ms fs n r ms′ fs′)
+      → Front S now js (i + 1) (r .count) ms′ fs′
   unfolding lay
-  laid-more f = let l = f lay in record { table = l .table; most = omega (arith, l .most, v .most) }
+  laid-more f = exact-same (spans S (take (i + 1) js)) (f lay .profile) (λ t l. sym (used-more t))
 
-  pub laid-unused : isLive j ≡ false → Laying S now js (i + 1) n ms fs
+  pub laid-unused : isLive j ≡ false → Front S now js (i + 1) n ms fs
   laid-unused e =
       let none : j .nodes ≡ 0 = all-at (λ (k : Job). isLive k ≡ false → k .nodes ≡ 0) js i unused (s .idle) in₀ e in
-      record { table = table-same (λ t l. omega (arith, used-more t, takes-le t (span S j))) (v .table); most = omega (arith, v .most) }
+      exact-same (spans S (take (i + 1) js)) v (λ t l. omega (arith, used-more t, takes-le t (span S j)))
 
--- the hold times of the live jobs in the slots before i
-pub record HoldsTo (S : Settings) (js : List Job) (i : ℕ) (hs : List ℕ) : Type 0 where
-  pub long : length hs ≡ slots
-  pub are : (n : ℕ) → n < i → isLive (getD js n unused) ≡ true → getD hs n 0 ≡ holdTime S (getD js n unused .estimate)
+-- all slots: the profile of the scheduler
+abbrev pub Tabulated : Scheduler → ℕ → List ℕ → List ℕ → Type 0
+Tabulated d n ms fs = IsProfile (view d .settings .nodes) (spans (view d .settings) (d .jobs)) (d .clock) n ms fs
 
-pub holds-none : (S : Settings) (js : List Job) (hs : List ℕ) → length hs ≡ slots → HoldsTo S js 0 hs
-holds-none S js hs e = record { long = e; are = λ n l. absurd (omega arith) }
-
-module _ {S : Settings} {js : List Job} {i : ℕ} {hs : List ℕ} (h : HoldsTo S js i hs) where
-  -- one slot more, live or unused
-  pub holds-more : i < slots → HoldsTo S js (i + 1) (set hs i (holdTime S (getD js i unused .estimate)))
-  holds-more l = record { long = length-set hs i w ∙ h .long; are = λ n a e. go n a e (le-or i n) }
-    where
-      w : ℕ
-      w = holdTime S (getD js i unused .estimate)
-
-      go : (n : ℕ) → n < i + 1 → isLive (getD js n unused) ≡ true → (i ≤ n) ⊎ (n < i) → getD (set hs i w) n 0 ≡ holdTime S (getD js n unused .estimate)
-      go n a e (inl b) =
-          let q : n ≡ i = omega arith in
-          ap (λ (k : ℕ). getD (set hs i w) k 0) q ∙ getD-set-same hs i w 0 (omega (arith, h .long))
-          ∙ ap (λ (k : ℕ). holdTime S (getD js k unused .estimate)) (sym q)
-      go n a e (inr b) = getD-set-other hs i n w 0 (λ q. omega arith) ∙ h .are n b e
-
-  pub holds-skip : isLive (getD js i unused) ≡ false → HoldsTo S js (i + 1) hs
-  holds-skip e = record { long = h .long; are = λ n a q. go n a q (le-or i n) }
-    where
-      go : (n : ℕ) → n < i + 1 → isLive (getD js n unused) ≡ true → (i ≤ n) ⊎ (n < i) → getD hs n 0 ≡ holdTime S (getD js n unused .estimate)
-      go n a q (inl b) =
-          let same : n ≡ i = omega arith in
-          true-false (isLive (getD js n unused)) q (ap (λ (k : ℕ). isLive (getD js k unused)) same ∙ e)
-      go n a q (inr b) = h .are n b q
-
-pub waiting-live : (j : Job) → isWaiting j ≡ true → isLive j ≡ true
-waiting-live j e = go (j .state) e
-  where
-    go : (s : State) → waiting? s ≡ true → live? s ≡ true
-    go Unused q = true-false false q refl
-    go Waiting q = refl
-    go Running q = refl
-    go Cleanup q = refl
-
--- all slots: the free nodes of the scheduler
-pub record Tabulated (d : Scheduler) (n : ℕ) (ms fs : List ℕ) : Type 0 where
-  pub table : Table (free (view d .settings .nodes) (spans (view d .settings) (d .jobs))) (d .clock) n ms fs
-  pub most : n ≤ 129
-
-pub laid-all : (d : Scheduler) {n : ℕ} {ms fs : List ℕ} → Holds Planned d → Laying (view d .settings) (d .clock) (d .jobs) slots n ms fs → Tabulated d n ms fs
-laid-all d {n} {ms} {fs} h v = record {
-  table = subst (λ (js : List Job). Table (free (view d .settings .nodes) (spans (view d .settings) js)) (d .clock) n ms fs)
-      (take-all slots (d .jobs) (omega (arith, held-slots d h .all))) (v .table);
-  most = omega (arith, v .most);
-}
+pub laid-all : (d : Scheduler) {n : ℕ} {ms fs : List ℕ} → Holds Planned d → Front (view d .settings) (d .clock) (d .jobs) slots n ms fs → Tabulated d n ms fs
+laid-all d {n} {ms} {fs} h v =
+    subst (λ (js : List Job). IsProfile (view d .settings .nodes) (spans (view d .settings) js) (d .clock) n ms fs)
+    (take-all slots (d .jobs) (omega (arith, held-slots d h .all))) v
 
 -- what the slots take, the model's jobs take
 pub used-held : (d : Scheduler) → Holds Planned d → (t : ℕ) → used t (spans (view d .settings) (d .jobs)) ≡ used t (spans (view d .settings) (view d .jobs))
 unfolding view store
 used-held d h t = ap (λ (e : Scheduler). used t (spans (view d .settings) (e .jobs))) (h .stored) ∙ used-slots (view d .settings) t (view d .jobs)
 
--- the profile of the slots is that of the model
-pub tabled : (d : Scheduler) {n : ℕ} {ms fs : List ℕ} → Holds Planned d → Tabulated d n ms fs → Tabled ms fs n
-tabled d h t = record {
-  nodes = view d .settings .nodes;
-  spans = spans (view d .settings) (d .jobs);
-  now = d .clock;
-  table = t .table;
-  few = omega (arith, held-slots d h .all, length-map (d .jobs) (span (view d .settings)));
-  fit = omega (arith, t .most);
+-- so the lists are the points of the model
+pub tabulated-view : (d : Scheduler) {n : ℕ} {ms fs : List ℕ} → Holds Planned d → Tabulated d n ms fs
+    → IsProfile (view d .settings .nodes) (spans (view d .settings) (view d .jobs)) (view d .clock) n ms fs
+unfolding view
+tabulated-view d h t = exact-same (spans (view d .settings) (view d .jobs)) t (λ t l. used-held d h t)
+
+-- and can be copied
+pub copies : (d : Scheduler) {n : ℕ} {ms fs : List ℕ} → Holds Planned d → Tabulated d n ms fs → Copies ms fs n
+copies d h t = record {
+  machine = view d .settings .nodes;
+  spans = spans (view d .settings) (view d .jobs);
+  now = view d .clock;
+  profile = tabulated-view d h t;
+  few = omega (arith, h .holds .sound .few, length-map (view d .jobs) (span (view d .settings)));
 }
 
-pub tabled-points : (d : Scheduler) {n : ℕ} {ms fs : List ℕ} {p : Profile} → Holds Planned d → Tabulated d n ms fs
-    → ((q : Tabled ms fs n) → p ≡ stored (profile (q .nodes) (q .spans) (q .now))) → p ≡ stored (points (view d))
-unfolding tabled view
-tabled-points d h t f =
-    f (tabled d h t)
-    ∙ ap stored (profile-same (view d .settings .nodes) (spans (view d .settings) (d .jobs)) (spans (view d .settings) (view d .jobs)) (d .clock)
-    (λ t l. used-held d h t))
+pub copied-points : (d : Scheduler) {n : ℕ} {ms fs : List ℕ} {p : Profile} (h : Holds Planned d) (t : Tabulated d n ms fs)
+    → ((q : Copies ms fs n) → p ≡ stored (profile (q .machine) (q .spans) (q .now))) → p ≡ stored (points (view d))
+unfolding copies
+copied-points d h t f = f (copies d h t)
 
 -- the profile fits its array
 pub points-fit : (d : Scheduler) → Holds Valid d → length (points (view d)) ≤ 129
@@ -240,3 +211,9 @@ points-fit d h =
       h .holds .sound .few,
       length-map (view d .jobs) (span (view d .settings)),
     )
+
+-- and so does its index
+pub blocks-fit : (d : Scheduler) → Holds Valid d → length (index (points (view d))) ≤ 9
+blocks-fit d h =
+    let ps = points (view d) in
+    omega (arith, length-blocks (freeAt ps) (length ps) (blocks (length ps)), points-fit d h)

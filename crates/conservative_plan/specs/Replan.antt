@@ -3,42 +3,44 @@
 use mathlib.Core.Path.{_≡_, refl, sym, ap, subst, _∙_}
 use mathlib.Core.Bool.{true, false}
 use mathlib.Core.List.{List, [], _∷_, _++_, map-append}
+use mathlib.Core.Logic.{_⊎_, inl, inr, _≢_}
 use Prim.Native.Nat.{ℕ, _+_, _≤_, _<_}
 use native.Mathlib.Omega.{arith}
 use lib.Dec.{eqb}
-use lib.ListN.{getD, length-append}
+use lib.ListN.{length, getD, length-append, length-map}
 use borrow.Author.Tests.{ne-eqb}
 use Rattle.lists.specs.Tests.{case, true-false}
-use Rattle.lists.specs.Lists.{All, here, all-in, in-right}
-use Rattle.spans.specs.Spans.{takes, used, free, earliest}
-use Rattle.spans.specs.UsedNodes.{used-among, takes-before, takes-in, free-less, free-more}
+use Rattle.lists.specs.Lists.{All, In, here, there, in-left, in-right, in-append}
+use Rattle.spans.specs.declared.Span.{Span}
+use Rattle.spans.specs.Spans.{takes, used, lastEnd, earliest}
+use Rattle.spans.specs.UsedNodes.{used-among, takes-before, takes-in}
 use Rattle.scheduler.specs.declared.Job.{Job}
 use Rattle.scheduler.specs.Jobs.{isWaiting, isCleaning, isLive}
+use Rattle.scheduler.specs.Limits.{slots}
 use Rattle.scheduler.specs.declared.Settings.{Settings}
 use Rattle.scheduler.specs.Settings.{horizon, holdTime, until}
 use Rattle.scheduler.specs.Times.{hold-le, until-is, until-at}
 use Rattle.jobs.specs.Slots.{Low}
 use Rattle.jobs.specs.Soundness.{waiting-is, waiting-clean}
 use Rattle.conservative_table.specs.declared.Row.{Row}
-use Rattle.conservative_table.specs.ListChanges.{rows}
-use Rattle.conservative_table.specs.Table.{Table, Ascends, Split}
-use Rattle.conservative_table.specs.LaidSpans.{LaysAt, Shifts, Shifted}
-use Rattle.conservative_table.specs.Search.{Seeks, Found}
+use Rattle.conservative_table.specs.declared.Found.{Found}
+use Rattle.conservative_table.specs.ProfileLists.{IsProfile, Laying, Lifting, Changed, exact-kept, exact-few, exact-same}
+use Rattle.conservative_table.specs.Search.{Seeks, Finds}
 use Rattle.conservative_rules.specs.Conservative.{span, spans, stateAt, placed, moved}
 use Rattle.conservative_laws.specs.Validity.{state-clean, Follows, follows-start, moved-follows}
 use Rattle.conservative_plan.specs.declared.Replanned.{Replanned}
-use Rattle.conservative_plan.specs.PlannedSlots.{spanAt, span-at, Slots}
+use Rattle.conservative_plan.specs.PlannedSlots.{spanAt, span-at, Slots, slot-ends, last-slots}
 
--- the lists are a table of the slots xs, j and ys, and j waits
+-- the lists are the profile of the slots xs, j and ys, and j waits
 pub record Replans (ms fs : List ℕ) (n : ℕ) (j : Job) (now : ℕ) : Type 0 where
   pub settings : Settings
   pub xs : List Job
   pub ys : List Job
   pub fits : Slots settings now (xs ++ j ∷ ys)
-  pub table : Table (free (settings .nodes) (spans settings (xs ++ j ∷ ys))) now n ms fs
-  pub room-left : n + 4 ≤ rows
+  pub profile : IsProfile (settings .nodes) (spans settings (xs ++ j ∷ ys)) now n ms fs
   pub waits : isWaiting j ≡ true
   pub ahead : now < j .start
+  pub nodes-from : 1 ≤ j .nodes
   pub nodes-to : j .nodes ≤ settings .nodes
   pub hold-from : 1 ≤ holdTime settings (j .estimate)
   pub no-end : j .end ≡ 0
@@ -79,13 +81,6 @@ module _ {ms fs : List ℕ} {n : ℕ} {j : Job} {now : ℕ} (q : Replans ms fs n
   abbrev pub movedTo : Job
   movedTo = moved S now others j
 
-  -- the free nodes without it, and with it again
-  abbrev pub without : ℕ → ℕ
-  without = free (S .nodes) (spans S others)
-
-  abbrev pub with : Job → ℕ → ℕ
-  with k = free (S .nodes) (spans S (q .xs ++ k ∷ q .ys))
-
   split : (k : Job) → spans S (q .xs ++ k ∷ q .ys) ≡ spans S (q .xs) ++ span S k ∷ spans S (q .ys)
   split k = map-append (span S) (q .xs) (k ∷ q .ys)
 
@@ -108,7 +103,7 @@ module _ {ms fs : List ℕ} {n : ℕ} {j : Job} {now : ℕ} (q : Replans ms fs n
   clean = waiting-clean (j .state) (q .waits)
 
   end-of : until S j ≤ horizon S
-  end-of = all-in (λ (k : Job). until S k ≤ horizon S) (q .fits .ends) (in-right (q .xs) (here refl))
+  end-of = slot-ends (q .fits) j (in-right (q .xs) (here refl))
 
   pub start-of : j .start ≤ horizon S
   start-of = omega (arith, end-of, until-is S j clean)
@@ -117,36 +112,39 @@ module _ {ms fs : List ℕ} {n : ℕ} {j : Job} {now : ℕ} (q : Replans ms fs n
   abbrev pub startAt : ℕ
   startAt = earliest (S .nodes) (spans S others) now (j .nodes) (holdTime S (j .estimate))
 
-  -- its start gets a place
-  pub ascends : Ascends ms 1 n (j .start)
-  ascends = record {
-    long = q .table .minutes-long;
-    some = omega arith;
-    low = q .table .some;
-    fit = omega (arith, q .room-left);
-    last = omega (arith, q .table .first, q .ahead);
+  few : length (spans S (q .xs ++ j ∷ q .ys)) ≡ slots
+  few = length-map (q .xs ++ j ∷ q .ys) (span S) ∙ q .fits .all
+
+  ends : lastEnd (spans S (q .xs ++ j ∷ q .ys)) ≤ horizon S
+  ends = last-slots S (horizon S) (q .xs ++ j ∷ q .ys) (slot-ends (q .fits))
+
+  others-in : (k : Job) → In k others → In k (q .xs ++ j ∷ q .ys)
+  others-in k i = go (in-append (q .xs) i)
+    where
+      go : In k (q .xs) ⊎ In k (q .ys) → In k (q .xs ++ j ∷ q .ys)
+      go (inl u) = in-left (j ∷ q .ys) u
+      go (inr u) = in-right (q .xs) (there u)
+
+  -- sought with itself in the plan
+  seeks : Seeks ms fs (j .start) (j .nodes) (holdTime S (j .estimate))
+  seeks = record {
+    machine = S .nodes;
+    all = spans S (q .xs ++ j ∷ q .ys);
+    others = spans S others;
+    now = now;
+    count = n;
+    table = exact-kept (q .profile) (q .fits .clock-to) ends .table;
+    fit = omega (arith, exact-few (q .profile), few);
+    enough = q .nodes-to;
+    some = q .hold-from;
+    hold-to = hold-le S (j .estimate);
+    ahead = omega (arith, q .ahead);
+    early = λ t l b. omega (arith, among t j, takes-before t (span S j) b);
+    late = λ t l b. omega (arith, room t (omega (arith, q .ahead)), takes-in t (span S j) l (omega (arith, until-is S j clean)));
+    taken =
+        let k = takes-in (j .start) (span S j) (omega arith) (omega (arith, q .hold-from, until-is S j clean)) in
+        omega (arith, among (j .start) j, k, q .nodes-from, q .nodes-to);
   }
-
-  module _ {r : Row} {ms₁ fs₁ : List ℕ} (s : Split ms fs n (j .start) r ms₁ fs₁) where
-    pub own-table : Table (with j) now (r .count) ms₁ fs₁
-    own-table = s .same (with j) now (q .table) start-of
-
-    pub seeks : Seeks ms₁ fs₁ (r .at) (j .nodes) (holdTime S (j .estimate))
-    seeks = record {
-      nodes = S .nodes;
-      before = spans S (q .xs ++ j ∷ q .ys);
-      others = spans S others;
-      now = now;
-      count = r .count;
-      table = own-table;
-      inside = s .inside;
-      fit = omega (arith, s .most, q .room-left);
-      enough = q .nodes-to;
-      some = q .hold-from;
-      early = λ t l b. omega (arith, among t j, takes-before t (span S j) (omega (arith, s .minute)));
-      late = λ t l b. omega (arith, room t (omega (arith, q .ahead, s .minute)), takes-in t (span S j) (omega (arith, s .minute)) (omega (arith, s .minute, until-is S j clean)));
-      hold-to = hold-le S (j .estimate);
-    }
 
   pub moved-is : movedTo ≡ placed now startAt j
   moved-is = rw (q .waits)
@@ -171,30 +169,13 @@ module _ {ms fs : List ℕ} {n : ℕ} {j : Job} {now : ℕ} (q : Replans ms fs n
   end-after : until S movedTo ≤ horizon S
   end-after = omega (arith, start-low, end-of, moved-until, moved-start, until-is S j clean)
 
-  -- taken out, from the place of its start
-  pub take-out : {r : Row} {ms₁ fs₁ : List ℕ} → Split ms fs n (j .start) r ms₁ fs₁ → LaysAt ms₁ fs₁ r (span S j) true
-  take-out s = record {
-    f = with j;
-    g = without;
-    now = now;
-    table = own-table s;
-    change = λ t l. free-more t (S .nodes) (span S j) (spans S (q .xs ++ j ∷ q .ys)) (spans S others) (among t j) (q .fits .room t l);
-    room = λ t l. omega (arith, among t j, q .fits .room t l, q .fits .nodes-to);
-    until = end-of;
-    inside = s .inside;
-    begins = omega (arith, s .minute, q .ahead);
-    some = omega (arith, s .minute, q .hold-from, until-is S j clean);
-    fits = omega (arith, q .room-left, s .most);
-  }
-
   pub moved-span : span S movedTo ≡ spanAt (j .nodes) startAt (holdTime S (j .estimate))
   moved-span = ap (span S) moved-is ∙ placed-span S now startAt j
 
-  -- after the turn: the job at its place, and the table with it there
+  -- after the turn: the job at its place, and the profile with it there
   pub record TurnDone (r : Replanned) (ms′ fs′ : List ℕ) : Type 0 where
     pub job-is : r .job ≡ movedTo
-    pub table : Table (with movedTo) now (r .count) ms′ fs′
-    pub most : r .count ≤ n + 4
+    pub profile : IsProfile (S .nodes) (spans S (q .xs ++ movedTo ∷ q .ys)) now (r .count) ms′ fs′
 
   -- the slots after the turn fit the machine too
   pub fits-after : Slots S now (q .xs ++ movedTo ∷ q .ys)
@@ -211,75 +192,100 @@ module _ {ms fs : List ℕ} {n : ℕ} {j : Job} {now : ℕ} (q : Replans ms fs n
       state-live : isLive (placed now startAt j) ≡ true
       state-live = case (eqb startAt now) (λ e. rw e) (λ e. rw e)
 
--- its start has got the place r, and the search has found the place k
-pub record Moves (ms₁ fs₁ : List ℕ) (r : Row) (k : ℕ) (j : Job) (hold now : ℕ) : Type 0 where
-  pub ms : List ℕ
-  pub fs : List ℕ
-  pub n : ℕ
-  pub replans : Replans ms fs n j now
-  pub hold-is : hold ≡ holdTime (replans .settings) (j .estimate)
-  pub split : Split ms fs n (j .start) r ms₁ fs₁
-  pub place : Found (seeks replans split) k
-
-module _ {ms fs : List ℕ} {n : ℕ} {j : Job} {hold now : ℕ} (q : Replans ms fs n j now) (w : hold ≡ holdTime (q .settings) (j .estimate))
-    {r : Row} {ms₁ fs₁ : List ℕ} (s : Split ms fs n (j .start) r ms₁ fs₁) where
-  pub seeks-hold : Seeks ms₁ fs₁ (r .at) (j .nodes) hold
-  seeks-hold = rw w (seeks q s)
-
-  pub moves : {k : ℕ} → ((l : Seeks ms₁ fs₁ (r .at) (j .nodes) hold) → Found l k) → Moves ms₁ fs₁ r k j hold now
-  moves f = record { ms = ms; fs = fs; n = n; replans = q; hold-is = w; split = s; place = (rw w at f) (seeks q s) }
-
-  pub turned-as : {k : ℕ} (f : (l : Seeks ms₁ fs₁ (r .at) (j .nodes) hold) → Found l k) {z : Replanned} {ms₂ fs₂ : List ℕ}
-      → ((m : Moves ms₁ fs₁ r k j hold now) → TurnDone (m .replans) z ms₂ fs₂) → TurnDone q z ms₂ fs₂
-  unfolding moves
-  turned-as f g = g (moves f)
-
-module _ {ms₁ fs₁ : List ℕ} {r : Row} {k : ℕ} {j : Job} {hold now : ℕ} (m : Moves ms₁ fs₁ r k j hold now) where
-  abbrev q : Replans (m .ms) (m .fs) (m .n) j now
-  q = m .replans
-
-  start-is : getD ms₁ k 0 ≡ startAt q
-  unfolding seeks
-  start-is = m .place .minute
-
-  pub start-to : getD ms₁ k 0 ≤ horizon (q .settings)
-  start-to = omega (arith, start-is, moved-low q)
-
-  pub turned-stays : k ≡ r .at → TurnDone q (record { job = j; count = r .count }) ms₁ fs₁
-  turned-stays z =
-      let e : startAt q ≡ j .start = sym start-is ∙ ap (λ (i : ℕ). getD ms₁ i 0) z ∙ m .split .minute in
-      record {
-        job-is = stays-put q e;
-        table = subst (λ (i : Job). Table (with q i) now (r .count) ms₁ fs₁) (stays-put q e) (own-table q (m .split));
-        most = omega (arith, m .split .most);
-      }
-
-  -- it is taken out, and laid in from there
-  from-own : Shifts ms₁ fs₁ r (span (q .settings) j) k (span (q .settings) (movedTo q))
-  unfolding take-out
-  from-own = record {
-    out = take-out q (m .split);
-    h = with q (movedTo q);
-    change = λ t l.
-        let S = q .settings in
-        free-less t (S .nodes) (span S (movedTo q)) (spans S (others q)) (spans S (q .xs ++ movedTo q ∷ q .ys)) (among q t (movedTo q));
-    room = λ t l. omega (arith, room-after q t l);
-    until = end-after q;
-    earlier = m .place .inside;
-    begins = start-is ∙ sym (ap (λ (i : Job). i .start) (moved-is q));
-    some = omega (arith, q .hold-from, moved-until q, moved-start q);
-    fits = omega (arith, m .split .most, q .room-left);
+  pub turned-stays : startAt ≡ j .start → TurnDone (record { job = j; count = n }) ms fs
+  turned-stays e = record {
+    job-is = stays-put e;
+    profile = subst (λ (k : Job). IsProfile (S .nodes) (spans S (q .xs ++ k ∷ q .ys)) now n ms fs) (stays-put e) (q .profile);
   }
 
-  abbrev Shift : Type 0
-  Shift = Shifts ms₁ fs₁ r (spanAt (j .nodes) (j .start) hold) k (spanAt (j .nodes) (getD ms₁ k 0) hold)
+  -- the search has found another minute, with a place that is not later
+  pub record Moves (r : Found) : Type 0 where
+    pub minute : r .minute ≡ startAt
+    pub near-in : r .near < n
+    pub near-to : getD ms (r .near) 0 ≤ r .minute
 
-  pub shifts : Shift
-  shifts = rw (m .hold-is, start-is, ← moved-span q, ← span-at (q .settings) j (clean q)) from-own
+  module _ {o : Found} (m : Moves o) where
+    early-place : getD ms (o .near) 0 ≤ startAt
+    early-place = omega (arith, m .minute, m .near-to)
 
-  pub turned-moves : {n₂ : ℕ} {ms₂ fs₂ : List ℕ} → ((l : Shift) → Shifted l n₂ ms₂ fs₂)
-      → TurnDone q (record { job = placed now (getD ms₁ k 0) j; count = n₂ }) ms₂ fs₂
-  unfolding from-own take-out
-  turned-moves g =
-      let u = (rw (m .hold-is, start-is, ← moved-span q, ← span-at (q .settings) j (clean q)) at g) from-own in
-      record { job-is = ap (λ (i : ℕ). placed now i j) start-is ∙ sym (moved-is q); table = u .table; most = omega (arith, u .most, m .split .most) }
+    -- taken out
+    take-out : Lifting ms fs (o .near) n (span S j)
+    take-out = record {
+      machine = S .nodes;
+      spans = spans S (q .xs ++ j ∷ q .ys);
+      others = spans S others;
+      now = now;
+      profile = q .profile;
+      few = omega (arith, few);
+      machine-to = q .fits .nodes-to;
+      clock = q .fits .clock-to;
+      ends = ends;
+      until = end-of;
+      room = q .fits .room;
+      among = λ t l. among t j;
+      near-in = m .near-in;
+      near-to = omega (arith, early-place, start-low, moved-start);
+    }
+
+    module _ (else : startAt ≢ j .start) {r : Row} {ms₁ fs₁ : List ℕ}
+        (f : (l : Lifting ms fs (o .near) n (span S j)) → Changed (l .machine) (l .others) (l .now) (span S j) ms fs n r ms₁ fs₁) where
+      out : Changed (S .nodes) (spans S others) now (span S j) ms fs n r ms₁ fs₁
+      unfolding take-out
+      out = f take-out
+
+      still : o .near < r .at
+      still = out .early (o .near) (m .near-in) (omega (arith, early-place, start-low, moved-start))
+
+      -- and laid in again
+      back : Laying ms₁ fs₁ (o .near) (r .count) (span S movedTo)
+      back = record {
+        machine = S .nodes;
+        spans = spans S others;
+        now = now;
+        profile = out .profile;
+        few = omega (arith, length-map others (span S), length-append (q .xs) (q .ys), length-append (q .xs) (j ∷ q .ys), q .fits .all);
+        clock = q .fits .clock-to;
+        ends = last-slots S (horizon S) others (λ k i. slot-ends (q .fits) k (others-in k i));
+        until = end-after;
+        room = room-after;
+        near-in = omega (arith, still, out .new);
+        near-to = omega (arith, out .before (o .near) still .0, early-place, moved-start);
+      }
+
+      turned-moves : {r₂ : Row} {ms₂ fs₂ : List ℕ}
+          → ((l : Laying ms₁ fs₁ (o .near) (r .count) (span S movedTo))
+          → Changed (l .machine) (span S movedTo ∷ l .spans) (l .now) (span S movedTo) ms₁ fs₁ (r .count) r₂ ms₂ fs₂)
+          → TurnDone (record { job = movedTo; count = r₂ .count }) ms₂ fs₂
+      unfolding back
+      turned-moves g = record { job-is = refl; profile = exact-same (spans S (q .xs ++ movedTo ∷ q .ys)) (g back .profile) (λ t l. sym (among t movedTo)) }
+
+  -- the same in the words of the code
+  module _ {hold : ℕ} (w : hold ≡ holdTime S (j .estimate)) where
+    pub seeks-hold : Seeks ms fs (j .start) (j .nodes) hold
+    seeks-hold = rw w seeks
+
+    pub moves : {o : Found} → ((l : Seeks ms fs (j .start) (j .nodes) hold) → Finds l o) → Moves o
+    unfolding seeks
+    moves f = let k = (rw w at f) seeks in record { minute = k .minute; near-in = k .near-in; near-to = k .near-to }
+
+    module _ {o : Found} (m : Moves o) where
+      pub lifts : Lifting ms fs (o .near) n (spanAt (j .nodes) (j .start) hold)
+      lifts = rw (w, ← span-at S j clean) (take-out m)
+
+      module _ (else : o .minute ≢ j .start) {r : Row} {ms₁ fs₁ : List ℕ}
+          (f : (l : Lifting ms fs (o .near) n (spanAt (j .nodes) (j .start) hold))
+          → Changed (l .machine) (l .others) (l .now) (spanAt (j .nodes) (j .start) hold) ms fs n r ms₁ fs₁) where
+        moving : startAt ≢ j .start
+        moving e = else (m .minute ∙ e)
+
+        abbrev after : Span
+        after = spanAt (j .nodes) (o .minute) hold
+
+        pub lays : Laying ms₁ fs₁ (o .near) (r .count) after
+        lays = rw (w, m .minute, ← moved-span) (back m moving (rw (w, ← span-at S j clean) at f))
+
+        pub turned : {r₂ : Row} {ms₂ fs₂ : List ℕ}
+            → ((l : Laying ms₁ fs₁ (o .near) (r .count) after) → Changed (l .machine) (after ∷ l .spans) (l .now) after ms₁ fs₁ (r .count) r₂ ms₂ fs₂)
+            → TurnDone (record { job = placed now (o .minute) j; count = r₂ .count }) ms₂ fs₂
+        turned g =
+            rw (m .minute, ← moved-is) (turned-moves m moving (rw (w, ← span-at S j clean) at f) (rw (w, m .minute, ← moved-span) at g))

@@ -1,2 +1,2 @@
 pub mod StoredProfile
-pub mod TablePoints
+pub mod CopiedPoints

@@ -9,6 +9,7 @@ use lib.ListN.{length}
 use Rattle.spans.specs.declared.Span.{Span}
 use Rattle.spans.specs.declared.Point.{Point}
 use Rattle.spans.specs.Spans.{earliest, profile}
+use Rattle.spans.specs.Index.{reads}
 use Rattle.scheduler.specs.declared.State.{State}
 use Rattle.scheduler.specs.declared.State.the-variants.{Waiting, Running}
 use Rattle.scheduler.specs.declared.Job.{Job}
@@ -55,18 +56,18 @@ withNew m o s = joined m (newJob m o s)
 abbrev pub points : Model → List Point
 points m = profile (m .settings .nodes) (spans (m .settings) (m .jobs)) (m .clock)
 
--- "more than 129 points": with the new job in it
-abbrev pub maxPoints : ℕ
-maxPoints = 129
-
--- "intake 1, 2, 4, 5, 6, 8", where s is the planned start
+-- "intake 1, 2, .. 5, 6", and by document 02, No. 4, 14 first and 15 "in place of 4", where s is the planned start; by No. 5, 8 is out "of the
+-- table and the intake order"
 unfoldable pub submitRefusal : Model → Submission → ℕ → Refusal
 submitRefusal m o s =
     verdict
     (submitTests m o
     ((ltb (horizon (m .settings)) (s + holdTime (m .settings) (o .estimate)), refusal.PastHorizon)
-    ∷ (ltb maxPoints (length (points (withNew m o s))), refusal.ProfileTooLong)
     ∷ []))
+
+-- document 02, No. 5: "and also gives how many it read": points of the profile before the submission, up to the end of the hold
+abbrev pub readsFor : Model → Submission → ℕ → ℕ
+readsFor m o s = reads (points m) (o .nodes) (s + holdTime (m .settings) (o .estimate))
 
 unfoldable pub submitted : Model → Submission → ℕ → Result
 submitted m o s = record {
@@ -74,6 +75,7 @@ submitted m o s = record {
     refusal = refusal.None;
     ticket = m .next;
     promise = s;
+    reads = readsFor m o s;
     ended = [];
     started = cond (eqb s (m .clock)) (m .next ∷ []) [];
     head = none;
@@ -100,6 +102,7 @@ advanced m clock s after = record {
     refusal = refusal.None;
     ticket = 0;
     promise = 0;
+    reads = 0;
     ended = endedOf s (m .jobs);
     started = begun (remaining (m .settings) clock s (m .jobs)) after;
     head = none;
@@ -137,12 +140,6 @@ unfoldable pub ticked : Model → Result
 ticked m =
     advanced m (suc (m .clock)) (ending m)
     (map (turned (suc (m .clock))) (remaining (m .settings) (suc (m .clock)) (ending m) (m .jobs)))
-
--- ## Profile
-
--- 10: "the lent list, page or text is shorter than what goes into it"
-unfoldable pub profileRefusal : Model → ℕ → Refusal
-profileRefusal m room = verdict ((ltb room (length (points m)), refusal.TooShort) ∷ [])
 
 -- ## All calls
 

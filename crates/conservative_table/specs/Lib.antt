@@ -1,4 +1,8 @@
 pub mod ListChanges
 pub mod Table
+pub mod Points
+pub mod Join
 pub mod LaidSpans
+pub mod Advance
+pub mod ProfileLists
 pub mod Search

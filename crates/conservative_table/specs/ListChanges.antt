@@ -1,4 +1,4 @@
--- What becomes of a list of numbers in which one is inserted, or some are changed, place by place.
+-- What becomes of a list of numbers in which one is inserted, or some leave or are changed, place by place.
 -- Assumes nothing.
 use Prim.Native.Nat.{ℕ, _+_, _-_, _≤_, _<_}
 use mathlib.Core.Path.{_≡_}
@@ -7,9 +7,9 @@ use mathlib.Core.List.{List}
 use lib.ListN.{getD, length}
 use Rattle.scheduler.specs.Limits.{maxNodes}
 
--- one place for now, two for each of 64 jobs, and four for each that moves
+-- one point for now, two for each of 64 jobs, and two while a span is laid or taken out
 abbrev pub rows : ℕ
-rows = 385
+rows = 131
 
 -- the free nodes, from those before: some are given back, or taken
 abbrev pub changed : Bool → ℕ → ℕ → ℕ
@@ -27,6 +27,12 @@ pub record Inserted (xs : List ℕ) (n k v : ℕ) (ys : List ℕ) : Type 0 where
   pub before : (j : ℕ) → j < k → getD ys j 0 ≡ getD xs j 0
   pub here : getD ys k 0 ≡ v
   pub after : (j : ℕ) → k ≤ j → j < n → getD ys (j + 1) 0 ≡ getD xs j 0
+
+-- `by` places leave the first n from k on; those after them move down
+pub record Removed (xs : List ℕ) (n k by : ℕ) (ys : List ℕ) : Type 0 where
+  pub long : length ys ≡ length xs
+  pub before : (j : ℕ) → j < k → getD ys j 0 ≡ getD xs j 0
+  pub after : (j : ℕ) → k ≤ j → j + by < n → getD ys j 0 ≡ getD xs (j + by) 0
 
 -- `nodes` nodes can be taken, or given back, from one place up to another
 pub record Adjustable (xs : List ℕ) (from to nodes : ℕ) (release : Bool) : Type 0 where

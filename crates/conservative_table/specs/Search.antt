@@ -1,76 +1,144 @@
--- The earliest start in a table: one pass over the places before the one from which on the job's nodes are there for it. That is where
--- it stands in the plan already, or the last place, from which on all nodes are free.
+-- The earliest start of a job that stands in the plan, sought in the table with the job in it: before its start the others leave as much,
+-- and from its start on its own nodes are there for it. So only the places before its start are looked at.
 -- Assumes nothing.
-use Prim.Native.Nat.{ℕ, zero, suc, _+_, _≤_, _<_}
+use Prim.Native.Nat.{ℕ, zero, suc, _+_, _-_, min, _≤_, _<_}
 use native.Mathlib.Omega.{arith}
-use mathlib.Core.Path.{_≡_, refl, ap, _∙_}
+use native.Mathlib.Numerals.{add-one}
+use mathlib.Core.Path.{_≡_, refl, ap, subst}
 use mathlib.Core.List.{List}
 use mathlib.Core.Logic.{_⊎_, inl, inr}
-use lib.ListN.{getD}
+use lib.ListN.{getD, length}
 use Rattle.lists.specs.Tests.{le-or}
 use Rattle.spans.specs.declared.Span.{Span}
-use Rattle.spans.specs.Spans.{free, earliest, Fits}
+use Rattle.spans.specs.Spans.{free, lastEnd, earliest, Fits}
+use Rattle.spans.specs.UsedNodes.{used-last}
 use Rattle.spans.specs.EarliestStart.{earliest-is, earliest-unique}
-use Rattle.scheduler.specs.Limits.{horizon, longestHold}
+use Rattle.scheduler.specs.Limits.{longestHold}
+use Rattle.conservative_table.specs.declared.Found.{Found}
 use Rattle.conservative_table.specs.ListChanges.{rows}
 use Rattle.conservative_table.specs.Table.{Table, table-rise}
 
--- the lists are a table of the spans before; without the job, which has n nodes for h minutes, they are the others
-pub record Seeks (ms fs : List ℕ) (at n h : ℕ) : Type 0 where
-  pub nodes : ℕ
-  pub before : List Span
+-- the lists are a table of all spans; without the job, which has n nodes for h minutes from start on, they are the others
+pub record Seeks (ms fs : List ℕ) (start n h : ℕ) : Type 0 where
+  pub machine : ℕ
+  pub all : List Span
   pub others : List Span
   pub now : ℕ
   pub count : ℕ
-  pub table : Table (free nodes before) now count ms fs
-  pub inside : at < count
+  pub table : Table (free machine all) now count ms fs
   pub fit : count ≤ rows
-  pub enough : n ≤ nodes
+  pub enough : n ≤ machine
   pub some : 1 ≤ h
-  pub early : (t : ℕ) → now ≤ t → t < getD ms at 0 → free nodes others t ≡ free nodes before t
-  pub late : (t : ℕ) → getD ms at 0 ≤ t → t < getD ms at 0 + h → n ≤ free nodes others t
   pub hold-to : h ≤ longestHold
+  pub ahead : now ≤ start
+  pub early : (t : ℕ) → now ≤ t → t < start → free machine others t ≡ free machine all t
+  pub late : (t : ℕ) → start ≤ t → t < start + h → n ≤ free machine others t
+  pub taken : free machine all start < machine
 
-abbrev pub found : {ms fs : List ℕ} {at n h : ℕ} → Seeks ms fs at n h → ℕ
-found {n = n} {h = h} s = earliest (s .nodes) (s .others) (s .now) n h
+abbrev pub found : {ms fs : List ℕ} {start n h : ℕ} → Seeks ms fs start n h → ℕ
+found {n = n} {h = h} s = earliest (s .machine) (s .others) (s .now) n h
 
--- r is the place of the earliest minute
-pub record Found {ms fs : List ℕ} {at n h : ℕ} (s : Seeks ms fs at n h) (r : ℕ) : Type 0 where
-  pub inside : r ≤ at
-  pub minute : getD ms r 0 ≡ found s
+-- r is the earliest minute, with a place of the table that is not later
+pub record Finds {ms fs : List ℕ} {start n h : ℕ} (s : Seeks ms fs start n h) (r : Found) : Type 0 where
+  pub minute : r .minute ≡ found s
+  pub near-in : r .near < s .count
+  pub near-to : getD ms (r .near) 0 ≤ r .minute
 
--- k is the first place after i that is the last one to look at, or whose minute is not before u, or at which too few are free
-pub record Reached (ms fs : List ℕ) (i at n u k : ℕ) : Type 0 where
-  pub above : i < k
-  pub to : k ≤ at
-  pub enough : (j : ℕ) → i < j → j < k → n ≤ getD fs j 0
-  pub few : k < at → getD ms k 0 < u → getD fs k 0 < n
+-- from place i on there is one whose minute is not before u
+pub record Bounded (ms fs : List ℕ) (i u : ℕ) : Type 0 where
+  pub minutes-long : length ms ≡ rows
+  pub free-long : length fs ≡ rows
+  pub last : ℕ
+  pub after : i ≤ last
+  pub fit : last < rows
+  pub late : u ≤ getD ms last 0
 
--- no minute before that of place i will do
-pub record Past (ms fs : List ℕ) (at n h i : ℕ) : Type 0 where
-  pub to : i ≤ at
-  pub none : (s : Seeks ms fs at n h) (r : ℕ) → s .now ≤ r → Fits (free (s .nodes) (s .others)) n h r → getD ms i 0 ≤ r
+-- the places from i up to k are before u, and P holds of them
+pub record Going (ms : List ℕ) (P : ℕ → Type 0) (i u k : ℕ) : Type 0 where
+  pub above : i ≤ k
+  pub fit : k < rows
+  pub to : (j : ℕ) → i ≤ j → u ≤ getD ms j 0 → k ≤ j
+  pub each : (j : ℕ) → i ≤ j → j < k → P j
 
-module _ {ms fs : List ℕ} {at n h : ℕ} (s : Seeks ms fs at n h) where
+module _ {ms fs : List ℕ} (P : ℕ → Type 0) {i u : ℕ} (b : Bounded ms fs i u) where
+  pub going-begin : Going ms P i u i
+  going-begin = record { above = omega arith; fit = omega (arith, b .after, b .fit); to = λ j a l. a; each = λ j a l. absurd (omega arith) }
+
+  pub going-on : {k : ℕ} → Going ms P i u k → getD ms k 0 < u → P k → Going ms P i u (k + 1)
+  going-on {k} v l p = record {
+    above = omega (arith, v .above);
+    fit = omega (arith, to (b .last) (b .after) (b .late), b .fit);
+    to = to;
+    each = λ j a c. go j a c (le-or k j);
+  }
+    where
+      late : (j : ℕ) → u ≤ getD ms j 0 → k ≤ j → (j ≤ k) ⊎ (k < j) → k + 1 ≤ j
+      late j a c (inl d) = let q : j ≡ k = omega arith in absurd (omega (arith, ap (λ (m : ℕ). getD ms m 0) q))
+      late j a c (inr d) = omega arith
+
+      to : (j : ℕ) → i ≤ j → u ≤ getD ms j 0 → k + 1 ≤ j
+      to j a c = late j c (v .to j a c) (le-or j k)
+
+      go : (j : ℕ) → i ≤ j → j < k + 1 → (k ≤ j) ⊎ (j < k) → P j
+      go j a c (inl d) = let q : k ≡ j = omega arith in subst P q p
+      go j a c (inr d) = v .each j a d
+
+abbrev pub enough : List ℕ → ℕ → ℕ → Type 0
+enough fs n j = n ≤ getD fs j 0
+
+abbrev pub few : List ℕ → ℕ → ℕ → Type 0
+few fs n j = getD fs j 0 < n
+
+-- k is the first place from i on whose minute is not before u, or at which too few are free; or at which nodes enough are
+pub record Reached (ms fs : List ℕ) (i n u k : ℕ) : Type 0 where
+  pub going : Going ms (enough fs n) i u k
+  pub stop : getD ms k 0 < u → few fs n k
+
+pub record Skipped (ms fs : List ℕ) (i n u k : ℕ) : Type 0 where
+  pub going : Going ms (few fs n) i u k
+  pub stop : getD ms k 0 < u → enough fs n k
+
+-- before the job's start no minute before that of place i will do
+pub record Past (ms fs : List ℕ) (start n h i : ℕ) : Type 0 where
+  pub inside : (s : Seeks ms fs start n h) → i < s .count
+  pub none : (s : Seeks ms fs start n h) (r : ℕ) → s .now ≤ r → r < start → Fits (free (s .machine) (s .others)) n h r → getD ms i 0 ≤ r
+
+-- and place i is not before the start, or has nodes enough
+pub record Standing (ms fs : List ℕ) (start n h i : ℕ) : Type 0 where
+  pub fit : i < rows
+  pub past : Past ms fs start n h i
+  pub here : getD ms i 0 < start → enough fs n i
+
+module _ {ms fs : List ℕ} {start n h : ℕ} (s : Seeks ms fs start n h) where
   abbrev f : ℕ → ℕ
-  f = free (s .nodes) (s .others)
+  f = free (s .machine) (s .all)
 
-  pub up-to : (i : ℕ) → i ≤ at → getD ms i 0 ≤ horizon
-  up-to i l = s .table .low i (omega (arith, s .inside))
+  abbrev g : ℕ → ℕ
+  g = free (s .machine) (s .others)
 
-  rises : (i k : ℕ) → i ≤ k → k ≤ at → getD ms i 0 ≤ getD ms k 0
-  rises i k l m = table-rise (s .table) i k l (omega (arith, s .inside))
+  rises : (i k : ℕ) → i ≤ k → k < s .count → getD ms i 0 ≤ getD ms k 0
+  rises = table-rise (s .table)
 
-  -- in each place before, the others leave what the table says
-  value : (i : ℕ) → i < at → (r : ℕ) → getD ms i 0 ≤ r → r < getD ms (i + 1) 0 → f r ≡ getD fs i 0
-  value i l r u v =
-      s .early r (omega (arith, s .table .first, rises 0 i (omega arith) (omega arith))) (omega (arith, rises (i + 1) at (omega arith) (omega arith)))
-      ∙ s .table .value i r (omega (arith, s .inside)) u (λ k. v)
+  -- a place before the job's start is not the last: from the last on all nodes are free
+  more : (i : ℕ) → i < s .count → getD ms i 0 < start → i + 1 < s .count
+  more i l e = go (le-or (s .count) (i + 1))
+    where
+      go : (s .count ≤ i + 1) ⊎ (i + 1 < s .count) → i + 1 < s .count
+      go (inr u) = u
+      go (inl u) =
+          let t : ℕ = start + lastEnd (s .all) in
+          let v = s .table .value i t l (omega arith) (λ z. absurd (omega arith)) in
+          let w = s .table .value i start l (omega arith) (λ z. absurd (omega arith)) in
+          absurd (omega (arith, v, w, used-last t (s .all) (omega arith), s .taken))
 
-  here : (i : ℕ) → i < at → f (getD ms i 0) ≡ getD fs i 0
-  here i l = value i l (getD ms i 0) (omega arith) (s .table .rise i (omega (arith, s .inside)))
+  value : (i r : ℕ) → i + 1 < s .count → getD ms i 0 ≤ r → r < getD ms (i + 1) 0 → f r ≡ getD fs i 0
+  value i r l u v = s .table .value i r (omega arith) u (λ k. v)
 
-  covers : (i k : ℕ) → k ≤ at → ((j : ℕ) → i ≤ j → j < k → n ≤ getD fs j 0) → (r : ℕ) → getD ms i 0 ≤ r → r < getD ms k 0 → i ≤ k → n ≤ f r
+  from-now : (i : ℕ) → i < s .count → s .now ≤ getD ms i 0
+  from-now i l = omega (arith, s .table .first, rises 0 i (omega arith) l)
+
+  -- the nodes are free from one place up to another
+  covers : (i k : ℕ) → k < s .count → ((j : ℕ) → i ≤ j → j < k → n ≤ getD fs j 0) → (r : ℕ) → getD ms i 0 ≤ r → r < getD ms k 0 → i ≤ k → n ≤ f r
   covers i zero l e r u v w = let z : i ≡ 0 = omega arith in absurd (omega (arith, ap (λ (j : ℕ). getD ms j 0) z))
   covers i (suc k) l e r u v w = go (covers i k (omega arith) (λ j a b. e j a (omega arith)) r u) (le-or (getD ms k 0) r) (le-or i k)
     where
@@ -78,64 +146,133 @@ module _ {ms fs : List ℕ} {at n h : ℕ} (s : Seeks ms fs at n h) where
       go c y (inr z) = let q : i ≡ suc k = omega arith in absurd (omega (arith, ap (λ (j : ℕ). getD ms j 0) q))
       go c (inl y) (inl z) =
           let q : k + 1 ≡ suc k = omega arith in
-          omega (arith, e k z (omega arith), value k (omega arith) r y (omega (arith, ap (λ (j : ℕ). getD ms j 0) q)))
+          omega (arith, e k z (omega arith), value k r (omega arith) y (omega (arith, ap (λ (j : ℕ). getD ms j 0) q)))
       go c (inr y) (inl z) = c y z
 
-  module _ (i : ℕ) (p : Past ms fs at n h i) where
-    found-here : Fits f n h (getD ms i 0) → Found s i
-    found-here g = record {
-      inside = p .to;
-      minute =
-          earliest-unique f f (s .now) n h _ _ (λ r w. refl)
-          (record { later = omega (arith, s .table .first, rises 0 i (omega arith) (p .to)); fit = g; smallest = p .none s })
-          (earliest-is (s .nodes) (s .others) (s .now) n h (s .enough));
+  is-found : {a : ℕ} → s .now ≤ a → Fits g n h a → ((r : ℕ) → s .now ≤ r → r < start → Fits g n h r → a ≤ r) → a ≤ start → a ≡ found s
+  is-found {a} u v w l =
+      earliest-unique g g (s .now) n h _ _ (λ r z. refl)
+      (record { later = u; fit = v; smallest = λ r y z. smallest r y z (le-or start r) })
+      (earliest-is (s .machine) (s .others) (s .now) n h (s .enough))
+    where
+      smallest : (r : ℕ) → s .now ≤ r → Fits g n h r → (start ≤ r) ⊎ (r < start) → a ≤ r
+      smallest r y z (inl x) = omega arith
+      smallest r y z (inr x) = w r y x z
+
+module _ {ms fs : List ℕ} {start n h : ℕ} (q : Seeks ms fs start n h) where
+  pub past-begin : Past ms fs start n h 0
+  past-begin = record { inside = λ s. s .table .some; none = λ s r u v w. omega (arith, s .table .first) }
+
+  -- the last place is not before the start
+  last-late : (s : Seeks ms fs start n h) → start ≤ getD ms (s .count - 1) 0
+  last-late s = go (le-or start (getD ms (s .count - 1) 0))
+    where
+      go : (start ≤ getD ms (s .count - 1) 0) ⊎ (getD ms (s .count - 1) 0 < start) → start ≤ getD ms (s .count - 1) 0
+      go (inl u) = u
+      go (inr u) = absurd (omega (arith, more s (s .count - 1) (omega (arith, s .table .some)) u, s .table .some))
+
+  bounded : {i u : ℕ} → i < q .count → u ≤ start → Bounded ms fs i u
+  bounded l v = record {
+    minutes-long = q .table .minutes-long;
+    free-long = q .table .free-long;
+    last = q .count - 1;
+    after = omega arith;
+    fit = omega (arith, q .fit, q .table .some);
+    late = omega (arith, last-late q);
+  }
+
+  -- what was reached lies in the table
+  inside-going : {P : ℕ → Type 0} {i u k : ℕ} → Going ms P i u k → u ≤ start → (s : Seeks ms fs start n h) → i < s .count → k < s .count
+  inside-going v l s m = omega (arith, v .to (s .count - 1) (omega arith) (omega (arith, last-late s)), s .table .some)
+
+  module _ {i : ℕ} (p : Past ms fs start n h i) where
+    pub past-bounded : Bounded ms fs i start
+    past-bounded = bounded (p .inside q) (omega arith)
+
+    -- the job stays where it is
+    pub past-last : start ≤ getD ms i 0 → (s : Seeks ms fs start n h) → Finds s (record { minute = start; near = 0 })
+    past-last l s = record {
+      minute = is-found s (s .ahead) (s .late) (λ r u v w. omega (arith, p .none s r u v w)) (omega arith);
+      near-in = s .table .some;
+      near-to = omega (arith, s .table .first, s .ahead);
     }
 
-    -- they are free up to a place that is late enough
-    found-far : (k : ℕ) → i ≤ k → k ≤ at → ((j : ℕ) → i ≤ j → j < k → n ≤ getD fs j 0) → getD ms i 0 + h ≤ getD ms k 0 → Found s i
-    found-far k w l e m = found-here (λ r u v. covers i k l e r u (omega arith) w)
-
-    -- they are free up to the last place to look at, and from there on they are there for it
-    found-end : ((j : ℕ) → i ≤ j → j < at → n ≤ getD fs j 0) → Found s i
-    found-end e = found-here (λ r u v. go r u v (le-or (getD ms at 0) r))
-      where
-        go : (r : ℕ) → getD ms i 0 ≤ r → r < getD ms i 0 + h → (getD ms at 0 ≤ r) ⊎ (r < getD ms at 0) → n ≤ f r
-        go r u v (inl k) = s .late r k (omega (arith, rises i at (p .to) (omega arith)))
-        go r u v (inr k) = covers i at (omega arith) e r u k (p .to)
-
     -- too few are free in a place that a stretch from here would cross
-    none-from : (k : ℕ) → i ≤ k → k < at → getD fs k 0 < n → getD ms k 0 < getD ms i 0 + h → (r : ℕ) → s .now ≤ r → Fits f n h r → getD ms (k + 1) 0 ≤ r
-    none-from k w l e m r u g = go (le-or (getD ms (k + 1) 0) r) (le-or r (getD ms k 0))
+    past-cross : (k : ℕ) → i ≤ k → getD ms k 0 < min (getD ms i 0 + h) start → few fs n k → ((s : Seeks ms fs start n h) → k < s .count)
+        → Past ms fs start n h (k + 1)
+    past-cross k l m f inside = record {
+      inside = λ s. more s k (inside s) (omega arith);
+      none = λ s r u v w. go s r u v w (more s k (inside s) (omega arith)) (le-or (getD ms (k + 1) 0) r) (le-or r (getD ms k 0));
+    }
       where
-        go : (getD ms (k + 1) 0 ≤ r) ⊎ (r < getD ms (k + 1) 0) → (r ≤ getD ms k 0) ⊎ (getD ms k 0 < r) → getD ms (k + 1) 0 ≤ r
-        go (inl y) z = y
-        go (inr y) (inl z) = absurd (omega (arith, g (getD ms k 0) z (omega (arith, p .none s r u g)), here k l))
-        go (inr y) (inr z) = absurd (omega (arith, g r (omega arith) (omega (arith, s .some)), value k l r (omega arith) y))
+        go : (s : Seeks ms fs start n h) (r : ℕ) → s .now ≤ r → r < start → Fits (g s) n h r → k + 1 < s .count
+            → (getD ms (k + 1) 0 ≤ r) ⊎ (r < getD ms (k + 1) 0) → (r ≤ getD ms k 0) ⊎ (getD ms k 0 < r) → getD ms (k + 1) 0 ≤ r
+        go s r u v w c (inl y) z = y
+        go s r u v w c (inr y) (inl z) =
+            absurd (omega (
+              arith,
+              w (getD ms k 0) z (omega (arith, p .none s r u v w)),
+              s .early (getD ms k 0) (from-now s k (inside s)) (omega arith),
+              value s k (getD ms k 0) c (omega arith) (omega (arith, s .table .rise k c)),
+            ))
+        go s r u v w c (inr y) (inr z) = absurd (omega (arith, w r (omega arith) (omega (arith, s .some)), s .early r u v, value s k r c (omega arith) y))
 
-module _ {ms fs : List ℕ} {at n h : ℕ} where
-  pub past-begin : Past ms fs at n h 0
-  past-begin = record { to = omega arith; none = λ s r u g. omega (arith, s .table .first) }
+  -- no minute of the places passed will do
+  past-skipped : {i : ℕ} → Past ms fs start n h i → (k : ℕ) → i ≤ k → ((j : ℕ) → i ≤ j → j < k → (getD ms j 0 < start) × few fs n j) → Past ms fs start n h k
+  past-skipped {i} p zero l e = let z : i ≡ 0 = omega arith in subst (Past ms fs start n h) z p
+  past-skipped {i} p (suc k) l e = go (le-or i k) (λ m. past-skipped p k m (λ j a b. e j a (omega arith)))
+    where
+      go : (i ≤ k) ⊎ (k < i) → (i ≤ k → Past ms fs start n h k) → Past ms fs start n h (suc k)
+      go (inr m) f = let z : i ≡ suc k = omega arith in subst (Past ms fs start n h) z p
+      go (inl m) f =
+          let v = e k m (omega arith) in
+          subst (Past ms fs start n h) (add-one k) (past-cross (f m) k (omega arith) (omega (arith, v .0, q .some)) (v .1) (f m .inside))
 
-  pub past-last : {i : ℕ} → Past ms fs at n h i → at ≤ i → (s : Seeks ms fs at n h) → Found s at
-  past-last {i} p l s = let e : i ≡ at = omega (arith, p .to) in found-end s at (rw e at p) (λ j a b. absurd (omega arith))
+  pub skipped : {i k : ℕ} → Past ms fs start n h i → Skipped ms fs i n start k → Standing ms fs start n h k
+  skipped {i} {k} p z = record {
+    fit = z .going .fit;
+    past = past-skipped p k (z .going .above) (λ j a b. (before j a b (le-or start (getD ms j 0)), z .going .each j a b));
+    here = z .stop;
+  }
+    where
+      before : (j : ℕ) → i ≤ j → j < k → (start ≤ getD ms j 0) ⊎ (getD ms j 0 < start) → getD ms j 0 < start
+      before j a b (inl u) = absurd (omega (arith, z .going .to j a u))
+      before j a b (inr u) = u
 
-  module _ {i : ℕ} (p : Past ms fs at n h i) (l : i < at) where
-    pub past-few : getD fs i 0 < n → Past ms fs at n h (i + 1)
-    past-few e = record { to = omega arith; none = λ s. none-from s i p i (omega arith) l e (omega (arith, s .some)) }
+  module _ {i : ℕ} (t : Standing ms fs start n h i) (e : getD ms i 0 < start) where
+    abbrev u : ℕ
+    u = min (getD ms i 0 + h) start
 
-    module _ (e : n ≤ getD fs i 0) {k : ℕ} (z : Reached ms fs i at n (getD ms i 0 + h) k) where
-      enough : (j : ℕ) → i ≤ j → j < k → n ≤ getD fs j 0
-      enough j a b = go (le-or j i)
+    pub reach-bounded : Bounded ms fs (i + 1) u
+    reach-bounded = bounded (more q i (t .past .inside q) e) (omega arith)
+
+    module _ {k : ℕ} (z : Reached ms fs (i + 1) n u k) where
+      inside-reached : (s : Seeks ms fs start n h) → k < s .count
+      inside-reached s = inside-going (z .going) (omega arith) s (more s i (t .past .inside s) e)
+
+      pub past-reached : getD ms k 0 < u → Past ms fs start n h (k + 1)
+      past-reached m = past-cross (t .past) k (omega (arith, z .going .above)) m (z .stop m) inside-reached
+
+      all-enough : (j : ℕ) → i ≤ j → j < k → n ≤ getD fs j 0
+      all-enough j a b = go (le-or j i)
         where
           go : (j ≤ i) ⊎ (i < j) → n ≤ getD fs j 0
-          go (inl c) = let q : j ≡ i = omega arith in omega (arith, ap (λ (m : ℕ). getD fs m 0) q)
-          go (inr c) = z .enough j c b
+          go (inl c) = let q : j ≡ i = omega arith in omega (arith, t .here e, ap (λ (m : ℕ). getD fs m 0) q)
+          go (inr c) = z .going .each j (omega arith) b
 
-      pub past-end : k ≡ at → (s : Seeks ms fs at n h) → Found s i
-      past-end q s = found-end s i p (λ j a b. enough j a (omega arith))
-
-      pub past-far : getD ms i 0 + h ≤ getD ms k 0 → (s : Seeks ms fs at n h) → Found s i
-      past-far m s = found-far s i p k (omega (arith, z .above)) (z .to) enough m
-
-      pub past-skip : k < at → getD ms k 0 < getD ms i 0 + h → Past ms fs at n h (k + 1)
-      past-skip a m = record { to = omega arith; none = λ s. none-from s i p k (omega (arith, z .above)) a (z .few a m) m }
+      -- they are free up to there, or up to the start, from which on they are there for it
+      pub found-reached : u ≤ getD ms k 0 → (s : Seeks ms fs start n h) → Finds s (record { minute = getD ms i 0; near = i })
+      found-reached m s = record {
+        minute = is-found s (from-now s i (t .past .inside s)) (λ r a b. go r a b (le-or start r)) (t .past .none s) (omega arith);
+        near-in = t .past .inside s;
+        near-to = omega arith;
+      }
+        where
+          go : (r : ℕ) → getD ms i 0 ≤ r → r < getD ms i 0 + h → (start ≤ r) ⊎ (r < start) → n ≤ g s r
+          go r a b (inl y) = s .late r y (omega arith)
+          go r a b (inr y) =
+              omega (
+                arith,
+                s .early r (omega (arith, from-now s i (t .past .inside s))) y,
+                covers s i k (inside-reached s) all-enough r a (omega arith) (omega (arith, z .going .above)),
+              )

@@ -21,26 +21,6 @@ pub record Table (f : ℕ → ℕ) (now n : ℕ) (ms fs : List ℕ) : Type 0 whe
   pub rise : (i : ℕ) → i + 1 < n → getD ms i 0 < getD ms (i + 1) 0
   pub value : (i t : ℕ) → i < n → getD ms i 0 ≤ t → (i + 1 < n → t < getD ms (i + 1) 0) → f t ≡ getD fs i 0
 
--- the table of a machine on which no node is taken
-pub record Opened (nodes now : ℕ) (ms fs : List ℕ) : Type 0 where
-  pub minutes-long : length ms ≡ rows
-  pub free-long : length fs ≡ rows
-  pub minute : getD ms 0 0 ≡ now
-  pub left : getD fs 0 0 ≡ nodes
-
-pub opened-table : (f : ℕ → ℕ) (nodes now : ℕ) (ms fs : List ℕ) → Opened nodes now ms fs → now ≤ horizon → ((t : ℕ) → now ≤ t → f t ≡ nodes)
-    → Table f now 1 ms fs
-opened-table f nodes now ms fs o h e = record {
-  minutes-long = o .minutes-long;
-  free-long = o .free-long;
-  some = omega arith;
-  first = o .minute;
-  low = λ i l. let z : i ≡ 0 = omega arith in omega (arith, o .minute, ap (λ (k : ℕ). getD ms k 0) z);
-  rise = λ i l. absurd (omega arith);
-  value = λ i t l a b. let z : i ≡ 0 = omega arith in e t (omega (arith, o .minute, ap (λ (k : ℕ). getD ms k 0) z)) ∙ sym (o .left)
-      ∙ ap (λ (k : ℕ). getD fs k 0) (sym z);
-}
-
 -- minutes rise over any stretch
 pub table-rise : {f : ℕ → ℕ} {now n : ℕ} {ms fs : List ℕ} → Table f now n ms fs → (i j : ℕ) → i ≤ j → j < n → getD ms i 0 ≤ getD ms j 0
 table-rise {ms = ms} q i zero l h = let e : i ≡ 0 = omega arith in omega (arith, ap (λ (k : ℕ). getD ms k 0) e)
@@ -49,6 +29,9 @@ table-rise {ms = ms} q i (suc j) l h = go (λ k. table-rise q i j k (omega arith
     go : (i ≤ j → getD ms i 0 ≤ getD ms j 0) → (i ≤ j) ⊎ (j < i) → getD ms i 0 ≤ getD ms (suc j) 0
     go f (inl k) = let e : j + 1 ≡ suc j = omega arith in omega (arith, f k, q .rise j (omega arith), ap (λ (m : ℕ). getD ms m 0) e)
     go f (inr k) = let e : i ≡ suc j = omega arith in omega (arith, ap (λ (m : ℕ). getD ms m 0) e)
+
+pub table-rises : {f : ℕ → ℕ} {now n : ℕ} {ms fs : List ℕ} → Table f now n ms fs → (i j : ℕ) → i < j → j < n → getD ms i 0 < getD ms j 0
+table-rises q i j l h = omega (arith, q .rise i (omega arith), table-rise q (i + 1) j (omega arith) h)
 
 -- a table of what is the same from now on
 pub table-same : {f g : ℕ → ℕ} {now n : ℕ} {ms fs : List ℕ} → ((t : ℕ) → now ≤ t → g t ≡ f t) → Table f now n ms fs → Table g now n ms fs
@@ -62,13 +45,12 @@ table-same e q = record {
   value = λ i t l a b. e t (omega (arith, q .first, table-rise q 0 i (omega arith) l)) ∙ q .value i t l a b;
 }
 
--- a search for the place of minute t, from place a on, stays inside
+-- a search for the place of minute t, after the place a, stays inside
 pub record Ascends (ms : List ℕ) (a n t : ℕ) : Type 0 where
   pub long : length ms ≡ rows
-  pub some : 1 ≤ a
-  pub low : a ≤ n
+  pub inside : a < n
   pub fit : n ≤ rows
-  pub last : getD ms (a - 1) 0 ≤ t
+  pub last : getD ms a 0 ≤ t
 
 -- r is the place after the last minute that is not later than t
 pub record Place (ms : List ℕ) (n t r : ℕ) : Type 0 where
@@ -76,6 +58,14 @@ pub record Place (ms : List ℕ) (n t r : ℕ) : Type 0 where
   pub low : r ≤ n
   pub last : getD ms (r - 1) 0 ≤ t
   pub next : r < n → t < getD ms r 0
+
+-- the places before k are as they were
+abbrev pub Before : ℕ → List ℕ → List ℕ → List ℕ → List ℕ → Type 0
+Before k ms fs ms′ fs′ = (j : ℕ) → j < k → (getD ms′ j 0 ≡ getD ms j 0) × (getD fs′ j 0 ≡ getD fs j 0)
+
+-- m is one of the first n minutes
+abbrev pub Among : List ℕ → ℕ → ℕ → Type 0
+Among ms n m = (j : ℕ) × (j < n) × (m ≡ getD ms j 0)
 
 -- The table has minute t in the place r, and says what it said; earlier minutes keep their places.
 pub record Split (ms fs : List ℕ) (n t : ℕ) (r : Row) (ms′ fs′ : List ℕ) : Type 0 where
@@ -85,6 +75,9 @@ pub record Split (ms fs : List ℕ) (n t : ℕ) (r : Row) (ms′ fs′ : List �
   pub grows : n ≤ r .count
   pub same : (f : ℕ → ℕ) (now : ℕ) → Table f now n ms fs → t ≤ horizon → Table f now (r .count) ms′ fs′
   pub kept : (f : ℕ → ℕ) (now : ℕ) → Table f now n ms fs → (j : ℕ) → j < n → getD ms j 0 ≤ t → getD ms′ j 0 ≡ getD ms j 0
+  pub from : (i : ℕ) → i < r .count → (getD ms′ i 0 ≡ t) ⊎ Among ms n (getD ms′ i 0)
+  pub before : Before (r .at) ms fs ms′ fs′
+  pub old : r .at ≤ n
 
 -- the minute is there
 pub split-found : {ms fs : List ℕ} {n t : ℕ} (k : ℕ) → k < n → getD ms k 0 ≡ t → Split ms fs n t (record { at = k; count = n }) ms fs
@@ -95,6 +88,9 @@ split-found k l e = record {
   grows = omega arith;
   same = λ f now q h. q;
   kept = λ f now q j l a. refl;
+  from = λ i u. inr (i, u, refl);
+  before = λ j u. (refl, refl);
+  old = omega arith;
 }
 
 module _ {ms fs : List ℕ} {n t k : ℕ} (p : Place ms n t k) where
@@ -123,7 +119,8 @@ module _ {ms fs : List ℕ} {n t k : ℕ} (p : Place ms n t k) where
                     a .after (i - 1) (omega arith) (omega arith),
                     ap (λ (m : ℕ). getD ms′ m 0) e,
                     a .after i u (omega arith),
-                    q .rise (i - 1) (omega arith),
+                    q .rise (i - 1)
+                        (omega arith),
                     ap (λ (m : ℕ). getD ms m 0) e,
                   )
 
@@ -163,7 +160,8 @@ module _ {ms fs : List ℕ} {n t k : ℕ} (p : Place ms n t k) where
           go : (k ≤ i) ⊎ (i < k) → (i ≤ k) ⊎ (k < i) → getD ms′ i 0 ≤ horizon
           go (inr u) v = omega (arith, a .before i u, q .low i (omega (arith, p .low)))
           go (inl u) (inl v) = let e : i ≡ k = omega arith in omega (arith, ap (λ (m : ℕ). getD ms′ m 0) e, a .here)
-          go (inl u) (inr v) = let e : i - 1 + 1 ≡ i = omega arith in
+          go (inl u) (inr v) =
+              let e : i - 1 + 1 ≡ i = omega arith in
               omega (arith, a .after (i - 1) (omega arith) (omega arith), ap (λ (m : ℕ). getD ms′ m 0) e, q .low (i - 1) (omega arith))
 
       table : t ≤ horizon → Table f now (n + 1) ms′ fs′
@@ -171,8 +169,7 @@ module _ {ms fs : List ℕ} {n t k : ℕ} (p : Place ms n t k) where
         minutes-long = a .long ∙ q .minutes-long;
         free-long = b .long ∙ q .free-long;
         some = omega arith;
-        first =
-            a .before 0 (omega (arith, p .some)) ∙ q .first;
+        first = a .before 0 (omega (arith, p .some)) ∙ q .first;
         low = low h;
         rise = rise;
         value = value;
@@ -185,6 +182,15 @@ module _ {ms fs : List ℕ} {n t k : ℕ} (p : Place ms n t k) where
           go (inl w) = absurd (omega (arith, p .next (omega arith), table-rise q k j w l))
           go (inr w) = a .before j w
 
+    come : (i : ℕ) → i < n + 1 → (getD ms′ i 0 ≡ t) ⊎ Among ms n (getD ms′ i 0)
+    come i l = go (le-or k i) (le-or i k)
+      where
+        go : (k ≤ i) ⊎ (i < k) → (i ≤ k) ⊎ (k < i) → (getD ms′ i 0 ≡ t) ⊎ Among ms n (getD ms′ i 0)
+        go (inr u) v = inr (i, omega (arith, p .low), a .before i u)
+        go (inl u) (inl v) = let e : i ≡ k = omega arith in inl (ap (λ (m : ℕ). getD ms′ m 0) e ∙ a .here)
+        go (inl u) (inr v) = let e : i ≡ i - 1 + 1 = omega arith in inr
+            (i - 1, omega arith, ap (λ (m : ℕ). getD ms′ m 0) e ∙ a .after (i - 1) (omega arith) (omega arith))
+
     -- the minute is put in after the one that it follows
     pub split-new : Split ms fs n t (record { at = k; count = n + 1 }) ms′ fs′
     split-new = record {
@@ -194,4 +200,7 @@ module _ {ms fs : List ℕ} {n t k : ℕ} (p : Place ms n t k) where
       grows = omega arith;
       same = λ f now q h. table q h;
       kept = λ f now q. kept q;
+      from = come;
+      before = λ j u. (a .before j u, b .before j u);
+      old = p .low;
     }

@@ -1,35 +1,34 @@
-// The free nodes of a machine from now on, as a table in two lent lists that is changed in place: from each minute of the first list on,
-// up to the next, the second has in the same place how many nodes are free. (A profile has points only where something changes; a
-// table may have more, and serves a search as well.)
+// The profile of a machine in two lent lists that are changed in place: the minutes of its points, and in the same places how many nodes
+// are free from each on. While a span is laid over it or taken out there may be two places more, at which nothing changes.
 ghost use mathlib.Core.Path.{_≡_};
-ghost use Prim.Native.Nat.{_<_, _≤_};
+ghost use mathlib.Core.List.{[], _∷_};
+ghost use Prim.Native.Nat.{_+_, min, _<_, _≤_};
 ghost use lib.ListN.{length};
-ghost use Rattle.conservative_table.specs.ListChanges.{rows, Inserted, Adjusted, Adjustable};
-ghost use Rattle.conservative_table.specs.Table.{Opened, Ascends, Place, Split};
-ghost use Rattle.conservative_table.specs.LaidSpans.{LaysAt, LaidAt, Lays, Laid, Shifts, Shifted};
-ghost use Rattle.conservative_table.specs.Search.{Seeks, Found, Reached};
+ghost use Rattle.conservative_table.specs.ListChanges.{rows, Inserted, Removed, Adjusted, Adjustable};
+ghost use Rattle.conservative_table.specs.Table.{Ascends, Place, Split};
+ghost use Rattle.conservative_table.specs.Join.{Inside, Joined};
+ghost use Rattle.conservative_table.specs.LaidSpans.{LaysAt, LaidAt, Lays, Laid};
+ghost use Rattle.conservative_table.specs.ProfileLists.{IsProfile, Changed, Laying, Lifting, Advancing};
+ghost use Rattle.conservative_table.specs.Search.{Bounded, Reached, Skipped, Seeks, Finds};
 
-// The place of a minute in the table, and how many places are used.
+// A place of the lists, and how many places are used: of a minute; or the first that may have changed.
 pub struct Row {
     pub at: usize,
     pub count: usize,
 }
 
-// No node is taken.
-pub fn idle(minutes: &mut [u32; 385], free: &mut [u32; 385], nodes: u32, minute: u32)
-    requires { ⌜ (length (now minutes) ≡ rows) × (length (now free) ≡ rows) ⌝ }
-    ensures { λ _. ⌜ Opened nodes minute (now (minutes .exit)) (now (free .exit)) ⌝ }
-{
-    minutes[0] = minute;
-    free[0] = nodes;
+// A minute, and a place of the lists whose minute is not later.
+pub struct Found {
+    pub minute: u32,
+    pub near: usize,
 }
 
-// The place after the last minute that is not later than t, by halves: the minute before the first place is not later than t.
-fn place_after(minutes: &[u32; 385], first: usize, count: usize, t: u32) -> usize
-    requires { ⌜ Ascends (now minutes) first count t ⌝ }
+// The place after the last minute that is not later than t, by halves: that of the near place is not.
+fn place_after(minutes: &[u32; 131], near: usize, count: usize, t: u32) -> usize
+    requires { ⌜ Ascends (now minutes) near count t ⌝ }
     ensures { λ r. ⌜ Place (now (minutes .entry)) count t r ⌝ }
 {
-    let mut low = first;
+    let mut low = near + 1;
     let mut high = count;
     while low < high {
         let mid = (low + high) / 2;
@@ -43,7 +42,7 @@ fn place_after(minutes: &[u32; 385], first: usize, count: usize, t: u32) -> usiz
 }
 
 // The value goes into this place; what stood there and after it moves up.
-fn insert(list: &mut [u32; 385], count: usize, at: usize, value: u32)
+fn insert(list: &mut [u32; 131], count: usize, at: usize, value: u32)
     requires { ⌜ (length (now list) ≡ rows) × (at ≤ count) × (count < rows) ⌝ }
     ensures { λ _. ⌜ Inserted (now (list .entry)) count at value (now (list .exit)) ⌝ }
 {
@@ -55,24 +54,18 @@ fn insert(list: &mut [u32; 385], count: usize, at: usize, value: u32)
     list[at] = value;
 }
 
-// The table has a place for minute t, and says the same as before. The minute before the first place is not later than t.
-pub fn split(
-    minutes: &mut [u32; 385],
-    free: &mut [u32; 385],
-    first: usize,
-    count: usize,
-    t: u32,
-) -> Row
-    requires { ⌜ Ascends (now minutes) first count t × (length (now free) ≡ rows) × (count < rows) ⌝ }
+// There is a place for minute t, and the lists say the same as before. The minute of the near place is not later.
+fn split(minutes: &mut [u32; 131], free: &mut [u32; 131], near: usize, count: usize, t: u32) -> Row
+    requires { ⌜ Ascends (now minutes) near count t × (length (now free) ≡ rows) × (count < rows) ⌝ }
     ensures { λ r. ⌜ Split (now (minutes .entry)) (now (free .entry)) count t r (now (minutes .exit)) (now (free .exit)) ⌝ }
 {
-    if minutes[0] == t {
+    if minutes[near] == t {
         return Row {
-            at: 0,
+            at: near,
             count: count,
         };
     }
-    let k = place_after(minutes, first, count, t);
+    let k = place_after(minutes, near, count, t);
     let last = k - 1;
     if minutes[last] == t {
         return Row {
@@ -89,8 +82,36 @@ pub fn split(
     }
 }
 
+// `by` places leave from this one on; those after them move down.
+fn withdraw(list: &mut [u32; 131], count: usize, at: usize, by: usize)
+    requires { ⌜ (length (now list) ≡ rows) × (count ≤ rows) × (at + by ≤ count) ⌝ }
+    ensures { λ _. ⌜ Removed (now (list .entry)) count at by (now (list .exit)) ⌝ }
+{
+    let mut i = at + by;
+    while i < count {
+        list[i - by] = list[i];
+        i += 1;
+    }
+}
+
+// A place that says the same as the one before it leaves.
+fn join(minutes: &mut [u32; 131], free: &mut [u32; 131], count: usize, at: usize) -> usize
+    requires { ⌜ Inside (now minutes) (now free) count at ⌝ }
+    ensures { λ r. ⌜ Joined (now (minutes .entry)) (now (free .entry)) count at r (now (minutes .exit)) (now (free .exit)) ⌝ }
+{
+    if at == 0 {
+        return count;
+    }
+    if free[at] != free[at - 1] {
+        return count;
+    }
+    withdraw(minutes, count, at, 1);
+    withdraw(free, count, at, 1);
+    count - 1
+}
+
 // `nodes` nodes are taken, or free again, in these places.
-fn adjust(free: &mut [u32; 385], from: usize, to: usize, nodes: u32, release: bool)
+fn adjust(free: &mut [u32; 131], from: usize, to: usize, nodes: u32, release: bool)
     requires { ⌜ Adjustable (now free) from to nodes release ⌝ }
     ensures { λ _. ⌜ Adjusted (now (free .entry)) from to nodes release (now (free .exit)) ⌝ }
 {
@@ -106,9 +127,9 @@ fn adjust(free: &mut [u32; 385], from: usize, to: usize, nodes: u32, release: bo
 }
 
 // The span's nodes are taken, or free again, from the place in which it begins.
-pub fn lay_at(
-    minutes: &mut [u32; 385],
-    free: &mut [u32; 385],
+fn lay_at(
+    minutes: &mut [u32; 131],
+    free: &mut [u32; 131],
     begin: Row,
     x: spans::Span,
     release: bool,
@@ -116,70 +137,110 @@ pub fn lay_at(
     requires { ⌜ LaysAt (now minutes) (now free) begin x release ⌝ }
     ensures { λ r. ⌜ ((l : LaysAt (now (minutes .entry)) (now (free .entry)) begin x release) → LaidAt l r (now (minutes .exit)) (now (free .exit))) ⌝ }
 {
-    let end = split(minutes, free, begin.at + 1, begin.count, x.until);
+    let end = split(minutes, free, begin.at, begin.count, x.until);
     adjust(free, begin.at, end.at, x.nodes, release);
-    end.count
+    let later = join(minutes, free, end.count, end.at);
+    join(minutes, free, later, begin.at)
 }
 
-// The span's nodes are taken, or free again.
-pub fn lay(
-    minutes: &mut [u32; 385],
-    free: &mut [u32; 385],
+// The span's nodes are taken, or free again. The minute of the near place is not later than the one in which that begins.
+fn change(
+    minutes: &mut [u32; 131],
+    free: &mut [u32; 131],
+    near: usize,
     count: usize,
     x: spans::Span,
     release: bool,
-) -> usize
-    requires { ⌜ Lays (now minutes) (now free) count x release ⌝ }
-    ensures { λ r. ⌜ ((l : Lays (now (minutes .entry)) (now (free .entry)) count x release) → Laid l r (now (minutes .exit)) (now (free .exit))) ⌝ }
+) -> Row
+    requires { ⌜ Lays (now minutes) (now free) near count x release ⌝ }
+    ensures { λ r. ⌜ ((l : Lays (now (minutes .entry)) (now (free .entry)) near count x release) → Laid l r (now (minutes .exit)) (now (free .exit))) ⌝ }
 {
     let mut from = minutes[0];
     if from < x.from {
         from = x.from;
     }
     if x.until <= from {
+        return Row {
+            at: count,
+            count: count,
+        };
+    }
+    let begin = split(minutes, free, near, count, from);
+    let rest = lay_at(minutes, free, begin, x, release);
+    Row {
+        at: begin.at,
+        count: rest,
+    }
+}
+
+// The span is laid over the profile.
+pub fn lay(
+    minutes: &mut [u32; 131],
+    free: &mut [u32; 131],
+    near: usize,
+    count: usize,
+    x: spans::Span,
+) -> Row
+    requires { ⌜ Laying (now minutes) (now free) near count x ⌝ }
+    ensures { λ r.
+        ⌜ ((l : Laying (now (minutes .entry)) (now (free .entry)) near count x)
+        → Changed (l .machine) (x ∷ l .spans) (l .now) x (now (minutes .entry)) (now (free .entry)) count r (now (minutes .exit)) (now (free .exit))) ⌝ }
+{
+    change(minutes, free, near, count, x, false)
+}
+
+// The span is taken out of the profile.
+pub fn lift(
+    minutes: &mut [u32; 131],
+    free: &mut [u32; 131],
+    near: usize,
+    count: usize,
+    x: spans::Span,
+) -> Row
+    requires { ⌜ Lifting (now minutes) (now free) near count x ⌝ }
+    ensures { λ r.
+        ⌜ ((l : Lifting (now (minutes .entry)) (now (free .entry)) near count x)
+        → Changed (l .machine) (l .others) (l .now) x (now (minutes .entry)) (now (free .entry)) count r (now (minutes .exit)) (now (free .exit))) ⌝ }
+{
+    change(minutes, free, near, count, x, true)
+}
+
+// No span: one point, from which on all nodes are free.
+pub fn idle(minutes: &mut [u32; 131], free: &mut [u32; 131], nodes: u32, minute: u32) -> usize
+    requires { ⌜ (length (now minutes) ≡ rows) × (length (now free) ≡ rows) ⌝ }
+    ensures { λ r. ⌜ IsProfile nodes [] minute r (now (minutes .exit)) (now (free .exit)) ⌝ }
+{
+    minutes[0] = minute;
+    free[0] = nodes;
+    1
+}
+
+// The clock moves on to this minute: the points before it leave. Where none does, the free nodes stay as they are.
+pub fn advance(minutes: &mut [u32; 131], free: &mut [u32; 131], count: usize, t: u32) -> usize
+    requires { ⌜ Advancing (now minutes) (now free) count t ⌝ }
+    ensures { λ r.
+        ⌜ ((l : Advancing (now (minutes .entry)) (now (free .entry)) count t) → IsProfile (l .machine) (l .spans) t r (now (minutes .exit)) (now (free .exit)))
+        × (r ≡ count → now (free .exit) ≡ now (free .entry)) ⌝ }
+{
+    let k = place_after(minutes, 0, count, t);
+    let last = k - 1;
+    if last == 0 {
+        minutes[0] = t;
         return count;
     }
-    let begin = split(minutes, free, 1, count, from);
-    lay_at(minutes, free, begin, x, release)
+    withdraw(minutes, count, 0, last);
+    withdraw(free, count, 0, last);
+    minutes[0] = t;
+    count - last
 }
 
-// The span x, which begins in its own place, is taken out, and y is laid in from an earlier place on.
-pub fn shift(
-    minutes: &mut [u32; 385],
-    free: &mut [u32; 385],
-    own: Row,
-    x: spans::Span,
-    at: usize,
-    y: spans::Span,
-) -> usize
-    requires { ⌜ Shifts (now minutes) (now free) own x at y ⌝ }
-    ensures { λ r. ⌜ ((s : Shifts (now (minutes .entry)) (now (free .entry)) own x at y) → Shifted s r (now (minutes .exit)) (now (free .exit))) ⌝ }
+// The first place from this one on whose minute is not before the end, or at which too few nodes are free.
+fn reach(minutes: &[u32; 131], free: &[u32; 131], from: usize, nodes: u32, until: u32) -> usize
+    requires { ⌜ Bounded (now minutes) (now free) from until ⌝ }
+    ensures { λ r. ⌜ Reached (now (minutes .entry)) (now (free .entry)) from nodes until r ⌝ }
 {
-    let count = lay_at(minutes, free, own, x, true);
-    let begin = Row {
-        at: at,
-        count: count,
-    };
-    lay_at(minutes, free, begin, y, false)
-}
-
-// The first place after this one that is the last to look at, or whose minute is not before the end, or at which too few nodes are free.
-fn reach(
-    minutes: &[u32; 385],
-    free: &[u32; 385],
-    from: usize,
-    at: usize,
-    nodes: u32,
-    until: u32,
-) -> usize
-    requires { ⌜ (length (now minutes) ≡ rows) × (length (now free) ≡ rows) × (from < at) × (at < rows) ⌝ }
-    ensures { λ r. ⌜ Reached (now (minutes .entry)) (now (free .entry)) from at nodes until r ⌝ }
-{
-    let mut k = from + 1;
-    while k < at {
-        if until <= minutes[k] {
-            return k;
-        }
+    let mut k = from;
+    while minutes[k] < until {
         if free[k] < nodes {
             return k;
         }
@@ -188,27 +249,57 @@ fn reach(
     k
 }
 
-// The place of the earliest minute for a job that from the minute in this place on has its nodes: one pass over the places before. No
-// minute before that of place i will do.
-pub fn search(minutes: &[u32; 385], free: &[u32; 385], at: usize, nodes: u32, hold: u32) -> usize
-    requires { ⌜ Seeks (now minutes) (now free) at nodes hold ⌝ }
-    ensures { λ r. ⌜ ((s : Seeks (now (minutes .entry)) (now (free .entry)) at nodes hold) → Found s r) ⌝ }
+// The first place from this one on whose minute is not before the end, or at which nodes enough are free.
+fn skip(minutes: &[u32; 131], free: &[u32; 131], from: usize, nodes: u32, until: u32) -> usize
+    requires { ⌜ Bounded (now minutes) (now free) from until ⌝ }
+    ensures { λ r. ⌜ Skipped (now (minutes .entry)) (now (free .entry)) from nodes until r ⌝ }
 {
-    let mut i: usize = 0;
-    while i < at {
-        if free[i] < nodes {
-            i += 1;
-        } else {
-            let until = minutes[i] + hold;
-            let k = reach(minutes, free, i, at, nodes, until);
-            if k == at {
-                return i;
-            }
-            if until <= minutes[k] {
-                return i;
-            }
-            i = k + 1;
+    let mut k = from;
+    while minutes[k] < until {
+        if nodes <= free[k] {
+            return k;
         }
+        k += 1;
     }
-    at
+    k
+}
+
+fn sooner(a: u32, b: u32) -> u32
+    ensures { λ r. ⌜ r ≡ min a b ⌝ }
+{
+    if a < b {
+        return a;
+    }
+    b
+}
+
+// The earliest minute for a job that stands in the plan from this start on: there its own nodes are there for it, so only the places
+// before are looked at. No minute before that of place i will do.
+pub fn search_before(
+    minutes: &[u32; 131],
+    free: &[u32; 131],
+    start: u32,
+    nodes: u32,
+    hold: u32,
+) -> Found
+    requires { ⌜ Seeks (now minutes) (now free) start nodes hold ⌝ }
+    ensures { λ r. ⌜ ((s : Seeks (now (minutes .entry)) (now (free .entry)) start nodes hold) → Finds s r) ⌝ }
+{
+    let mut i = skip(minutes, free, 0, nodes, start);
+    while minutes[i] < start {
+        let here = minutes[i];
+        let until = sooner(here + hold, start);
+        let k = reach(minutes, free, i + 1, nodes, until);
+        if until <= minutes[k] {
+            return Found {
+                minute: here,
+                near: i,
+            };
+        }
+        i = skip(minutes, free, k + 1, nodes, start);
+    }
+    Found {
+        minute: start,
+        near: 0,
+    }
 }

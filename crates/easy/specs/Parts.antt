@@ -34,6 +34,7 @@ answering b o =
         refusal = o .refusal;
         ticket = r .reply .ticket;
         promise = r .reply .promise;
+        reads = r .reply .reads;
         ended = r .reply .ended;
         started = r .reply .started;
         head = r .reply .head;

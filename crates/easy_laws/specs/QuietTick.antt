@@ -36,7 +36,7 @@ none-first p [] f = refl
 none-first p (x ∷ xs) f = rw (f x (here refl)) (none-first p xs (λ a i. f a (there i)))
 
 abbrev replied : List ℕ → Option Forecast → Reply
-replied ts o = record { refusal = refusal.None; ticket = 0; promise = 0; ended = []; started = ts; head = o }
+replied ts o = record { refusal = refusal.None; ticket = 0; promise = 0; reads = 0; ended = []; started = ts; head = o }
 
 module _ (m : Model) (v : Valid m) (l : suc (m .clock) ≤ horizon (m .settings))
     (none-ends : (j : Job) → In j (m .jobs) → endsAt (m .settings) (suc (m .clock)) j ≡ false)

@@ -282,7 +282,6 @@ Because m o refusal.OpeningOutOfRange = ⊥
 Because m o refusal.NoTicketLeft = lastTicket < m .next
 Because m o refusal.PastHorizon = horizon (m .settings) < latestEnd m (o .estimate)
 Because m o refusal.NotRunning = ⊥
-Because m o refusal.ProfileTooLong = ⊥
 Because m o refusal.Malformed = ⊥
 Because m o refusal.TooShort = ⊥
 Because m o refusal.NotWaiting = ⊥

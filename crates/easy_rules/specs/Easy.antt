@@ -127,6 +127,7 @@ finished before m ticket ended =
         refusal = refusal.None;
         ticket = ticket;
         promise = 0;
+        reads = 0;
         ended = ended;
         started = s .started;
         head = forecast before (s .model);

@@ -45,6 +45,7 @@ reply-back m c v =
       refusal = r .refusal;
       ticket = r .ticket;
       promise = r .promise;
+      reads = r .reads;
       ended = tickets-back (r .ended) i;
       started = tickets-back (r .started) i;
       head = forecast-back (r .head) (head-from (m .settings .kind) m c v) i;

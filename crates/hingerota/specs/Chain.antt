@@ -20,16 +20,20 @@ use Rattle.guarantees.specs.Premise.{Valid, valid-view}
 use Rattle.guarantees.specs.Replies.{reply-back}
 use Rattle.guarantees.specs.Chain.{answerOf, MadeAll, unchanged-refuses, made-keeps}
 use Rattle.guarantees.specs.Statement.{bookOf}
-use Rattle.calls.specs.ProfileCall.{profileRefusal}
+use Rattle.conservative_rules.specs.Conservative.{points}
+use Rattle.calls.specs.ListCall.{listRefusal}
+use Rattle.calls.specs.IndexCall.{blocksOf}
 use Rattle.hingerota.specs.declared.Desk.{Desk}
 use Rattle.hingerota.specs.declared.Answer.{Answer}
 use Rattle.hingerota.specs.declared.Point.{Point}
+use Rattle.hingerota.specs.declared.Block.{Block}
 use Rattle.hingerota.specs.declared.Earliest.{Earliest}
 use Rattle.hingerota.specs.declared.Shown.{Shown}
 use Rattle.hingerota.specs.Mirror.{mirror, mirrorTickets, mirrorAnswer, read, read-mirror, readAnswer, read-answer}
 use Rattle.hingerota.specs.DeskPremise.{opens}
 use Rattle.hingerota.specs.CallContract.{HostLeaves}
-use Rattle.hingerota.specs.ProfileContract.{HostShows}
+use Rattle.hingerota.specs.ProfileContract.{HostShowsPoints}
+use Rattle.hingerota.specs.IndexContract.{HostShowsBlocks}
 use Rattle.hingerota.specs.EarliestContract.{earliestOn}
 use Rattle.hingerota.specs.Waits.{waitRefusalOn, waitNumber}
 
@@ -39,15 +43,18 @@ hostReply a = replyOf (readAnswer a)
 
 -- the answer that has this refusal and nothing else
 abbrev pub refusedBy : ℕ → Answer
-refusedBy n = record { refusal = n; ticket = 0; promise = 0; head = 0; forecast = 0; ended = mirrorTickets noTickets; started = mirrorTickets noTickets }
+refusedBy n = record { refusal = n; ticket = 0; promise = 0; reads = 0; head = 0; forecast = 0; ended = mirrorTickets noTickets; started = mirrorTickets noTickets }
 
 -- a call on the desk d, lent, as its contract says that it was made: what it answers, and the desk after it
 pub data HostMade (d : Desk) : Call → Answer → Desk → Type 0 where
   onLent : {c : Call} {a : Answer} {e : Desk} → HostLeaves d c a e → HostMade d c a e
   -- a profile counts as a call that leaves the desk as it is, by the refusal that it answers
-  profileOnLent : {lent after : List Point} {s : Shown} → HostShows d lent s after
-      → HostMade d (unchanged (profileRefusal (view (read d)) (length lent))) (refusedBy (s .refusal)) d
-  -- and so does the question for an earliest start
+  profileOnLent : {lent after : List Point} {s : Shown} → HostShowsPoints d lent s after
+      → HostMade d (unchanged (listRefusal points (view (read d)) (length lent))) (refusedBy (s .refusal)) d
+  -- and so does the index
+  indexOnLent : {lent after : List Block} {s : Shown} → HostShowsBlocks d lent s after
+      → HostMade d (unchanged (listRefusal blocksOf (view (read d)) (length lent))) (refusedBy (s .refusal)) d
+  -- and the question for an earliest start
   earliestAsked : {e : Earliest} (ticket : ℕ) → e ≡ earliestOn d ticket
       → HostMade d (unchanged (earliestStart (view (read d)) ticket .refusal)) (refusedBy (e .refusal)) d
   -- and a wait which is refused; one that is not is as many ticks
@@ -66,7 +73,9 @@ module _ (m : Model) (v : Valid m) where
         ∙ ap (λ (x : Model). mirrorAnswer (answer (call x c .reply))) desk-view,
   )
   made-is (profileOnLent {lent} {after} {s} w) =
-      rw (unchanged-refuses m (profileRefusal (view (read (mirror (store m)))) (length lent))) (refl, ap (λ (x : Shown). refusedBy (x .refusal)) (w .answers))
+      rw (unchanged-refuses m (listRefusal points (view (read (mirror (store m)))) (length lent))) (refl, ap (λ (x : Shown). refusedBy (x .refusal)) (w .answers))
+  made-is (indexOnLent {lent} {after} {s} w) =
+      rw (unchanged-refuses m (listRefusal blocksOf (view (read (mirror (store m)))) (length lent))) (refl, ap (λ (x : Shown). refusedBy (x .refusal)) (w .answers))
   made-is (earliestAsked ticket q) =
       rw (unchanged-refuses m (earliestStart (view (read (mirror (store m)))) ticket .refusal)) (refl, ap (λ (x : Earliest). refusedBy (x .refusal)) q)
   made-is (waitRefused {n} minutes e q) = rw (unchanged-refuses m (waitRefusalOn (mirror (store m)) minutes)) (refl, ap refusedBy e)

@@ -1,7 +1,9 @@
 pub mod Mirror
 pub mod DeskPremise
 pub mod CallContract
+pub mod ListContract
 pub mod ProfileContract
+pub mod IndexContract
 pub mod Waits
 pub mod EarliestContract
 pub mod Chain

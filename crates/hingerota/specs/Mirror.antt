@@ -169,6 +169,7 @@ mirrorAnswer a = record {
   refusal = code (a .refusal);
   ticket = a .ticket;
   promise = a .promise;
+  reads = a .reads;
   head = a .head;
   forecast = a .forecast;
   ended = mirrorTickets (a .ended);
@@ -184,7 +185,6 @@ refusalOf n =
     (cond (eqb n 5) refusal.NoTicketLeft
     (cond (eqb n 6) refusal.PastHorizon
     (cond (eqb n 7) refusal.NotRunning
-    (cond (eqb n 8) refusal.ProfileTooLong
     (cond (eqb n 9) refusal.Malformed
     (cond (eqb n 10) refusal.TooShort
     (cond (eqb n 11) refusal.NotWaiting
@@ -193,7 +193,7 @@ refusalOf n =
     (cond (eqb n 14) refusal.UnknownTenant
     (cond (eqb n 15) refusal.QuotaFull
     (cond (eqb n 19) refusal.LeastAboveMost
-    (cond (eqb n 20) refusal.BeforeLeast refusal.None)))))))))))))))
+    (cond (eqb n 20) refusal.BeforeLeast refusal.None))))))))))))))
 
 abbrev pub readTickets : Tickets → scheduler-tickets.Tickets
 readTickets t = record { count = t .count; list = t .list }
@@ -203,6 +203,7 @@ readAnswer a = record {
   refusal = refusalOf (a .refusal);
   ticket = a .ticket;
   promise = a .promise;
+  reads = a .reads;
   ended = readTickets (a .ended);
   started = readTickets (a .started);
   head = a .head;
@@ -217,7 +218,6 @@ refusal-back refusal.OpeningOutOfRange = refl
 refusal-back refusal.NoTicketLeft = refl
 refusal-back refusal.PastHorizon = refl
 refusal-back refusal.NotRunning = refl
-refusal-back refusal.ProfileTooLong = refl
 refusal-back refusal.Malformed = refl
 refusal-back refusal.TooShort = refl
 refusal-back refusal.NotWaiting = refl
@@ -233,6 +233,7 @@ read-answer a = λ i. record {
   refusal = refusal-back (a .refusal) i;
   ticket = a .ticket;
   promise = a .promise;
+  reads = a .reads;
   ended = a .ended;
   started = a .started;
   head = a .head;

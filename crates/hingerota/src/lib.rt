@@ -6,10 +6,13 @@ ghost use Rattle.history.specs.Calls as calls;
 ghost use Rattle.hingerota.specs.Mirror.{kindOf, kindNumber, stateOf, stateNumber, wanted, mirrorJob, mirror, readRecord, read};
 ghost use Rattle.hingerota.specs.Mirror.{mirrorTickets, mirrorAnswer, mirrorOutcome};
 ghost use Prim.Native.Nat.{_<_};
+ghost use Rattle.conservative_index.specs.StoredIndex.{blockPlaces};
 ghost use Rattle.conservative_profile.specs.StoredProfile.{places};
 ghost use Rattle.hingerota.specs.DeskPremise.{Handed, gives, opens, promiseOpening, looseOpening};
 ghost use Rattle.hingerota.specs.CallContract.{HostLeaves};
-ghost use Rattle.hingerota.specs.ProfileContract.{mirrorShown, mirrorPoint, shownIn, pointAt, HostShows};
+ghost use Rattle.hingerota.specs.ListContract.{mirrorShown};
+ghost use Rattle.hingerota.specs.ProfileContract.{mirrorPoint, pointsIn, pointAt, HostShowsPoints};
+ghost use Rattle.hingerota.specs.IndexContract.{mirrorBlock, blocksIn, blockAt, HostShowsBlocks};
 ghost use Rattle.hingerota.specs.EarliestContract.{earliestOn};
 ghost use Rattle.hingerota.specs.Waits.{waitNumber};
 use scheduler::Job;
@@ -80,6 +83,8 @@ pub struct Answer {
     pub refusal: u32,
     pub ticket: u32,
     pub promise: u32,
+    // how many points of the profile were read for the promise
+    pub reads: u32,
     pub head: u32,
     pub forecast: u32,
     pub ended: Tickets,
@@ -104,7 +109,14 @@ pub struct Point {
     pub free: u32,
 }
 
-// What a profile call answers; the refusal is document 01's number.
+// Of a block of 16 points: the fewest free nodes, and the most.
+#[repr(C)]
+pub struct Block {
+    pub fewest: u32,
+    pub most: u32,
+}
+
+// What a call for the profile or the index answers; the refusal is document 01's number.
 #[repr(C)]
 pub struct Shown {
     pub refusal: u32,
@@ -122,6 +134,12 @@ pub struct ProfileOutcome {
     pub count: usize,
     pub answer: Shown,
     pub points: [spans::Point; 129],
+}
+
+pub struct IndexOutcome {
+    pub count: usize,
+    pub answer: Shown,
+    pub blocks: [spans::Block; 9],
 }
 
 fn kind_of(n: u32) -> Kind
@@ -271,6 +289,7 @@ fn mirror_answer(a: scheduler::Answer) -> Answer
         refusal: refusal.code(),
         ticket: a.ticket,
         promise: a.promise,
+        reads: a.reads,
         head: a.head,
         forecast: a.forecast,
         ended: mirror_tickets(a.ended),
@@ -305,6 +324,15 @@ fn mirror_point(p: spans::Point) -> Point
     Point {
         minute: p.minute,
         free: p.free,
+    }
+}
+
+fn mirror_block(p: spans::Block) -> Block
+    ensures { λ r. ⌜ r ≡ mirrorBlock p ⌝ }
+{
+    Block {
+        fewest: p.fewest,
+        most: p.most,
     }
 }
 
@@ -359,7 +387,7 @@ fn tick(d: Desk) -> Outcome
 
 fn profile(d: Desk, room: usize) -> ProfileOutcome
     requires { ⌜ Handed d ⌝ }
-    ensures { λ r. ⌜ r ≡ shownIn d room ⌝ }
+    ensures { λ r. ⌜ r ≡ pointsIn d room ⌝ }
 {
     let p = calls::profile(read(d), room);
     let answer = mirror_shown(p.answer);
@@ -377,6 +405,28 @@ fn point_at(p: ProfileOutcome, i: usize) -> Point
 {
     let q = p.points[i];
     mirror_point(q)
+}
+
+fn index(d: Desk, room: usize) -> IndexOutcome
+    requires { ⌜ Handed d ⌝ }
+    ensures { λ r. ⌜ r ≡ blocksIn d room ⌝ }
+{
+    let p = calls::index(read(d), room);
+    let answer = mirror_shown(p.answer);
+    let blocks = p.blocks;
+    IndexOutcome {
+        count: p.count,
+        answer: answer,
+        blocks: blocks,
+    }
+}
+
+fn block_at(p: IndexOutcome, i: usize) -> Block
+    requires { ⌜ i < blockPlaces ⌝ }
+    ensures { λ r. ⌜ r ≡ blockAt p i ⌝ }
+{
+    let q = p.blocks[i];
+    mirror_block(q)
 }
 
 fn earliest_start(d: Desk, ticket: u32) -> Earliest
@@ -485,12 +535,27 @@ pub extern "C" fn hingerota_tick(d: &mut Desk) -> Answer
 #[no_mangle]
 pub extern "C" fn hingerota_profile(d: &Desk, points: &mut [Point]) -> Shown
     requires { ⌜ Handed (now d) ⌝ }
-    ensures { λ r. ⌜ HostShows (now (d .entry)) (now (points .entry)) r (now (points .exit)) ⌝ }
+    ensures { λ r. ⌜ HostShowsPoints (now (d .entry)) (now (points .entry)) r (now (points .exit)) ⌝ }
 {
     let p = profile(*d, points.len());
     let mut i = 0;
     while i < p.count {
         points[i] = point_at(p, i);
+        i += 1;
+    }
+    p.answer
+}
+
+// The index of the profile, into the list lent; of the Promise Desk alone.
+#[no_mangle]
+pub extern "C" fn hingerota_index(d: &Desk, blocks: &mut [Block]) -> Shown
+    requires { ⌜ Handed (now d) ⌝ }
+    ensures { λ r. ⌜ HostShowsBlocks (now (d .entry)) (now (blocks .entry)) r (now (blocks .exit)) ⌝ }
+{
+    let p = index(*d, blocks.len());
+    let mut i = 0;
+    while i < p.count {
+        blocks[i] = block_at(p, i);
         i += 1;
     }
     p.answer

@@ -24,7 +24,7 @@ use Rattle.history.specs.Guarantee.{StartedBy, Kept, held-nodes, live-jo
 abbrev takenFor : Tenant → ℕ → ℕ → ℕ → List ℕ → Option Forecast → Event
 takenFor h t n p ss f = record {
   call = submit (orderOf h n 5);
-  reply = record { refusal = refusal.None; ticket = t; promise = p; ended = []; started = ss; head = f };
+  reply = record { refusal = refusal.None; ticket = t; promise = p; reads = 0; ended = []; started = ss; head = f };
 }
 
 abbrev taken : ℕ → ℕ → ℕ → List ℕ → Option Forecast → Event
@@ -36,14 +36,14 @@ ten = record { kind = Easy; nodes = 10; cleanup = 0; «quota_a» = 63; «quota_b
 
 -- a tick, with the tickets that end and those that start
 abbrev turned : List ℕ → List ℕ → Event
-turned es ss = record { call = tick; reply = record { refusal = refusal.None; ticket = 0; promise = 0; ended = es; started = ss; head = none } }
+turned es ss = record { call = tick; reply = record { refusal = refusal.None; ticket = 0; promise = 0; reads = 0; ended = es; started = ss; head = none } }
 
 abbrev ticked : List ℕ → Event
 ticked ss = turned [] ss
 
 -- a withdrawal, with the tickets that start
 abbrev dropped : ℕ → List ℕ → Event
-dropped t ss = record { call = cancel t; reply = record { refusal = refusal.None; ticket = 0; promise = 0; ended = []; started = ss; head = none } }
+dropped t ss = record { call = cancel t; reply = record { refusal = refusal.None; ticket = 0; promise = 0; reads = 0; ended = []; started = ss; head = none } }
 
 abbrev idle : Event
 idle = ticked []

@@ -17,7 +17,6 @@ accepts-none refusal.OpeningOutOfRange e = true-false false e refl
 accepts-none refusal.NoTicketLeft e = true-false false e refl
 accepts-none refusal.PastHorizon e = true-false false e refl
 accepts-none refusal.NotRunning e = true-false false e refl
-accepts-none refusal.ProfileTooLong e = true-false false e refl
 accepts-none refusal.Malformed e = true-false false e refl
 accepts-none refusal.TooShort e = true-false false e refl
 accepts-none refusal.NotWaiting e = true-false false e refl

@@ -7,8 +7,11 @@ use Rattle.lent_lemmas.proofs.Results.{struct-laws, two-of, sheet-of}
 use Rattle.calls.proofs.Shown as W
 use Rattle.calls.proofs.Shown.Laws as W′
 use Rattle.calls.proofs.ProfileOutcome as P
+use Rattle.calls.proofs.IndexOutcome as I
 use Rattle.spans.proofs.Point as Q
 use Rattle.spans.proofs.Point.Laws as Q′
+use Rattle.spans.proofs.Block as B
+use Rattle.spans.proofs.Block.Laws as B′
 use Rattle.scheduler.proofs.Scheduler as D
 use Rattle.scheduler.proofs.Scheduler.Laws as D′
 use Rattle.scheduler.proofs.Answer as N
@@ -52,3 +55,9 @@ profile-sheet =
     sheet-of W.the-type W′.the-laws W′.lowers (P.the-type .name) (P.the-type .D)
     (λ s. s .answer) W′.the-plain Q.the-type Q′.the-laws Q′.lowers Q′.the-plain 129 (λ s. s .count) (λ s. s .points)
     (P.the-type .to-one)
+
+abbrev pub index-sheet : Sheet shown
+index-sheet =
+    sheet-of W.the-type W′.the-laws W′.lowers (I.the-type .name) (I.the-type .D)
+    (λ s. s .answer) W′.the-plain B.the-type B′.the-laws B′.lowers B′.the-plain 9 (λ s. s .count) (λ s. s .blocks)
+    (I.the-type .to-one)

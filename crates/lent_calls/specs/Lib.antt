@@ -1,3 +1,5 @@
 pub mod CallContract
+pub mod ListContract
 pub mod ProfileContract
+pub mod IndexContract
 pub mod MixedCalls

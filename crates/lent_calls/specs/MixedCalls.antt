@@ -27,10 +27,14 @@ use Rattle.guarantees.specs.Statement.{bookOf}
 use Rattle.calls.specs.declared.Shown.{Shown}
 use Rattle.calls.specs.declared.ProfileOutcome.{ProfileOutcome}
 use Rattle.calls.specs.ProfileCall.{profileOutcome}
+use Rattle.calls.specs.declared.IndexOutcome.{IndexOutcome}
+use Rattle.calls.specs.IndexCall.{indexOutcome}
+use Rattle.spans.specs.declared.Block.{Block}
 use Rattle.scheduler.specs.declared.Earliest.{Earliest}
 use Rattle.easy_rules.specs.EarliestStart.{earliestStart}
 use Rattle.lent_calls.specs.CallContract.{Leaves}
-use Rattle.lent_calls.specs.ProfileContract.{Shows}
+use Rattle.lent_calls.specs.ProfileContract.{ShowsPoints}
+use Rattle.lent_calls.specs.IndexContract.{ShowsBlocks}
 
 -- a call on d as its contract says that it was made, by value or on what is lent: what it answers, and the scheduler after it
 pub data Made (d : Scheduler) : Call → Answer → Scheduler → Type 0 where
@@ -39,8 +43,12 @@ pub data Made (d : Scheduler) : Call → Answer → Scheduler → Type 0 where
   -- a profile counts as a call that leaves the scheduler as it is, by the refusal that it answers
   profileByValue : (room : ℕ) {p : ProfileOutcome} → p ≡ profileOutcome (view d) room
       → Made d (unchanged (p .answer .refusal)) (refusedAnswer (p .answer .refusal)) d
-  profileOnLent : {lent after : List Point} {s : Shown} → Shows d lent s after → Made d (unchanged (s .refusal)) (refusedAnswer (s .refusal)) d
-  -- and so does the question for an earliest start, by value or on what is lent
+  profileOnLent : {lent after : List Point} {s : Shown} → ShowsPoints d lent s after → Made d (unchanged (s .refusal)) (refusedAnswer (s .refusal)) d
+  -- and so does the index
+  indexByValue : (room : ℕ) {p : IndexOutcome} → p ≡ indexOutcome (view d) room
+      → Made d (unchanged (p .answer .refusal)) (refusedAnswer (p .answer .refusal)) d
+  indexOnLent : {lent after : List Block} {s : Shown} → ShowsBlocks d lent s after → Made d (unchanged (s .refusal)) (refusedAnswer (s .refusal)) d
+  -- and the question for an earliest start, by value or on what is lent
   earliestAsked : {e : Earliest} (ticket : ℕ) → e ≡ earliestStart (view d) ticket → Made d (unchanged (e .refusal)) (refusedAnswer (e .refusal)) d
   -- and a wait which is refused; one that is not is as many ticks
   waitRefused : {r : Refusal} (minutes : ℕ) → r ≡ waitRefusal (view d) minutes → accepts r ≡ false → Made d (unchanged r) (refusedAnswer r) d
@@ -60,6 +68,8 @@ module _ (m : Model) (v : Valid m) where
   )
   made-is (profileByValue room {p} e) = unchanged-is (p .answer .refusal)
   made-is (profileOnLent {lent} {after} {s} w) = unchanged-is (s .refusal)
+  made-is (indexByValue room {p} e) = unchanged-is (p .answer .refusal)
+  made-is (indexOnLent {lent} {after} {s} w) = unchanged-is (s .refusal)
   made-is (earliestAsked {e} ticket q) = unchanged-is (e .refusal)
   made-is (waitRefused {r} minutes e n) = unchanged-is r
 

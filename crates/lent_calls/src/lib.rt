@@ -6,12 +6,14 @@ ghost use Rattle.history.specs.Calls as calls;
 ghost use Rattle.easy_rules.specs.EarliestStart.{earliestStart};
 ghost use Rattle.guarantees.specs.Premise.{Premise};
 ghost use Rattle.lent_calls.specs.CallContract.{Leaves};
-ghost use Rattle.lent_calls.specs.ProfileContract.{Shows};
+ghost use Rattle.lent_calls.specs.ProfileContract.{ShowsPoints};
+ghost use Rattle.lent_calls.specs.IndexContract.{ShowsBlocks};
 use calls::Shown;
 use scheduler::Answer;
 use scheduler::Earliest;
 use scheduler::Scheduler;
 use scheduler::Submission;
+use spans::Block;
 use spans::Point;
 
 pub fn submit(d: &mut Scheduler, s: Submission) -> Answer
@@ -61,12 +63,26 @@ pub fn earliest_start(d: &Scheduler, ticket: u32) -> Earliest
 // The free nodes from now on, into the list lent. A profile leaves the scheduler as it is, so that `&` serves.
 pub fn profile(d: &Scheduler, points: &mut [Point]) -> Shown
     requires { ⌜ Premise (now d) ⌝ }
-    ensures { λ r. ⌜ Shows (now (d .entry)) (now (points .entry)) r (now (points .exit)) ⌝ }
+    ensures { λ r. ⌜ ShowsPoints (now (d .entry)) (now (points .entry)) r (now (points .exit)) ⌝ }
 {
     let p = calls::profile(*d, points.len());
     let mut i = 0;
     while i < p.count {
         points[i] = calls::point_at(p, i);
+        i += 1;
+    }
+    p.answer
+}
+
+// The index of the profile, into the list lent.
+pub fn index(d: &Scheduler, blocks: &mut [Block]) -> Shown
+    requires { ⌜ Premise (now d) ⌝ }
+    ensures { λ r. ⌜ ShowsBlocks (now (d .entry)) (now (blocks .entry)) r (now (blocks .exit)) ⌝ }
+{
+    let p = calls::index(*d, blocks.len());
+    let mut i = 0;
+    while i < p.count {
+        blocks[i] = calls::block_at(p, i);
         i += 1;
     }
     p.answer

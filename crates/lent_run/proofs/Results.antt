@@ -1,4 +1,5 @@
--- How the results of this crate are made: `Outcome` of the answer and the scheduler, `ListOfNone` and `ListOfFour` of the answer and the list
+-- How the results of this crate are made: `Outcome` of the answer and the scheduler, `ListOfNone`, `ListOfFour` and `ListOfTwo` of the answer and the
+-- list
 -- (`Thin.antt` and `OwnSlice_ds.antt` of crate lent_lemmas).
 -- Assumes nothing.
 use mathlib.Core.Path.{refl, _∙_}
@@ -12,6 +13,8 @@ use denote.Shadow.{shadow}
 use denote.Struct.Laws as LL
 use Rattle.spans.specs.declared.Point.{Point}
 use Rattle.spans.proofs.Point as R
+use Rattle.spans.specs.declared.Block.{Block}
+use Rattle.spans.proofs.Block as B
 use Rattle.scheduler.proofs.Scheduler as D
 use Rattle.scheduler.proofs.Scheduler.Laws as D′
 use Rattle.scheduler.proofs.Outcome as S
@@ -24,6 +27,8 @@ use Rattle.lent_run.proofs.ListOfNone as N
 use Rattle.lent_run.proofs.ListOfNone.Laws as N′
 use Rattle.lent_run.proofs.ListOfFour as F
 use Rattle.lent_run.proofs.ListOfFour.Laws as F′
+use Rattle.lent_run.proofs.ListOfTwo as W
+use Rattle.lent_run.proofs.ListOfTwo.Laws as W′
 
 abbrev pub outcome-built : Built answer D.the-type D′.the-laws outcome-two
 outcome-built = record {
@@ -69,4 +74,29 @@ four-holds = record {
   is-made = four-made;
   typed = λ 𝓤 H A W r v is. LL.lawful F.the-type F′.the-laws 𝓤 H A W .typed r _ is .0;
   makes = λ 𝓤 H A W. LL.makes F.the-type F′.the-plain 𝓤 H A;
+}
+
+-- the same of blocks
+blocks-field : (ys : List Block) (us : List Val) → shadow (each Block (B.the-row .own) ys us)
+    → shadow (each (B.the-field .row .Denot) (B.the-field .row .own) (map (B.the-field .into) ys) us)
+blocks-field [] [] s = s
+blocks-field [] (u ∷ us) s = s
+blocks-field (y ∷ ys) [] s = s
+blocks-field (y ∷ ys) (u ∷ us) s = (s .0, blocks-field ys us (s .1))
+
+pub two-made : (a : Shown) (va : Val) (ys : List Block) (vy : Val) → Is (rowOf shown) a (va ∷ []) → Is (Array B.the-row 2) ys (vy ∷ [])
+    → Is W.the-row (record { answer = a; blocks = ys }) (vstruct (vcons va (vcons vy vnil)) ∷ [])
+two-made a va ys vy isa is =
+    let f : Is (Array (B.the-field .row) 2) (map (B.the-field .into) ys) (vy ∷ []) =
+    (is .0, ((is .1 .0 .0, length-map ys (B.the-field .into) ∙ is .1 .0 .1), blocks-field ys (is .0) (is .1 .1))) in
+    ((va ∷ [], (vy ∷ [], tt)), (refl, (isa, (f, tt))))
+
+abbrev pub two-holds : HoldsArray shown B.the-type 2
+two-holds = record {
+  whole = W.the-row;
+  name = W.the-type .name;
+  make = λ a ys. record { answer = a; blocks = ys };
+  is-made = two-made;
+  typed = λ 𝓤 H A W″ r v is. LL.lawful W.the-type W′.the-laws 𝓤 H A W″ .typed r _ is .0;
+  makes = λ 𝓤 H A W″. LL.makes W.the-type W′.the-plain 𝓤 H A;
 }

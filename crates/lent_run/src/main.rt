@@ -1,10 +1,11 @@
-// Calls over what is lent, on both kinds of scheduler: what each answers, refusals too, and what stands in a list lent for the profile.
+// Calls over what is lent, on both kinds of scheduler: what each answers, refusals too, and what stands in a list lent for the profile or the index.
 ghost use Rattle.jobs.specs.Soundness.{Sound};
 ghost use Rattle.jobs.specs.Premise.{Holds};
 ghost use Rattle.history.specs.Calls as calls;
 ghost use Rattle.guarantees.specs.Premise.{Premise};
 ghost use Rattle.lent_calls.specs.CallContract.{Leaves};
-ghost use Rattle.lent_calls.specs.ProfileContract.{Shows};
+ghost use Rattle.lent_calls.specs.ProfileContract.{ShowsPoints};
+ghost use Rattle.lent_calls.specs.IndexContract.{ShowsBlocks};
 use calls::Shown;
 use libc::STDOUT_FILENO;
 use scheduler::Answer;
@@ -17,6 +18,7 @@ use scheduler::Settings;
 use scheduler::Submission;
 use scheduler::Tenant;
 use scheduler::Tickets;
+use spans::Block;
 use spans::Point;
 
 // A program makes no reference to a struct by itself: these lend a scheduler, or a list, of their own.
@@ -75,7 +77,7 @@ pub struct ListOfNone {
 
 fn into_none(d: Scheduler, points: [Point; 0]) -> ListOfNone
     requires { ⌜ Premise d ⌝ }
-    ensures { λ r. ⌜ Shows d points (r .answer) (r .points) ⌝ }
+    ensures { λ r. ⌜ ShowsPoints d points (r .answer) (r .points) ⌝ }
 {
     let mut list = points;
     let a = lent_calls::profile(&d, &mut list);
@@ -92,13 +94,30 @@ pub struct ListOfFour {
 
 fn into_four(d: Scheduler, points: [Point; 4]) -> ListOfFour
     requires { ⌜ Premise d ⌝ }
-    ensures { λ r. ⌜ Shows d points (r .answer) (r .points) ⌝ }
+    ensures { λ r. ⌜ ShowsPoints d points (r .answer) (r .points) ⌝ }
 {
     let mut list = points;
     let a = lent_calls::profile(&d, &mut list);
     ListOfFour {
         answer: a,
         points: list,
+    }
+}
+
+pub struct ListOfTwo {
+    pub answer: Shown,
+    pub blocks: [Block; 2],
+}
+
+fn into_two(d: Scheduler, blocks: [Block; 2]) -> ListOfTwo
+    requires { ⌜ Premise d ⌝ }
+    ensures { λ r. ⌜ ShowsBlocks d blocks (r .answer) (r .blocks) ⌝ }
+{
+    let mut list = blocks;
+    let a = lent_calls::index(&d, &mut list);
+    ListOfTwo {
+        answer: a,
+        blocks: list,
     }
 }
 
@@ -119,13 +138,14 @@ fn print_tickets(t: Tickets) {
     print(t.list[1]);
 }
 
-// Clock after the call, refusal, ticket and promise; the tickets ended; those started; head and forecast.
+// Clock after the call, refusal, ticket, promise and points read; the tickets ended; those started; head and forecast.
 fn print_answer(clock: u32, a: Answer) {
     print(clock);
     let why = a.refusal;
     print(why.code());
     print(a.ticket);
     print(a.promise);
+    print(a.reads);
     io::write_all(STDOUT_FILENO, b"over ");
     print_tickets(a.ended);
     io::write_all(STDOUT_FILENO, b"start ");
@@ -210,6 +230,37 @@ fn show(d: Scheduler)
     io::write_all(STDOUT_FILENO, b"\n");
 }
 
+fn print_block(b: Block) {
+    print(b.fewest);
+    print(b.most);
+}
+
+// The same of the index: for a list of none, and into one of two.
+fn index(d: Scheduler)
+    requires { ⌜ Premise d ⌝ }
+{
+    let none = calls::index(d, 0);
+    print_shown(none.answer);
+    let nine = Block { fewest: 9, most: 9 };
+    let two = into_two(d, [nine; 2]);
+    print_shown(two.answer);
+    let list = two.blocks;
+    print_block(list[0]);
+    print_block(list[1]);
+    io::write_all(STDOUT_FILENO, b"\n");
+}
+
+// The refusal, and the minute before which the job cannot start.
+fn earliest(d: Scheduler, ticket: u32)
+    requires { ⌜ Premise d ⌝ }
+{
+    let e = calls::earliest_start(d, ticket);
+    let why = e.refusal;
+    print(why.code());
+    print(e.minute);
+    io::write_all(STDOUT_FILENO, b"\n");
+}
+
 fn print_kind(kind: Kind) {
     match kind {
         Kind::Conservative => io::write_all(STDOUT_FILENO, b"conservative "),
@@ -264,6 +315,9 @@ fn main() {
     let d2 = submit(d1, 8, 10, Tenant::A);
     let d3 = submit(d2, 4, 25, Tenant::A);
     show(d3);
+    index(d3);
+    earliest(d3, 3);
+    earliest(d3, 1);
     let d4 = submit(d3, 1, 5, Tenant::A);
     show(d4);
     let d5 = submit(d4, 11, 5, Tenant::A);
@@ -283,6 +337,9 @@ fn main() {
     let e4 = submit(e3, 2, 100, Tenant::A);
     let e5 = submit(e4, 1, 0, Tenant::A);
     show(e5);
+    index(e5);
+    earliest(e5, 3);
+    earliest(e5, 6);
     let e6 = complete(e5, 1);
     let e7 = complete(e6, 1);
     let e8 = tick(e7);

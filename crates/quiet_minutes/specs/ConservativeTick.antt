@@ -48,7 +48,7 @@ module _ (m : Model) (l : suc (m .clock) ≤ horizon (m .settings))
     quiet-ticked : ticked m ≡ record { reply = refusing refusal.None; model = later m }
     unfolding ticked advanced
     quiet-ticked = λ i. record {
-      reply = record { refusal = refusal.None; ticket = 0; promise = 0; ended = none-ends i; started = none-starts i; head = none };
+      reply = record { refusal = refusal.None; ticket = 0; promise = 0; reads = 0; ended = none-ends i; started = none-starts i; head = none };
       model = record { settings = m .settings; clock = n; next = m .next; jobs = none-turns i };
     }
 

@@ -15,7 +15,7 @@ use Rattle.scheduler.specs.declared.Scheduler.{Scheduler}
 use Rattle.scheduler.specs.Table.{tickets}
 use Rattle.scheduler.specs.Model.{Model, store}
 
--- document 01's number of each refusal; 0 where nothing is refused
+-- the documents' number of each refusal; 0 where nothing is refused. 4 and 8 are given no longer
 abbrev pub code : Refusal → ℕ
 code refusal.None = 0
 code refusal.NodesOutOfRange = 1
@@ -24,7 +24,6 @@ code refusal.OpeningOutOfRange = 3
 code refusal.NoTicketLeft = 5
 code refusal.PastHorizon = 6
 code refusal.NotRunning = 7
-code refusal.ProfileTooLong = 8
 code refusal.Malformed = 9
 code refusal.TooShort = 10
 code refusal.NotWaiting = 11
@@ -49,11 +48,13 @@ pub record Forecast : Type 0 where
   pub ticket : ℕ
   pub minute : ℕ
 
--- An answer: the refusal; of a submission the ticket and the promise; the tickets ended and started; the new head.
+-- An answer: the refusal; of a submission the ticket, the promise and how many points were read for it; the tickets ended and started; the new
+-- head.
 pub record Reply : Type 0 where
   pub refusal : Refusal
   pub ticket : ℕ
   pub promise : ℕ
+  pub reads : ℕ
   pub ended : List ℕ
   pub started : List ℕ
   pub head : Option Forecast
@@ -76,6 +77,7 @@ answer r = record {
   refusal = r .refusal;
   ticket = r .ticket;
   promise = r .promise;
+  reads = r .reads;
   ended = tickets (r .ended);
   started = tickets (r .started);
   head = headTicket (r .head);
@@ -96,6 +98,7 @@ replyOf a = record {
   refusal = a .refusal;
   ticket = a .ticket;
   promise = a .promise;
+  reads = a .reads;
   ended = ticketsIn (a .ended);
   started = ticketsIn (a .started);
   head = forecastIn (a .head) (a .forecast);
@@ -109,7 +112,7 @@ noTickets = tickets []
 
 -- a refused call: its reason and nothing else, and the model as it was
 abbrev pub refusing : Refusal → Reply
-refusing r = record { refusal = r; ticket = 0; promise = 0; ended = []; started = []; head = none }
+refusing r = record { refusal = r; ticket = 0; promise = 0; reads = 0; ended = []; started = []; head = none }
 
 abbrev pub refuse : Model → Refusal → Result
 refuse m r = record { reply = refusing r; model = m }

@@ -174,6 +174,11 @@ fn later(p: Play, script: &[u8], page: &mut [u8]) -> Played
     let mut at = p.at;
     let mut steps = p.steps;
     let mut end: usize = 0;
+    let mut points = [0u32; 131];
+    let mut free = [0u32; 131];
+    let mut low = [0u32; 9];
+    let mut high = [0u32; 9];
+    let mut count = kept_calls::begin(d, &mut points, &mut free, &mut low, &mut high);
     while end <= last {
         // quiet minutes are passed over at once: their ticks print nothing
         let mut minutes: u32 = 0;
@@ -181,6 +186,19 @@ fn later(p: Play, script: &[u8], page: &mut [u8]) -> Played
             minutes = quiet_minutes::quiet_minutes(d, steps);
         }
         d.clock += minutes;
+        if 0 < minutes {
+            let own = d.settings;
+            let own_kind = own.kind;
+            count = kept_calls::pass_over(
+                own_kind,
+                d.clock,
+                &mut points,
+                &mut free,
+                &mut low,
+                &mut high,
+                count,
+            );
+        }
         let next = next_turn(script, at, steps - minutes);
         at = next.at;
         steps = next.steps;
@@ -190,7 +208,17 @@ fn later(p: Play, script: &[u8], page: &mut [u8]) -> Played
                 Asked::Call(request) => {
                     let settings = d.settings;
                     let kind = settings.kind;
-                    let done = calls::call(d, request);
+                    let kept = kept_calls::call(
+                        d,
+                        request,
+                        &mut points,
+                        &mut free,
+                        &mut low,
+                        &mut high,
+                        count,
+                    );
+                    count = kept.count;
+                    let done = kept.outcome;
                     d = done.scheduler;
                     let answer = done.answer;
                     end = script_writing::put_answer(page, end, kind, d.clock, answer);

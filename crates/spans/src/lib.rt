@@ -12,3 +12,9 @@ pub struct Point {
     pub minute: u32,
     pub free: u32,
 }
+
+// A block's fewest and most free nodes.
+pub struct Block {
+    pub fewest: u32,
+    pub most: u32,
+}

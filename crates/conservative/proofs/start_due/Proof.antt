@@ -43,7 +43,7 @@ returns c =
     let len = part-whole (s .args .p) (s .good .0) in
     let done = starts-done (l .inv) len (omega arith) in
     λ j. record {
-      answer = record { refusal = s .args .p .refusal; ticket = 0; promise = 0; ended = s .args .p .ended; started = done .1 j; head = 0; forecast = 0 };
+      answer = record { refusal = s .args .p .refusal; ticket = 0; promise = 0; reads = 0; ended = s .args .p .ended; started = done .1 j; head = 0; forecast = 0 };
       scheduler = done .0 j;
     }
 

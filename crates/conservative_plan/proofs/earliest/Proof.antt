@@ -1,26 +1,34 @@
--- `conservative_plan::earliest` meets its contract: from the last place of the table on all nodes are free.
+-- `conservative_plan::earliest` meets its contract: the search goes through the index of the profile.
 -- Assumes nothing.
+use mathlib.Core.Path.{refl}
 use native.Mathlib.Omega.{arith}
-use Rattle.conservative_plan.specs.EarliestStart.{seeks-last, last-found, last-low}
+use Rattle.conservative_index.specs.BuiltIndex.{built-none}
+use Rattle.conservative_plan.specs.EarliestStart.{tabulated-few, searches, asked}
 use borrow.Author.Needs.{needs}
 use Rattle.conservative_plan.proofs.earliest.Statement.{statement}
 use Rattle.conservative_plan.proofs.earliest.Tie as tie
 
+build-requires : tie.Need-build-requires
+build-requires c κs =
+    let s = c .before .before .before .before .before .before in
+    let t = c .before .before .before .tabulate .ensures in (
+      built-none refl refl,
+      t .free-long,
+      tabulated-few (s .args .d) (s .pre .planned) t,
+      omega arith,
+    )
+
 search-requires : tie.Need-search-requires
-search-requires c κs = seeks-last (c .before .before .before .before .before .before .pre) (c .before .before .tabulate .ensures .0)
+search-requires c κs =
+    let s = c .before .before .before .before .before .before .before .before .before .before .before in
+    searches (s .args .d) (s .pre) (c .before .before .before .before .before .before .before .before .tabulate .ensures)
+    (c .before .before .before .before .build .ensures)
 
 returns : tie.Need-returns
-returns c = last-found (c .before .before .before .before .before .before .before .pre) (c .before .before .before .tabulate .ensures .0) (c .search .ensures)
-
-mul-result : tie.Need-mul-result
-mul-result c =
-    let a = c .before .before .before .before .before .before .before .pre in
-    omega (arith, last-low a (c .before .before .before .tabulate .ensures .0) (c .search .ensures))
-
-array-read-result : tie.Need-array-read-result
-array-read-result c =
-    let a = c .before .before .before .before .before .before .before .pre in
-    omega (arith, last-low a (c .before .before .before .tabulate .ensures .0) (c .search .ensures))
+returns c =
+    let s = c .before .before .before .before .before .before .before .before .before .before .before .before in
+    asked (s .args .d) (s .pre) (c .before .before .before .before .before .before .before .before .before .tabulate .ensures)
+    (c .before .before .before .before .before .build .ensures) (c .search .ensures)
 
 pub earliest-spec : {M : Type 1} → statement M
-earliest-spec = tie.close (tie.spec (λ c κs. search needs) (λ c. search needs) search-requires mul-result array-read-result returns)
+earliest-spec = tie.close (tie.spec (λ c κs. search needs) build-requires search-requires returns)

@@ -5,36 +5,30 @@ use mathlib.Core.Logic.{⊎-elim}
 use Prim.Native.Nat.{_-_, _≤_, _<_}
 use native.Mathlib.Omega.{arith}
 use Rattle.scheduler.specs.Model.{view}
-use Rattle.conservative_plan.specs.PlannedSlots.{Laying, HoldsTo, held-slots, slot-low, laying-begin, holds-none, holds-more}
-use Rattle.conservative_plan.specs.PlannedSlots.{holds-skip, lay, laid-more, laid-unused, laid-all}
+use Rattle.conservative_plan.specs.PlannedSlots.{Front, held-slots, slot-low, lay, laid-more, laid-unused, laid-all}
 use borrow.Author.Needs.{needs}
 use Rattle.conservative_plan.proofs.tabulate.Statement.{statement}
 use Rattle.conservative_plan.proofs.tabulate.Tie as tie
 
 abbrev Inv-loop : tie.InvT-loop
-Inv-loop minutes₀ free₀ holds₀ d settings count₀ i₀ minutes free holds count i = (i ≤ 64) × Laying (view d .settings) (d .clock) (d .jobs) i count minutes free
-    × HoldsTo (view d .settings) (d .jobs) i holds
+Inv-loop minutes₀ free₀ d settings count₀ i₀ minutes free count i = (i ≤ 64) × Front (view d .settings) (d .clock) (d .jobs) i count minutes free
 
 abbrev μ-loop : tie.MeasureT-loop
-μ-loop minutes₀ free₀ holds₀ d settings count₀ i₀ minutes free holds count i = 64 - i
+μ-loop minutes₀ free₀ d settings count₀ i₀ minutes free count i = 64 - i
 
 idle-requires : tie.Need-idle-requires Inv-loop μ-loop
 idle-requires c κs = (c .before .before .before .pre .1, c .before .before .before .pre .2)
 
 loop-holds : tie.Need-loop-holds Inv-loop μ-loop
 unfolding view
-loop-holds c =
-    let s = c .before .before .before .before in
-    let d = s .args .t1 in
-    (omega arith, laying-begin (held-slots d (s .pre .0)) _ _ (c .idle .ensures), holds-none (d .settings) (d .jobs) _ (s .pre .3))
+loop-holds c = (omega arith, c .idle .ensures)
 
 held-until-requires : tie.Need-held-until-requires Inv-loop μ-loop
 held-until-requires c κs =
     let n = c .before .before .before .before .before in
     let l = n .before in
     let s = l .before .before .before .before .before in
-    let d = s .args .t1 in
-    (slot-low (held-slots d (s .pre .0)) (l .loop .i) (omega (arith, n .loop-test .taken)), c .hold-time .ensures)
+    (slot-low (held-slots (s .args .t1) (s .pre .0)) (l .loop .i) (omega (arith, n .loop-test .taken)), c .hold-time .ensures)
 
 lay-requires : tie.Need-lay-requires Inv-loop μ-loop
 unfolding view
@@ -42,27 +36,20 @@ lay-requires c κs =
     let n = c .before .before .before .before .before .before .before .before .before in
     let l = n .before in
     let s = l .before .before .before .before .before in
-    let d = s .args .t1 in
     rw (c .before .before .before .held-until .ensures)
-    (lay (held-slots d (s .pre .0)) {i = l .loop .i} (omega (arith, n .loop-test .taken)) (l .loop .inv .1))
+    (lay (held-slots (s .args .t1) (s .pre .0)) {i = l .loop .i} (omega (arith, n .loop-test .taken)) (l .loop .inv .1))
 
 loop-again : tie.Need-loop-again Inv-loop μ-loop
 unfolding view
 loop-again c =
     let l = c .before .before .before .before .loop in
     let s = c .before .before .before .before .before .before .before .before .before in
-    let d = s .args .t1 in
-    let q = held-slots d (s .pre .0) in
+    let q = held-slots (s .args .t1) (s .pre .0) in
     let h : l .i < 64 = omega arith in
     let e = c .before .is-live .ensures in
     ⊎-elim
-    (λ w. rw (w .8, w .9, w .10, w .11) (
-      omega arith,
-      laid-more q {i = l .i} h (l .inv .1)
-          (rw (w .3 .ensures) at (w .7 .ensures)),
-      rw (w .2 .ensures) (holds-more (l .inv .2) h),
-    ))
-    (λ w. rw (w .1, w .2, w .3, w .4) (omega arith, laid-unused q {i = l .i} h (l .inv .1) (sym e ∙ w .0 .left), holds-skip (l .inv .2) (sym e ∙ w .0 .left)))
+    (λ w. rw (w .8, w .9, w .10) (omega arith, laid-more q {i = l .i} h (l .inv .1) (rw (w .3 .ensures) at (w .7 .ensures))))
+    (λ w. rw (w .1, w .2, w .3) (omega arith, laid-unused q {i = l .i} h (l .inv .1) (sym e ∙ w .0 .left)))
     (c .if1 .came)
 
 returns : tie.Need-returns Inv-loop μ-loop
@@ -70,10 +57,10 @@ returns c =
     let s = c .before .before .before .before .before .before in
     let l = c .before .loop in
     let i-is : l .i ≡ 64 = omega arith in
-    (laid-all (s .args .t1) (s .pre .0) (rw i-is at (l .inv .1)), rw i-is at (l .inv .2))
+    laid-all (s .args .t1) (s .pre .0) (rw i-is at (l .inv .1))
 
 pub tabulate-spec : {M : Type 1} → statement M
 tabulate-spec =
-    tie.close (tie.spec Inv-loop μ-loop idle-requires loop-holds (λ c. search needs) (λ c. search needs) (λ c κs. search needs) (λ c. search needs)
-    (λ c κs. search needs) (λ c. search needs) (λ c. search needs) held-until-requires (λ c. search needs) lay-requires (λ c. search needs)
-    (λ c. search needs) loop-again returns)
+    tie.close (tie.spec Inv-loop μ-loop idle-requires loop-holds (λ c. search needs) (λ c. search needs) (λ c κs. search needs)
+    (λ c. search needs) (λ c κs. search needs) held-until-requires (λ c. search needs) lay-requires (λ c. search needs) (λ c. search needs)
+    loop-again returns)

@@ -17,10 +17,10 @@ record Inv (ms : List ℕ) (n t low high : ℕ) : Type 0 where
   last : getD ms (low - 1) 0 ≤ t
   next : high < n → t < getD ms high 0
 
-above : {ms : List ℕ} {n t low high : ℕ} (mid : ℕ) → mid < high → getD ms mid 0 ≤ t → Inv ms n t low high → Inv ms n t (mid + 1) high
-above {ms} mid l h v =
+above : {ms : List ℕ} {n t high : ℕ} (mid : ℕ) → mid < high → getD ms mid 0 ≤ t → high ≤ n → (high < n → t < getD ms high 0) → Inv ms n t (mid + 1) high
+above {ms} mid l h inside next =
     let e : mid + 1 - 1 ≡ mid = omega arith in
-    record { some = omega arith; order = omega arith; inside = v .inside; last = omega (arith, ap (λ (k : ℕ). getD ms k 0) e); next = v .next }
+    record { some = omega arith; order = omega arith; inside = inside; last = omega (arith, ap (λ (k : ℕ). getD ms k 0) e); next = next }
 
 found : {ms : List ℕ} {n t low high : ℕ} → high ≤ low → Inv ms n t low high → Place ms n t low
 found {ms} {low = low} {high = high} l v =
@@ -33,18 +33,23 @@ found {ms} {low = low} {high = high} l v =
     }
 
 abbrev Inv-loop : tie.InvT-loop
-Inv-loop minutes first count t low₀ high₀ low high = Inv minutes count t low high
+Inv-loop minutes near count t low₀ high₀ low high = Inv minutes count t low high
 
 abbrev μ-loop : tie.MeasureT-loop
-μ-loop minutes first count t low₀ high₀ low high = high - low
+μ-loop minutes near count t low₀ high₀ low high = high - low
+
+loop-holds : tie.Need-loop-holds Inv-loop μ-loop
+loop-holds c = above _ (c .pre .inside) (c .pre .last) (omega arith) (λ k. absurd (omega arith))
 
 loop-again : tie.Need-loop-again Inv-loop μ-loop
-loop-again c = above _ (omega arith) (omega arith) (c .before .before .before .loop .inv)
+loop-again c =
+    let v = c .before .before .before .loop .inv in
+    above _ (omega arith) (omega arith) (v .inside) (v .next)
 
 returns : tie.Need-returns Inv-loop μ-loop
 returns c = found (omega arith) (c .before .loop .inv)
 
 pub place-after-spec : {M : Type 1} → statement M
 place-after-spec =
-    tie.close (tie.spec Inv-loop μ-loop (λ c. search needs) (λ c. search needs) (λ c. search needs) (λ c. search needs) (λ c. search needs)
-    (λ c. search needs) loop-again (λ c. search needs) (λ c. search needs) returns)
+    tie.close (tie.spec Inv-loop μ-loop (λ c. search needs) loop-holds (λ c. search needs) (λ c. search needs) (λ c. search needs)
+    (λ c. search needs) (λ c. search needs) loop-again (λ c. search needs) (λ c. search needs) returns)

@@ -7,7 +7,7 @@ use Rattle.conservative_table.proofs.split.Statement.{statement}
 use Rattle.conservative_table.proofs.split.Tie as tie
 
 returns : tie.Need-returns
-returns c = split-found 0 (omega (arith, c .before .before .pre .0 .some, c .before .before .pre .0 .low)) (omega arith)
+returns c = split-found _ (c .before .before .pre .0 .inside) (omega arith)
 
 returns-2 : tie.Need-returns-2
 returns-2 c =
@@ -21,5 +21,5 @@ returns-3 c =
 
 pub split-spec : {M : Type 1} → statement M
 split-spec =
-    tie.close (tie.spec (λ c. search needs) returns (λ c κs. search needs) (λ c. search needs) (λ c. search needs) (λ c. search needs)
+    tie.close (tie.spec (λ c. search needs) (λ c. search needs) returns (λ c κs. search needs) (λ c. search needs) (λ c. search needs) (λ c. search needs)
     returns-2 (λ c. search needs) (λ c. search needs) (λ c κs. search needs) (λ c κs. search needs) (λ c. search needs) returns-3)

@@ -6,7 +6,7 @@ use Prim.Native.Nat.{_<_}
 use native.Mathlib.Nat.{lt-of-lt-of-le}
 use Rattle.lent_lemmas.proofs.Fills_ds.{fills-ds}
 use Rattle.hingerota.specs.DeskPremise.{Handed}
-use Rattle.hingerota.specs.ProfileContract.{shownIn, pointAt, HostShows, shows-given, shown-fits, shown-few}
+use Rattle.hingerota.specs.ProfileContract.{pointsIn, pointAt, HostShowsPoints, points-written, host-points-fits, host-points-few}
 use Rattle.hingerota.proofs.FlatTypes.{shown, shown-laws, profile-sheet}
 use Rattle.hingerota.proofs.Desk as D
 use Rattle.hingerota.proofs.Desk.Laws as D′
@@ -25,7 +25,7 @@ unfolding code.routine
 hingerota-profile-spec 𝓤 H 𝓜 𝓖 𝓡 =
     fills-ds R.the-type R′.the-laws R′.the-plain tt shown shown-laws profile-sheet D.the-type D′.the-laws D′.the-plain D′.the-copy callee.name at.name
     true true true
-    (λ d room. Handed d) (λ d room p. p ≡ shownIn d room) (λ p i. i < 129) pointAt HostShows (λ d room z. absurd z)
-    (λ d room p pre e. shown-fits d room p e) (λ d room p i pre e l. lt-of-lt-of-le l (shown-few d room p pre e)) (λ d lent p pre e. shows-given d lent p e)
+    (λ d room. Handed d) (λ d room p. p ≡ pointsIn d room) (λ p i. i < 129) pointAt HostShowsPoints (λ d room z. absurd z)
+    (λ d room p pre e. host-points-fits d room p e) (λ d room p i pre e l. lt-of-lt-of-le l (host-points-few d room p pre e)) (λ d lent p pre e. points-written d lent p e)
     𝓤 H 𝓜 𝓖 𝓡 code.env key.name (code.unfolded 𝓤 H 𝓜 𝓡) callee.routine code.calls-hingerota·profile (callee-thm.met 𝓤 H 𝓜 𝓖 𝓡) at.routine
     code.calls-hingerota·point-at (at-thm.met 𝓤 H 𝓜 𝓖 𝓡)

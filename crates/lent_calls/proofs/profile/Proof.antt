@@ -16,7 +16,7 @@ use Rattle.calls.proofs.profile.Met as callee-thm
 use Rattle.calls.proofs.point_at.Symbol as at
 use Rattle.calls.proofs.point_at.Met as at-thm
 use Rattle.lent_lemmas.proofs.Fills_ds.{fills-ds}
-use Rattle.lent_calls.specs.ProfileContract.{Shows, shows-given, given-fits, given-few}
+use Rattle.lent_calls.specs.ProfileContract.{ShowsPoints, points-given, points-fits, points-few}
 use Rattle.lent_calls.proofs.FlatTypes.{shown, shown-laws, profile-sheet}
 use Rattle.lent_calls.proofs.profile.Key as key
 use Rattle.lent_calls.proofs.profile.Statement as stated
@@ -27,7 +27,7 @@ unfolding code.routine
 profile-spec 𝓤 H 𝓜 𝓖 𝓡 =
     fills-ds R.the-type R′.the-laws R′.the-plain tt shown shown-laws profile-sheet D.the-type D′.the-laws D′.the-plain D′.the-copy callee.name at.name
     true true true
-    (λ d room. Premise d) (λ d room p. p ≡ profileOutcome (view d) room) (λ p i. i < 129) pointAt Shows (λ d room z. absurd z)
-    (λ d room p pre e. given-fits d room p e) (λ d room p i pre e l. lt-of-lt-of-le l (given-few d room p pre e)) (λ d lent p pre e. shows-given d lent p e)
+    (λ d room. Premise d) (λ d room p. p ≡ profileOutcome (view d) room) (λ p i. i < 129) pointAt ShowsPoints (λ d room z. absurd z)
+    (λ d room p pre e. points-fits d room p e) (λ d room p i pre e l. lt-of-lt-of-le l (points-few d room p pre e)) (λ d lent p pre e. points-given d lent p e)
     𝓤 H 𝓜 𝓖 𝓡 code.env key.name (code.unfolded 𝓤 H 𝓜 𝓡) callee.routine code.calls-calls·profile (callee-thm.met 𝓤 H 𝓜 𝓖 𝓡) at.routine
     code.calls-calls·point-at (at-thm.met 𝓤 H 𝓜 𝓖 𝓡)

@@ -1,0 +1,28 @@
+-- `conservative_index::pass_block` meets its contract: the four ways through it.
+-- Assumes nothing.
+use native.Mathlib.Omega.{arith}
+use mathlib.Core.Path.{sym, _∙_}
+use Rattle.conservative_index.specs.Anchors.{pass-over, pass-free, pass-lost, pass-read}
+use borrow.Author.Needs.{needs}
+use Rattle.conservative_index.proofs.pass_block.Statement.{statement}
+use Rattle.conservative_index.proofs.pass_block.Tie as tie
+
+returns : tie.Need-returns
+returns c = pass-over _ _ _ _ _ _ _ _ (c .before .before .enter .ensures) (sym (c .before .over .ensures) ∙ c .if1 .taken)
+
+returns-2 : tie.Need-returns-2
+returns-2 c = pass-free _ _ _ _ _ _ _ _ (c .before .before .before .before .enter .ensures)
+    (sym (c .before .before .before .over .ensures) ∙ c .before .before .if1 .left) (omega arith) (c .settle .ensures)
+
+returns-3 : tie.Need-returns-3
+returns-3 c = pass-lost _ _ _ _ _ _ _ _ (c .before .before .before .before .enter .ensures)
+    (sym (c .before .before .before .over .ensures) ∙ c .before .before .if1 .left) (omega arith) (omega arith)
+
+returns-4 : tie.Need-returns-4
+returns-4 c = pass-read _ _ _ _ _ _ _ _ (c .before .before .before .before .before .enter .ensures)
+    (sym (c .before .before .before .before .over .ensures) ∙ c .before .before .before .if1 .left) (omega arith) (omega arith) (c .read-points .ensures)
+
+pub pass-block-spec : {M : Type 1} → statement M
+pass-block-spec =
+    tie.close (tie.spec (λ c. search needs) (λ c. search needs) (λ c κs. search needs) (λ c κs. search needs) returns
+    (λ c κs. search needs) returns-2 returns-3 (λ c κs. search needs) (λ c. search needs) returns-4)

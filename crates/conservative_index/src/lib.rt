@@ -1,0 +1,342 @@
+// The index of a profile (document 02: "for each block of 16 points, the fewest and the most free nodes"), and the search for the earliest
+// start that goes through the blocks and counts the points that it reads.
+ghost use mathlib.Core.Path.{_≡_};
+ghost use Prim.Native.Nat.{_+_, _-_, min, _<_, _≤_};
+ghost use lib.ListN.{length};
+ghost use Rattle.conservative_table.specs.ListChanges.{rows};
+ghost use Rattle.conservative_table.specs.ProfileLists.{IsProfile, Laying, Advancing};
+ghost use Rattle.spans.specs.Index.{blocks, fewest, most};
+ghost use Rattle.conservative_index.specs.BuiltIndex.{at, Built, Indexed, held};
+ghost use Rattle.conservative_index.specs.StoredIndex.{storedBlocks};
+ghost use Rattle.conservative_index.specs.Anchors.{over, minuteOf, enter, settle, readPoint, readPoints, passBlock};
+ghost use Rattle.conservative_index.specs.Search.{Searches, Sought};
+ghost use Rattle.conservative_index.specs.Intake.{Took};
+
+// The index as a value. The blocks stand first; the places past the count are all zero.
+pub struct Blocks {
+    pub count: usize,
+    pub list: [spans::Block; 9],
+}
+
+impl Blocks {
+    // The blocks of so many points, copied out of the lists.
+    pub fn copied(low: &[u32; 9], high: &[u32; 9], points: usize) -> Blocks
+        requires { ⌜ (length (now low) ≡ 9) × (length (now high) ≡ 9) × (points ≤ rows) ⌝ }
+        ensures { λ r. ⌜ r ≡ storedBlocks (held (now (low .entry)) (now (high .entry)) (blocks points)) ⌝ }
+    {
+        let nothing = spans::Block { fewest: 0, most: 0 };
+        let mut list = [nothing; 9];
+        let count = (points + 15) / 16;
+        let mut i: usize = 0;
+        while i < count {
+            list[i] = spans::Block {
+                fewest: low[i],
+                most: high[i],
+            };
+            i += 1;
+        }
+        Blocks {
+            count: count,
+            list: list,
+        }
+    }
+}
+
+// The fewest free nodes in these places.
+fn fewest_of(free: &[u32; 131], from: usize, to: usize) -> u32
+    requires { ⌜ (length (now free) ≡ rows) × (from < to) × (to ≤ rows) ⌝ }
+    ensures { λ r. ⌜ r ≡ fewest (at (now (free .entry))) from (to - from - 1) ⌝ }
+{
+    let mut low = free[from];
+    let mut i = from + 1;
+    while i < to {
+        let left = free[i];
+        if left < low {
+            low = left;
+        }
+        i += 1;
+    }
+    low
+}
+
+// The most free nodes in these places.
+fn most_of(free: &[u32; 131], from: usize, to: usize) -> u32
+    requires { ⌜ (length (now free) ≡ rows) × (from < to) × (to ≤ rows) ⌝ }
+    ensures { λ r. ⌜ r ≡ most (at (now (free .entry))) from (to - from - 1) ⌝ }
+{
+    let mut high = free[from];
+    let mut i = from + 1;
+    while i < to {
+        let left = free[i];
+        if high < left {
+            high = left;
+        }
+        i += 1;
+    }
+    high
+}
+
+// The end of the block that begins in this place.
+fn end_of(from: usize, count: usize) -> usize
+    requires { ⌜ (from < count) × (count ≤ rows) ⌝ }
+    ensures { λ r. ⌜ r ≡ from + min 16 (count - from) ⌝ }
+{
+    if count - from < 16 {
+        return count;
+    }
+    from + 16
+}
+
+// The index is brought up to date from this block on; those before it are.
+pub fn build(free: &[u32; 131], count: usize, low: &mut [u32; 9], high: &mut [u32; 9], first: usize)
+    requires { ⌜ Built (now free) count (now low) (now high) first × (length (now free) ≡ rows) × (count ≤ rows) × (first ≤ 9) ⌝ }
+    ensures { λ _. ⌜ Indexed (now (free .entry)) count (now (low .exit)) (now (high .exit)) ⌝ }
+{
+    let mut b = first;
+    let mut from = first * 16;
+    while from < count {
+        let to = end_of(from, count);
+        let few = fewest_of(free, from, to);
+        let many = most_of(free, from, to);
+        low[b] = few;
+        high[b] = many;
+        b += 1;
+        from += 16;
+    }
+}
+
+// Where the search stands: no minute so far will do; or from a minute on the nodes have been free so far; or a minute does.
+pub enum Anchor {
+    Lost,
+    From(u32),
+    Found(u32),
+}
+
+// Where the search stands after a block, and how many of its points were read.
+pub struct Step {
+    pub anchor: Anchor,
+    pub reads: usize,
+}
+
+// The start, and how many points were read.
+pub struct Start {
+    pub minute: u32,
+    pub reads: usize,
+}
+
+// The search comes to a minute: by then the hold may be over.
+fn enter(anchor: Anchor, hold: u32, minute: u32) -> Anchor
+    ensures { λ r. ⌜ r ≡ enter hold minute anchor ⌝ }
+{
+    match anchor {
+        Anchor::Lost => Anchor::Lost,
+        Anchor::From(a) => {
+            if a <= minute {
+                if hold <= minute - a {
+                    return Anchor::Found(a);
+                }
+            }
+            Anchor::From(a)
+        }
+        Anchor::Found(a) => Anchor::Found(a),
+    }
+}
+
+// From this minute on there are nodes enough, or not.
+fn settle(anchor: Anchor, minute: u32, enough: bool) -> Anchor
+    ensures { λ r. ⌜ r ≡ settle minute enough anchor ⌝ }
+{
+    match anchor {
+        Anchor::Lost => {
+            if enough {
+                return Anchor::From(minute);
+            }
+            Anchor::Lost
+        }
+        Anchor::From(a) => {
+            if enough {
+                return Anchor::From(a);
+            }
+            Anchor::Lost
+        }
+        Anchor::Found(a) => Anchor::Found(a),
+    }
+}
+
+// Whether the minute is found.
+fn over(anchor: Anchor) -> bool
+    ensures { λ r. ⌜ r ≡ over anchor ⌝ }
+{
+    match anchor {
+        Anchor::Lost => false,
+        Anchor::From(_) => false,
+        Anchor::Found(_) => true,
+    }
+}
+
+// One point is read.
+fn read_point(anchor: Anchor, minute: u32, free: u32, nodes: u32, hold: u32) -> Anchor
+    ensures { λ r. ⌜ r ≡ readPoint nodes hold minute free anchor ⌝ }
+{
+    let here = enter(anchor, hold, minute);
+    settle(here, minute, nodes <= free)
+}
+
+// The points of these places are read.
+fn read_points(
+    minutes: &[u32; 131],
+    free: &[u32; 131],
+    from: usize,
+    to: usize,
+    anchor: Anchor,
+    nodes: u32,
+    hold: u32,
+) -> Anchor
+    requires { ⌜ (length (now minutes) ≡ rows) × (length (now free) ≡ rows) × (from ≤ to) × (to ≤ rows) ⌝ }
+    ensures { λ r. ⌜ r ≡ readPoints nodes hold (at (now (minutes .entry))) (at (now (free .entry))) from (to - from) anchor ⌝ }
+{
+    let mut here = anchor;
+    let mut i = from;
+    while i < to {
+        here = read_point(here, minutes[i], free[i], nodes, hold);
+        i += 1;
+    }
+    here
+}
+
+// A block is passed as a whole, or its points are read.
+fn pass_block(
+    minutes: &[u32; 131],
+    free: &[u32; 131],
+    from: usize,
+    to: usize,
+    low: u32,
+    high: u32,
+    anchor: Anchor,
+    nodes: u32,
+    hold: u32,
+) -> Step
+    requires { ⌜ (length (now minutes) ≡ rows) × (length (now free) ≡ rows) × (from < to) × (to ≤ rows) ⌝ }
+    ensures { λ r. ⌜ r ≡ passBlock nodes hold (at (now (minutes .entry))) (at (now (free .entry))) low high from (to - from) anchor ⌝ }
+{
+    let minute = minutes[from];
+    let here = enter(anchor, hold, minute);
+    if over(here) {
+        return Step {
+            anchor: here,
+            reads: 0,
+        };
+    }
+    if nodes <= low {
+        let next = settle(here, minute, true);
+        return Step {
+            anchor: next,
+            reads: 0,
+        };
+    }
+    if high < nodes {
+        return Step {
+            anchor: Anchor::Lost,
+            reads: 0,
+        };
+    }
+    let next = read_points(minutes, free, from, to, here, nodes, hold);
+    Step {
+        anchor: next,
+        reads: to - from,
+    }
+}
+
+// The minute that was found.
+fn minute_of(anchor: Anchor) -> u32
+    ensures { λ r. ⌜ r ≡ minuteOf anchor ⌝ }
+{
+    match anchor {
+        Anchor::Lost => 0,
+        Anchor::From(a) => a,
+        Anchor::Found(a) => a,
+    }
+}
+
+// The earliest minute for a job of `nodes` nodes that holds them for `hold` minutes.
+pub fn search(
+    minutes: &[u32; 131],
+    free: &[u32; 131],
+    count: usize,
+    low: &[u32; 9],
+    high: &[u32; 9],
+    nodes: u32,
+    hold: u32,
+) -> Start
+    requires { ⌜ Searches (now minutes) (now free) count (now low) (now high) nodes hold ⌝ }
+    ensures { λ r. ⌜ ((s : Searches (now (minutes .entry)) (now (free .entry)) count (now (low .entry)) (now (high .entry)) nodes hold) → Sought s r) ⌝ }
+{
+    let mut anchor = Anchor::Lost;
+    let mut reads: usize = 0;
+    let mut b: usize = 0;
+    let mut from: usize = 0;
+    while from < count {
+        let to = end_of(from, count);
+        let step = pass_block(
+            minutes,
+            free,
+            from,
+            to,
+            low[b],
+            high[b],
+            anchor,
+            nodes,
+            hold,
+        );
+        let next = step.anchor;
+        anchor = next;
+        reads += step.reads;
+        b += 1;
+        from += 16;
+    }
+    Start {
+        minute: minute_of(anchor),
+        reads: reads,
+    }
+}
+
+// A span is laid over the profile, and the index is brought up to date from the first block that may have changed.
+pub fn take_in(
+    minutes: &mut [u32; 131],
+    free: &mut [u32; 131],
+    count: usize,
+    low: &mut [u32; 9],
+    high: &mut [u32; 9],
+    x: spans::Span,
+) -> usize
+    requires { ⌜ Laying (now minutes) (now free) 0 count x × Indexed (now free) count (now low) (now high) ⌝ }
+    ensures { λ r.
+        ⌜ ((l : Laying (now (minutes .entry)) (now (free .entry)) 0 count x) → Indexed (now (free .entry)) count (now (low .entry)) (now (high .entry))
+        → Took l r (now (minutes .exit)) (now (free .exit)) (now (low .exit)) (now (high .exit))) ⌝ }
+{
+    let row = conservative_table::lay(minutes, free, 0, count, x);
+    let n = row.count;
+    build(free, n, low, high, row.at / 16);
+    n
+}
+
+// The clock moves on to this minute. Where no point leaves, the index is as it was.
+pub fn advance(
+    minutes: &mut [u32; 131],
+    free: &mut [u32; 131],
+    count: usize,
+    low: &mut [u32; 9],
+    high: &mut [u32; 9],
+    t: u32,
+) -> usize
+    requires { ⌜ Advancing (now minutes) (now free) count t × Indexed (now free) count (now low) (now high) ⌝ }
+    ensures { λ r.
+        ⌜ ((l : Advancing (now (minutes .entry)) (now (free .entry)) count t) → IsProfile (l .machine) (l .spans) t r (now (minutes .exit)) (now (free .exit)))
+        × Indexed (now (free .exit)) r (now (low .exit)) (now (high .exit)) ⌝ }
+{
+    let n = conservative_table::advance(minutes, free, count, t);
+    if n != count {
+        build(free, n, low, high, 0);
+    }
+    n
+}

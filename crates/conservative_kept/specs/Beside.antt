@@ -1,0 +1,83 @@
+-- The points of a model and their index, kept in lists beside it.
+-- Assumes nothing.
+use Prim.Native.Nat.{ℕ, _≤_}
+use native.Mathlib.Omega.{arith}
+use mathlib.Core.Path.{_≡_, refl, sym, _∙_}
+use mathlib.Core.Bool.{Bool, not}
+use mathlib.Core.List.{List, [], _∷_}
+use lib.ListN.{length, length-map}
+use Rattle.lists.specs.Tests.{on, case}
+use Rattle.lists.specs.Lists.{keep, sum, sum-map}
+use Rattle.spans.specs.Spans.{used, lastEnd}
+use Rattle.scheduler.specs.declared.Job.{Job}
+use Rattle.scheduler.specs.declared.Select.{Select}
+use Rattle.scheduler.specs.declared.Settings.{Settings}
+use Rattle.scheduler.specs.Limits.{slots}
+use Rattle.scheduler.specs.Settings.{horizon}
+use Rattle.scheduler.specs.Table.{leaves, staying, ceased, remaining}
+use Rattle.scheduler.specs.Model.{Model, store, view}
+use Rattle.jobs.specs.Soundness.{Sound}
+use Rattle.conservative_table.specs.ListChanges.{rows}
+use Rattle.conservative_table.specs.ProfileLists.{IsProfile, exact-few, exact-same}
+use Rattle.spans.specs.Index.{blocks, index}
+use Rattle.spans.specs.declared.Block.{Block}
+use Rattle.conservative_index.specs.BuiltIndex.{Built, built-none, Indexed, held, indexed-index}
+use Rattle.conservative_rules.specs.Conservative.{span, spans, points}
+use Rattle.conservative_laws.specs.Validity.{Valid, taken, used-jobs}
+use Rattle.conservative_plan.specs.PlannedSlots.{Tabulated, used-slots, last-slots}
+
+-- the lists are the points of the model and their index
+pub record Beside (m : Model) (n : ℕ) (ms fs lo hi : List ℕ) : Type 0 where
+  pub profile : IsProfile (m .settings .nodes) (spans (m .settings) (m .jobs)) (m .clock) n ms fs
+  pub indexed : Indexed fs n lo hi
+
+module _ {m : Model} (s : Sound m) {n : ℕ} {ms fs : List ℕ} (p : IsProfile (m .settings .nodes) (spans (m .settings) (m .jobs)) (m .clock) n ms fs) where
+  pub few-spans : length (spans (m .settings) (m .jobs)) ≤ slots
+  few-spans = omega (arith, s .few, length-map (m .jobs) (span (m .settings)))
+
+  pub fits-rows : n ≤ rows
+  fits-rows = omega (arith, exact-few p, few-spans)
+
+  -- an index of them can be built
+  pub builds : {lo hi : List ℕ} → length lo ≡ 9 → length hi ≡ 9 → Built fs n lo hi 0 × (length fs ≡ rows) × (n ≤ rows) × (0 ≤ 9)
+  builds a b = (
+    built-none a b,
+    p .free-long,
+    fits-rows,
+    omega arith,
+  )
+
+-- no hold passes the last minute
+pub ends-within : {m : Model} → Sound m → lastEnd (spans (m .settings) (m .jobs)) ≤ horizon (m .settings)
+ends-within {m} s = last-slots (m .settings) (horizon (m .settings)) (m .jobs) (λ j i. s .each j i .ends)
+
+-- "the index always agrees with the profile after any call": what the lists hold is the index of the model's points
+pub beside-index : {m : Model} {n : ℕ} {ms fs lo hi : List ℕ} → Valid m → Beside m n ms fs lo hi → held lo hi (blocks n) ≡ index (points m)
+beside-index v b = indexed-index (b .profile) (fits-rows (v .sound) (b .profile)) (b .indexed)
+
+-- the profile of the slots of a stored model is that of the model
+pub stored-profile : (m : Model) {n : ℕ} {ms fs : List ℕ} → Tabulated (store m) n ms fs
+    → IsProfile (m .settings .nodes) (spans (m .settings) (m .jobs)) (m .clock) n ms fs
+unfolding store view
+stored-profile m t = exact-same (spans (m .settings) (m .jobs)) t (λ r l. used-slots (m .settings) r (m .jobs))
+
+pub profile-stored : (m : Model) {n : ℕ} {ms fs : List ℕ} → IsProfile (m .settings .nodes) (spans (m .settings) (m .jobs)) (m .clock) n ms fs
+    → Tabulated (store m) n ms fs
+unfolding store view
+profile-stored m p = exact-same (spans (m .settings) (store m .jobs)) p (λ r l. sym (used-slots (m .settings) r (m .jobs)))
+
+-- ## What those that remain take
+
+pub sum-on : {A : Type 0} (f : A → ℕ) (p : A → Bool) (xs : List A) → sum f (keep p xs) ≡ sum (λ (a : A). on (p a) (f a)) xs
+sum-on f p [] = refl
+sum-on f p (x ∷ xs) = case (p x) (λ e. rw e (omega (arith, sum-on f p xs))) (λ e. rw e (omega (arith, sum-on f p xs)))
+
+-- what is left of a job takes
+abbrev pub left : Settings → ℕ → Select → ℕ → Job → ℕ
+left S c s t j = on (not (leaves S s j)) (taken S t (ceased c s j))
+
+pub used-left : (S : Settings) (c : ℕ) (s : Select) (t : ℕ) (js : List Job) → used t (spans S (remaining S c s js)) ≡ sum (left S c s t) js
+used-left S c s t js =
+    used-jobs S t (remaining S c s js)
+    ∙ sum-map (taken S t) (ceased c s) (staying S s js)
+    ∙ sum-on (λ (j : Job). taken S t (ceased c s j)) (λ (j : Job). not (leaves S s j)) js
