@@ -15,7 +15,7 @@ static const char *const reasons[] = {
     "ticket 999,999 has been given",
     "past the last minute, 1,000,000",
     "the ticket is not running",
-    "the profile would have more than 129 points",
+    "no such refusal",
     "no such refusal",
     "the list is too short",
     "the ticket is not waiting",

@@ -13,19 +13,19 @@
  * The premise. Every call is proved for desks that meet it, and says nothing of others:
  *   - a desk is made by hingerota_open_promise or hingerota_open_loose alone, and changed by the calls of this header alone;
  *   - nobody else writes to it, and no two calls use it at the same time (read it as you like between calls);
- *   - a pointer handed to a call points to a whole desk, or to `room` points, and the two do not overlap. It is never
+ *   - a pointer handed to a call points to a whole desk, or to `room` points or blocks, and the two do not overlap. It is never
  *     NULL, also where `room` is 0.
  * Openings and calls, refused ones too, are proved to hand back a desk that meets the premise. A copy of a desk is a desk; calls on the
  * one say nothing of the other.
  *
- * What is proved. Each call gives exactly what its definition says (docs/ARCHITECTURE.md): answer, desk and points. Over every list of
- * calls on a desk: a job of a Promise Desk starts no later than its promise; a job of a Loose Desk starts no later than its bound, the
- * minute of its submission + 10,080 and the cleanup for each job that waited then and for itself; every head of a Loose Desk hears a
+ * What is proved. Each call gives exactly what its definition says (docs/ARCHITECTURE.md): answer, desk, points and blocks. Over every
+ * list of calls on a desk: a job of a Promise Desk starts no later than its promise; a job of a Loose Desk starts no later than its bound,
+ * the minute of its submission + 10,080 and the cleanup for each job that waited then and for itself; every head of a Loose Desk hears a
  * forecast and starts no later; the jobs that run, with those that ended fewer minutes ago than the cleanup has, never hold more nodes
  * than the machine has; and of each tenant these and those that wait are never more than its quota. A promise, a bound and a forecast bind
  * until the job is withdrawn: that was before any of these minutes. A job that is withdrawn never starts. A job never starts before a
- * minute that hingerota_earliest_start gave of it, whatever calls followed. Minutes depend on the jobs of both tenants, and are kept for
- * both.
+ * minute that hingerota_earliest_start gave of it, whatever calls followed. The index agrees with the profile after every call, and the
+ * minute found by it is that of the search through every point. Minutes depend on the jobs of both tenants, and are kept for both.
  */
 #ifndef HINGEROTA_H
 #define HINGEROTA_H
@@ -44,10 +44,12 @@ enum {
     HINGEROTA_LONGEST_CLEANUP = 30,
     HINGEROTA_LIVE_JOBS = 64,
     HINGEROTA_LAST_TICKET = 999999,
-    HINGEROTA_MOST_POINTS = 129 /* a list of this length is never too short */
+    HINGEROTA_MOST_POINTS = 129, /* a list of this length is never too short */
+    HINGEROTA_MOST_BLOCKS = 9,   /* nor is one of so many blocks */
+    HINGEROTA_BLOCK_POINTS = 16  /* the points of a block; the last may have fewer */
 };
 
-/* Why a call is refused. A refused call gives its number and nothing else, and leaves the desk and the points as they were. */
+/* Why a call is refused. A refused call gives its number and nothing else, and leaves the desk and the list lent as they were. */
 enum {
     HINGEROTA_TAKEN = 0,
     HINGEROTA_NODES_OUT_OF_RANGE = 1,    /* an opening outside 1 to 1,024; a job with 0, or more than the machine has */
@@ -57,8 +59,8 @@ enum {
     HINGEROTA_NO_TICKET_LEFT = 5,        /* ticket 999,999 has been given */
     HINGEROTA_PAST_LAST_MINUTE = 6,      /* a job whose nodes could be taken after minute 1,000,000; a tick or a wait past it */
     HINGEROTA_NOT_RUNNING = 7,           /* the ticket is of no running job; one in cleanup runs no more */
-    HINGEROTA_PROFILE_TOO_LONG = 8,      /* more than 129 points; proved never to occur */
-    HINGEROTA_TOO_SHORT = 10,            /* the points do not fit into the list lent */
+    /* 8 is given no more: a profile never has more than 129 points */
+    HINGEROTA_TOO_SHORT = 10,            /* the points, or the blocks, do not fit into the list lent */
     HINGEROTA_NOT_WAITING = 11,          /* the ticket is of no waiting job */
     HINGEROTA_CLEANUP_OUT_OF_RANGE = 12, /* an opening with a cleanup above 30 */
     HINGEROTA_QUOTAS_OUT_OF_RANGE = 13,  /* an opening with quotas that are not 64 together, or with one of 0 */
@@ -128,6 +130,7 @@ typedef struct {
     uint32_t refusal;
     uint32_t ticket;   /* of a submission that is taken */
     uint32_t promise;  /* and, on a Promise Desk, the minute by which it starts */
+    uint32_t reads;    /* and how many points of the profile were read to find it */
     uint32_t head;     /* on a Loose Desk: the first waiting job, if it was not the first before this call */
     uint32_t forecast; /* and the minute by which it starts */
     hingerota_tickets ended;   /* ascending */
@@ -144,6 +147,12 @@ typedef struct {
     uint32_t minute;
     uint32_t free;
 } hingerota_point; /* 8 bytes */
+
+/* Of a block of points, the fewest and the most nodes that are free. */
+typedef struct {
+    uint32_t fewest;
+    uint32_t most;
+} hingerota_block; /* 8 bytes */
 
 typedef struct {
     uint32_t refusal;
@@ -163,7 +172,7 @@ hingerota_opened hingerota_open_loose(hingerota_opening opening);
 
 /* A job is submitted. Its nodes are kept for its estimate rounded up: to 120 minutes by fives, to 480 by tens, above by thirties; then
  * the desk ends it, and they are free again after the cleanup. It starts at once if its ticket stands in `started`. Refused by 14, 1, 2,
- * 19, 15, 5, 6 or 8, the first of these that applies. */
+ * 19, 15, 5 or 6, the first of these that applies. */
 hingerota_answer hingerota_submit(hingerota_desk *d, hingerota_order order);
 
 /* A running job is over before its time: it stands in `ended`, and those that start now in `started`. Its nodes are free again after the
@@ -183,6 +192,12 @@ hingerota_answer hingerota_tick(hingerota_desk *d);
  * which has places for `room`. The first is now, then each later minute whose free nodes differ from those of the minute before. The
  * places past the last point keep what they held. Refused by 10. A Loose Desk has no profile: nothing is refused and nothing written. */
 hingerota_shown hingerota_profile(const hingerota_desk *d, hingerota_point *points, size_t room);
+
+/* The index of that profile: `count` blocks are written into `blocks`, which has places for `room`, one for each 16 points in their order;
+ * the last may have fewer. The places past the last block keep what they held. A submission reads, each once, the points of those blocks
+ * that begin before its nodes are free again, and whose fewest is below its nodes and whose most is not; `reads` says how many. Refused by
+ * 10. A Loose Desk has no index: nothing is refused and nothing written. */
+hingerota_shown hingerota_index(const hingerota_desk *d, hingerota_block *blocks, size_t room);
 
 /* Why a wait of `minutes` is refused, by 2 or 6, the first that applies, or 0 where it is not: it is then that number of ticks.
  * The desk is only read. */

@@ -1,6 +1,6 @@
 //! The structs of `raw.rs` have the sizes and offsets of those in `include/hingerota.h`, as a C compiler lays them out.
 
-use crate::raw::{Answer, Desk, Earliest, Opened, Opening, Order, Point, Record, Shown, Tickets};
+use crate::raw::{Answer, Block, Desk, Earliest, Opened, Opening, Order, Point, Record, Shown, Tickets};
 use std::mem::{offset_of, size_of};
 use std::path::Path;
 use std::process::Command;
@@ -30,9 +30,10 @@ fn layouts_are_those_of_the_header() {
         "hingerota_record" Record { ticket nodes estimate state tenant least start promise end }
         "hingerota_desk" Desk { kind nodes cleanup quota_a quota_b clock next jobs }
         "hingerota_tickets" Tickets { count list }
-        "hingerota_answer" Answer { refusal ticket promise head forecast ended started }
+        "hingerota_answer" Answer { refusal ticket promise reads head forecast ended started }
         "hingerota_opened" Opened { refusal desk }
         "hingerota_point" Point { minute free }
+        "hingerota_block" Block { fewest most }
         "hingerota_shown" Shown { refusal count }
         "hingerota_earliest" Earliest { refusal minute }
     };
@@ -65,6 +66,7 @@ fn sizes_are_as_stated() {
         ("hingerota_answer", size_of::<Answer>()),
         ("hingerota_opened", size_of::<Opened>()),
         ("hingerota_point", size_of::<Point>()),
+        ("hingerota_block", size_of::<Block>()),
         ("hingerota_shown", size_of::<Shown>()),
         ("hingerota_earliest", size_of::<Earliest>()),
     ] {

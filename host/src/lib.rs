@@ -7,10 +7,16 @@
 mod layout;
 mod raw;
 
-pub use raw::{Answer, Earliest, Opening, Order, Point, Record, Shown, Tickets};
+pub use raw::{Answer, Block, Earliest, Opening, Order, Point, Record, Shown, Tickets};
 
 /// The list of points that always suffices.
 pub const MOST_POINTS: usize = 129;
+
+/// So many points a block of the index has; the last may have fewer.
+pub const BLOCK_POINTS: usize = 16;
+
+/// The list of blocks that always suffices.
+pub const MOST_BLOCKS: usize = MOST_POINTS.div_ceil(BLOCK_POINTS);
 
 /// The two tenants of a machine, by their letters.
 pub const TENANT_A: u32 = b'A' as u32;
@@ -57,7 +63,7 @@ impl Desk {
     // SAFETY of the calls: `self.raw` came from an opening or a call, since nothing else makes or changes it; it is borrowed whole, so
     // nobody else writes it meanwhile; a slice points to as many places as its length says, and is no part of the desk.
 
-    /// A job is submitted; refused by 14, 1, 2, 19, 15, 5, 6 or 8.
+    /// A job is submitted; refused by 14, 1, 2, 19, 15, 5 or 6.
     pub fn submit(&mut self, order: Order) -> Answer {
         unsafe { raw::hingerota_submit(&mut self.raw, order) }
     }
@@ -80,6 +86,12 @@ impl Desk {
     /// The free nodes from now on, into the front of the list lent; refused by 10. Places past the last point keep what they held.
     pub fn profile(&self, points: &mut [Point]) -> Shown {
         unsafe { raw::hingerota_profile(&self.raw, points.as_mut_ptr(), points.len()) }
+    }
+
+    /// The index of that profile, the fewest and the most free nodes of each block of its points, into the front of the list lent; refused
+    /// by 10. Places past the last block keep what they held.
+    pub fn index(&self, blocks: &mut [Block]) -> Shown {
+        unsafe { raw::hingerota_index(&self.raw, blocks.as_mut_ptr(), blocks.len()) }
     }
 
     /// Why a wait of `minutes` is refused, by 2 or 6, or 0 where it is not: it is then that number of ticks.
@@ -164,7 +176,6 @@ pub fn reason(refusal: u32) -> &'static str {
         5 => "ticket 999,999 has been given",
         6 => "past the last minute, 1,000,000",
         7 => "the ticket is not running",
-        8 => "the profile would have more than 129 points",
         10 => "the list is too short",
         11 => "the ticket is not waiting",
         12 => "opened with a cleanup above 30",

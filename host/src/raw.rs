@@ -74,6 +74,8 @@ pub struct Answer {
     pub refusal: u32,
     pub ticket: u32,
     pub promise: u32,
+    /// How many points of the profile were read to find the promise.
+    pub reads: u32,
     pub head: u32,
     pub forecast: u32,
     pub ended: Tickets,
@@ -91,6 +93,14 @@ pub struct Opened {
 pub struct Point {
     pub minute: u32,
     pub free: u32,
+}
+
+/// Of a block of points, the fewest and the most nodes that are free.
+#[repr(C)]
+#[derive(Clone, Copy, PartialEq, Eq, Debug)]
+pub struct Block {
+    pub fewest: u32,
+    pub most: u32,
 }
 
 #[repr(C)]
@@ -118,6 +128,7 @@ extern "C" {
     pub fn hingerota_cancel(d: *mut Desk, ticket: u32) -> Answer;
     pub fn hingerota_tick(d: *mut Desk) -> Answer;
     pub fn hingerota_profile(d: *const Desk, points: *mut Point, room: usize) -> Shown;
+    pub fn hingerota_index(d: *const Desk, blocks: *mut Block, room: usize) -> Shown;
     pub fn hingerota_wait_refusal(d: *const Desk, minutes: u32) -> u32;
     pub fn hingerota_earliest_start(d: *const Desk, ticket: u32) -> Earliest;
 }

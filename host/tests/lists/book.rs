@@ -1,7 +1,7 @@
 //! The guarantees of a list of calls, watched by the calls and their answers alone: nothing here looks into a desk.
 
-use crate::model::{held, HOUSES, LONGEST_ESTIMATE};
-use hingerota_host::{Answer, Earliest, Kind, Order, Tickets};
+use crate::model::{held, BLOCK_POINTS, HOUSES, LONGEST_ESTIMATE};
+use hingerota_host::{Answer, Block, Earliest, Kind, Order, Point, Tickets};
 use std::collections::BTreeMap;
 
 /// What has become of a job taken in.
@@ -55,7 +55,7 @@ pub struct Book {
 /// often nodes of jobs that had ended stood in the sum, and how often it was all of the machine's by them; how often a house had all of its
 /// places live, and how often by jobs that had ended; of early ends of jobs with a least, and of these, in the first minute in which it is
 /// reached; of earliest starts given, and of these, larger ones than before; of jobs that started and had been given one, and of these, in
-/// that very minute, given before it came.
+/// that very minute, given before it came; of submissions that read points; of indexes beside a profile, and of the blocks of these.
 #[derive(Default, Clone, Copy)]
 pub struct Tried {
     pub promises: u64,
@@ -74,6 +74,9 @@ pub struct Tried {
     pub earliest_risen: u64,
     pub earliest_kept: u64,
     pub starts_at_the_earliest: u64,
+    pub reads: u64,
+    pub indexes: u64,
+    pub blocks: u64,
 }
 
 impl Tried {
@@ -94,6 +97,9 @@ impl Tried {
         self.earliest_risen += other.earliest_risen;
         self.earliest_kept += other.earliest_kept;
         self.starts_at_the_earliest += other.starts_at_the_earliest;
+        self.reads += other.reads;
+        self.indexes += other.indexes;
+        self.blocks += other.blocks;
     }
 }
 
@@ -126,11 +132,12 @@ impl Book {
         let (ended, started) = (answer.ended.as_slice(), answer.started.as_slice());
         if !answer.is_taken() {
             claim!(
-                ended.is_empty() && started.is_empty() && answer.ticket == 0 && answer.head == 0,
+                ended.is_empty() && started.is_empty() && answer.ticket == 0 && answer.head == 0 && answer.reads == 0,
                 "a refusal gives more than its number"
             );
             return Ok(());
         }
+        self.reads(call, answer)?;
         match *call {
             Call::Submit(Order { nodes, estimate, tenant: house, least }) => {
                 claim!(HOUSES.contains(&house), "a job of {house} is taken in");
@@ -254,6 +261,50 @@ impl Book {
         Ok(())
     }
 
+    /// A profile has no more points: one for now, one for each job whose nodes are taken now, and two for each that waits.
+    fn most_points(&self) -> usize {
+        let points = |fate| match fate {
+            Fate::Waiting => 2,
+            Fate::Running(_) => 1,
+            Fate::Ended(minute) => usize::from(self.clock - minute < self.cleanup),
+            Fate::Withdrawn(_) => 0,
+        };
+        1 + self.entries.values().map(|e| points(e.fate)).sum::<usize>()
+    }
+
+    /// Before a call is entered: only a submission to a Promise Desk reads points, and no point twice.
+    fn reads(&mut self, call: &Call, answer: &Answer) -> Result<(), String> {
+        let reads = answer.reads as usize;
+        let searches = self.kind == Kind::Promise && matches!(call, Call::Submit(_));
+        claim!(searches || reads == 0, "{reads} points are read and nothing is searched");
+        let most = self.most_points();
+        claim!(reads <= most, "{reads} points are read, of at most {most}");
+        self.tried.reads += u64::from(reads > 0);
+        Ok(())
+    }
+
+    /// What a desk gives as its points and as their index, neither refused: "the index always agrees with the profile after any call".
+    pub fn index(&mut self, points: &[Point], blocks: &[Block]) -> Result<(), String> {
+        if self.kind == Kind::Loose {
+            claim!(points.is_empty() && blocks.is_empty(), "a Loose Desk has points or blocks");
+            return Ok(());
+        }
+        let most = self.most_points();
+        claim!((1..=most).contains(&points.len()), "{} points, of at most {most}", points.len());
+        let parts = points.chunks(BLOCK_POINTS);
+        claim!(blocks.len() == parts.len(), "{} blocks of {} points", blocks.len(), points.len());
+        for (part, block) in parts.zip(blocks) {
+            let Block { fewest, most } = *block;
+            claim!(fewest <= most && most <= self.nodes, "{fewest} and {most} nodes are free, of {}", self.nodes);
+            let within = part.iter().all(|p| fewest <= p.free && p.free <= most);
+            let met = |nodes| part.iter().any(|p| p.free == nodes);
+            claim!(within && met(fewest) && met(most), "{fewest} and {most} nodes are free in {part:?}");
+        }
+        self.tried.indexes += 1;
+        self.tried.blocks += blocks.len() as u64;
+        Ok(())
+    }
+
     /// Whoever is head for the first time hears a forecast, and nobody else does.
     fn forecast(&mut self, answer: &Answer) -> Result<(), String> {
         let head = self.waiting().next().map(|(ticket, _)| *ticket);
@@ -292,6 +343,7 @@ pub fn finds_broken_claims() {
         refusal: 0,
         ticket,
         promise,
+        reads: 0,
         head,
         forecast,
         ended: tickets(&[]),
@@ -446,4 +498,34 @@ pub fn finds_broken_claims() {
     }
     finds(waiting(Kind::Promise).earliest_start(1, given(10)), "the earliest start 10 of 1 is after its promise 9");
     finds(waiting(Kind::Loose).earliest_start(1, given(10)), "the earliest start 10 of 1 is after its forecast 9");
+
+    // With job 1 waiting there are at most three points: job 2 reads one more than there can be, and as many.
+    let reading = |reads, answer: Answer| Answer { reads, ..answer };
+    let (second, refused) = (answer(2, 9, &[], (0, 0)), Answer { refusal: 6, ..answer(0, 0, &[], (0, 0)) });
+    broken(Kind::Promise, vec![(submit(), reading(2, answer(1, 9, &[], (0, 0))))], "2 points are read, of at most 1");
+    broken(Kind::Promise, vec![promised(9), (submit(), reading(4, second))], "4 points are read, of at most 3");
+    waiting(Kind::Promise).enter(&submit(), &reading(3, second)).unwrap();
+    broken(Kind::Promise, vec![promised(9), (submit(), reading(3, refused))], "a refusal gives more than its number");
+    broken(Kind::Promise, vec![promised(9), (Call::Tick, reading(1, nothing().1))], "1 points are read and nothing is searched");
+    broken(Kind::Promise, vec![promised(9), (cancel(), reading(1, withdrawn().1))], "1 points are read and nothing is searched");
+    broken(Kind::Loose, vec![(submit(), reading(1, waits(9).1))], "1 points are read and nothing is searched");
+
+    // 20 jobs wait: there are up to 41 points, here 17, 3 nodes free at the first and at the last and 5 between, so that the last is alone.
+    let mut book = Book::new(Kind::Promise, 10, 0, [63, 1], 0);
+    (1..=20).map(a).for_each(|(call, answer)| book.enter(&call, &answer).unwrap());
+    let points: Vec<Point> = (0..17).map(|i| Point { minute: 2 * i, free: if i % 16 == 0 { 3 } else { 5 } }).collect();
+    let blocks = |given: &[(u32, u32)]| given.iter().map(|(fewest, most)| Block { fewest: *fewest, most: *most }).collect::<Vec<_>>();
+    book.index(&points, &blocks(&[(3, 5), (3, 3)])).unwrap();
+    for wrong in [[(2, 5), (3, 3)], [(4, 5), (3, 3)], [(3, 4), (3, 3)], [(3, 6), (3, 3)], [(5, 5), (3, 3)], [(3, 5), (3, 5)]] {
+        finds(book.index(&points, &blocks(&wrong)), "nodes are free in");
+    }
+    finds(book.index(&points, &blocks(&[(5, 3), (3, 3)])), "5 and 3 nodes are free, of 10");
+    finds(book.index(&points, &blocks(&[(3, 11), (3, 3)])), "3 and 11 nodes are free, of 10");
+    finds(book.index(&points, &blocks(&[(3, 5)])), "1 blocks of 17 points");
+    finds(book.index(&points[..16], &blocks(&[(3, 5), (3, 3)])), "2 blocks of 16 points");
+    finds(book.index(&[], &[]), "0 points, of at most 41");
+    finds(waiting(Kind::Promise).index(&points[..4], &blocks(&[(3, 5)])), "4 points, of at most 3");
+    waiting(Kind::Loose).index(&[], &[]).unwrap();
+    finds(waiting(Kind::Loose).index(&points[..1], &[]), "a Loose Desk has points or blocks");
+    finds(waiting(Kind::Loose).index(&[], &blocks(&[(3, 3)])), "a Loose Desk has points or blocks");
 }

@@ -1,13 +1,13 @@
 //! Random lists of calls, on the library and on a model written from document 01's words: after every call the answers, every field of
-//! the desk and of its 64 records, the points and an earliest start are compared, and the guarantees are watched by the calls and their
-//! answers. The lists are the same in every run; LISTS says how many, and LIST plays one alone.
+//! the desk and of its 64 records, the points, the blocks and an earliest start are compared, and the guarantees are watched by the calls
+//! and their answers. The lists are the same in every run; LISTS says how many, and LIST plays one alone.
 
 mod book;
 mod model;
 mod random;
 
 use book::{Book, Call, Tried};
-use hingerota_host::{Answer, Desk, Earliest, Kind, Opening, Order, Point, Record};
+use hingerota_host::{Answer, Block, Desk, Earliest, Kind, Opening, Order, Point, Record, Shown, MOST_BLOCKS, MOST_POINTS};
 use model::{Job, Model, Search, State};
 use random::Random;
 use std::io::IsTerminal;
@@ -80,6 +80,7 @@ fn plan(random: &mut Random) -> Plan {
         (80, 4, 3, 4, 2),
         (35, 30, 10, 5, 5),
         (45, 5, 30, 5, 3),
+        (90, 3, 2, 2, 1),
     ]);
     let kind = random.one_of(&[Kind::Promise, Kind::Loose]);
     let estimates = random.one_of(&[Estimates::Tiny, Estimates::Short, Estimates::Edges, Estimates::Any]);
@@ -139,12 +140,18 @@ struct Count {
     ticks: u64,
     profiles: u64,
     points: u64,
+    indexes: u64,
+    blocks: u64,
+    /// Of submissions, those that read some points and not all.
+    submissions_reading_some: u64,
     waits: u64,
     earliest_starts: u64,
     /// Of these, those of jobs that wait and cannot start before a later minute than now.
     earliest_starts_later: u64,
     most_live: usize,
     most_points: usize,
+    most_blocks: usize,
+    most_reads: u32,
     /// By number, of openings and of calls.
     refusals: [u64; 21],
     tried: Tried,
@@ -163,11 +170,16 @@ impl Count {
         self.ticks += other.ticks;
         self.profiles += other.profiles;
         self.points += other.points;
+        self.indexes += other.indexes;
+        self.blocks += other.blocks;
+        self.submissions_reading_some += other.submissions_reading_some;
         self.waits += other.waits;
         self.earliest_starts += other.earliest_starts;
         self.earliest_starts_later += other.earliest_starts_later;
         self.most_live = self.most_live.max(other.most_live);
         self.most_points = self.most_points.max(other.most_points);
+        self.most_blocks = self.most_blocks.max(other.most_blocks);
+        self.most_reads = self.most_reads.max(other.most_reads);
         for (sum, n) in self.refusals.iter_mut().zip(other.refusals) {
             *sum += n;
         }
@@ -254,6 +266,7 @@ impl Played {
         same("refusal", library.refusal, model.refusal)?;
         same("ticket", library.ticket, model.ticket)?;
         same("promise", library.promise, model.promise)?;
+        same("reads", library.reads, model.reads)?;
         let (head, forecast) = model.head.unwrap_or((0, 0));
         same("head", library.head, head)?;
         same("forecast", library.forecast, forecast)?;
@@ -273,7 +286,10 @@ impl Played {
         let Order { nodes, estimate, tenant, least } = order;
         self.done.push(format!("submit {nodes} {least} {estimate} {tenant}"));
         self.count.submissions += 1;
+        let points = self.model.profile().len();
         let (library, model) = (self.desk.submit(order), self.model.submit(order));
+        self.count.submissions_reading_some += u64::from(model.reads > 0 && (model.reads as usize) < points);
+        self.count.most_reads = self.count.most_reads.max(model.reads);
         self.same_answer(Call::Submit(order), library, model)
     }
 
@@ -319,36 +335,63 @@ impl Played {
         self.done.push(format!("{minutes} ticks"));
         (0..minutes).try_for_each(|_| {
             self.tick()?;
+            self.index(random)?;
             self.earliest_start(some_ticket(self, State::Waiting, random))
         })
     }
 
-    /// A list of so many places, in the middle of a longer one of which no place may change but those of the points.
-    fn profile(&mut self, room: usize) -> Result<(), String> {
+    /// What a desk writes into a list of so many places, in the middle of a longer one of which no place may change but those written:
+    /// `all`, which are `what`, or nothing. How many it writes.
+    fn lent<T: Copy + PartialEq + std::fmt::Debug>(
+        &mut self,
+        what: &str,
+        all: &[T],
+        room: usize,
+        held: fn(u32) -> T,
+        write: fn(&Desk, &mut [T]) -> Shown,
+    ) -> Result<usize, String> {
         const AROUND: usize = 4;
-        self.done.push(format!("profile into {room}"));
-        self.count.profiles += 1;
         self.count.calls += 1;
-        let held: Vec<Point> =
-            (0..room + 2 * AROUND).map(|i| Point { minute: 3_000_000_000 + i as u32, free: 4_000_000_000 + i as u32 }).collect();
-        let mut lent = held.clone();
-        let shown = self.desk.profile(&mut lent[AROUND..AROUND + room]);
-        let expected = self.model.profile(room);
-        let (refusal, points) = match &expected {
-            Ok(points) => (0, points.as_slice()),
-            Err(refusal) => (*refusal, &[][..]),
+        let (refusal, written) = match model::written(all, room) {
+            Ok(written) => (0, written),
+            Err(refusal) => (refusal, &[][..]),
         };
         self.count.refusals[refusal as usize] += 1;
-        self.count.points += points.len() as u64;
+        let mut after: Vec<T> = (0..(room + 2 * AROUND) as u32).map(held).collect();
+        let mut lent = after.clone();
+        let shown = write(&self.desk, &mut lent[AROUND..AROUND + room]);
+        same(&format!("answer with {what}"), shown, Shown { refusal, count: written.len() })?;
+        after[AROUND..AROUND + written.len()].copy_from_slice(written);
+        same(what, lent, after)?;
+        self.same_desk()?;
+        Ok(written.len())
+    }
+
+    fn profile(&mut self, room: usize) -> Result<(), String> {
+        self.done.push(format!("profile into {room}"));
+        self.count.profiles += 1;
+        let points: Vec<Point> = self.model.profile().into_iter().map(|(minute, free)| Point { minute, free }).collect();
         self.count.most_points = self.count.most_points.max(points.len());
-        same("refusal of the profile", shown.refusal, refusal)?;
-        same("number of points", shown.count, points.len())?;
-        let mut after = held;
-        for (place, (minute, free)) in after[AROUND..].iter_mut().zip(points) {
-            *place = Point { minute: *minute, free: *free };
+        let held = |i| Point { minute: 3_000_000_000 + i, free: 4_000_000_000 + i };
+        self.count.points += self.lent("points", &points, room, held, Desk::profile)? as u64;
+        Ok(())
+    }
+
+    /// The index into lists of the exact length, longer and too short, and beside the profile.
+    fn index(&mut self, random: &mut Random) -> Result<(), String> {
+        let blocks: Vec<Block> = self.model.index().into_iter().map(|(fewest, most)| Block { fewest, most }).collect();
+        let exact = blocks.len() as u32;
+        let too_short = (exact > 0).then(|| random.below(exact));
+        for room in [exact, exact + random.between(1, 10)].into_iter().chain(too_short) {
+            self.count.indexes += 1;
+            let held = |i| Block { fewest: 3_000_000_000 + i, most: 4_000_000_000 + i };
+            let given = self.lent("blocks", &blocks, room as usize, held, Desk::index)?;
+            self.count.blocks += given as u64;
+            self.count.most_blocks = self.count.most_blocks.max(given);
         }
-        same("points", lent, after)?;
-        self.same_desk()
+        let (mut points, mut blocks) = ([Point { minute: 0, free: 0 }; MOST_POINTS], [Block { fewest: 0, most: 0 }; MOST_BLOCKS]);
+        let (profile, index) = (self.desk.profile(&mut points), self.desk.index(&mut blocks));
+        self.book.index(&points[..profile.count], &blocks[..index.count])
     }
 
     /// Asked, and not waited.
@@ -441,13 +484,13 @@ fn step(plan: &Plan, played: &mut Played, random: &mut Random) -> Result<(), Str
         let ticket = some_ticket(played, State::Waiting, random);
         played.cancel(ticket)
     } else if roll < plan.submissions + plan.completions + plan.withdrawals + plan.profiles {
-        let points = played.model.profile(usize::MAX).unwrap().len();
+        let points = played.model.profile().len();
         let room = match random.below(6) {
             0 => 0,
             1 => points.saturating_sub(1),
             2 => points,
             3 => points + random.between(1, 5) as usize,
-            4 => 129,
+            4 => MOST_POINTS,
             _ => random.between(0, 200) as usize,
         };
         played.profile(room)
@@ -486,7 +529,9 @@ fn play(list: u64) -> Result<Count, String> {
         played.model.search = Search::EveryMinute;
     }
     for _ in 0..plan.calls {
-        let done = step(&plan, &mut played, random).and_then(|()| played.earliest_start(some_ticket(&played, State::Waiting, random)));
+        let done = step(&plan, &mut played, random)
+            .and_then(|()| played.index(random))
+            .and_then(|()| played.earliest_start(some_ticket(&played, State::Waiting, random)));
         done.map_err(|e| format!("list {list}: {}\n{e}", played.done.join(", ")))?;
     }
     played.count.tried = played.book.tried;
@@ -536,7 +581,7 @@ fn main() {
     let all = all.into_inner().unwrap();
     let Tried { promises, bounds, forecasts, withdrawn, heads, sums, sums_in_cleanup, full_in_cleanup, .. } = all.tried;
     let Tried { houses_full, houses_full_in_cleanup, leasts, ends_at_the_least, .. } = all.tried;
-    let Tried { earliest_given, earliest_risen, earliest_kept, starts_at_the_earliest, .. } = all.tried;
+    let Tried { earliest_given, earliest_risen, earliest_kept, starts_at_the_earliest, reads, indexes, blocks, .. } = all.tried;
     println!(
         "{} lists, {} calls: {} submissions, {} completions, {} withdrawals, {} ticks, {} profiles with {} points, {} waits judged",
         all.lists, all.calls, all.submissions, all.completions, all.withdrawals, all.ticks, all.profiles, all.points, all.waits
@@ -544,6 +589,10 @@ fn main() {
     println!(
         "and {} earliest starts asked for: {earliest_given} given, {} of these later than now, {earliest_risen} larger than before",
         all.earliest_starts, all.earliest_starts_later
+    );
+    println!(
+        "and {} indexes with {} blocks, at most {}; {reads} submissions read points, {} of these not all, and at most {}",
+        all.indexes, all.blocks, all.most_blocks, all.submissions_reading_some, all.most_reads
     );
     println!(
         "{} completions in the minute of the start, {} of jobs in cleanup, refused",
@@ -564,5 +613,6 @@ fn main() {
     println!(
         "{earliest_kept} jobs started no earlier than given, {starts_at_the_earliest} of these in the minute given, which was to come"
     );
+    println!("{indexes} times the index agreed with the profile, by {blocks} blocks");
     println!("library and model agree ({:.1} s)", began.elapsed().as_secs_f64());
 }

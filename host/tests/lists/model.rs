@@ -8,8 +8,9 @@ pub const LAST_MINUTE: u32 = 1_000_000;
 pub const LONGEST_ESTIMATE: u32 = 10_080;
 pub const LIVE_JOBS: usize = 64;
 pub const LAST_TICKET: u32 = 999_999;
-pub const MOST_POINTS: usize = 129;
 pub const LONGEST_CLEANUP: u32 = 30;
+/// "for each block of 16 points"
+pub const BLOCK_POINTS: usize = 16;
 /// The houses, by their letters.
 pub const HOUSES: [u32; 2] = [b'A' as u32, b'B' as u32];
 
@@ -42,6 +43,7 @@ pub struct Answer {
     pub refusal: u32,
     pub ticket: u32,
     pub promise: u32,
+    pub reads: u32,
     pub ended: Vec<u32>,
     pub started: Vec<u32>,
     /// A job that is head now and was not before, with its forecast.
@@ -104,6 +106,20 @@ impl Job {
     fn holds(&self) -> bool {
         self.runs() || self.in_cleanup()
     }
+}
+
+/// The free nodes of a block of points.
+fn fewest_and_most(block: &[(u32, u32)]) -> (u32, u32) {
+    let free = || block.iter().map(|(_, free)| *free);
+    (free().min().unwrap(), free().max().unwrap())
+}
+
+/// What is written into a list of so many places, or 10 if it does not fit.
+pub fn written<T>(all: &[T], room: usize) -> Result<&[T], u32> {
+    if room < all.len() {
+        return Err(10);
+    }
+    Ok(all)
 }
 
 fn refused(refusal: u32) -> Answer {
@@ -257,18 +273,17 @@ impl Model {
         answer
     }
 
-    /// The points of the profile, or 10 if there is no room for them; "The Loose Desk has no profile."
-    pub fn profile(&self, room: usize) -> Result<Vec<(u32, u32)>, u32> {
+    /// The points of the profile; "The Loose Desk has no profile."
+    pub fn profile(&self) -> Vec<(u32, u32)> {
         match self.kind {
-            Kind::Loose => Ok(Vec::new()),
-            Kind::Promise => {
-                let points = self.points();
-                if room < points.len() {
-                    return Err(10);
-                }
-                Ok(points)
-            }
+            Kind::Loose => Vec::new(),
+            Kind::Promise => self.points(),
         }
+    }
+
+    /// Document 02, No. 5: "Beside the profile keep an index: for each block of 16 points, the fewest and the most free nodes."
+    pub fn index(&self) -> Vec<(u32, u32)> {
+        self.profile().chunks(BLOCK_POINTS).map(fewest_and_most).collect()
     }
 
     /// Why a wait is refused, or 0: "`wait` 2, 6"; 2: "`wait` outside 1 to 10,080"; 6: "the clock would pass it".
@@ -354,19 +369,29 @@ impl Model {
         if self.freed(&job) > LAST_MINUTE {
             return refused(6);
         }
-        let mut answer = Answer { ticket: job.ticket, promise: start, ..Answer::default() };
+        let reads = self.reads(job.nodes, self.freed(&job));
+        let mut answer = Answer { ticket: job.ticket, promise: start, reads, ..Answer::default() };
         // "If it is now, the stack starts."
         if start == self.clock {
             job.state = State::Running;
             answer.started.push(job.ticket);
         }
         self.jobs.push(job);
-        if self.points().len() > MOST_POINTS {
-            self.jobs.pop();
-            return refused(8);
-        }
         self.next += 1;
         answer
+    }
+
+    /// "Intake's search goes through the blocks that begin before its hold's end, reads free nodes only in those whose fewest is below the
+    /// stack's nodes and whose most is not, there of each point once, and also gives how many it read."
+    fn reads(&self, nodes: u32, end: u32) -> u32 {
+        let mut reads = 0;
+        for block in self.points().chunks(BLOCK_POINTS) {
+            let (begins, (fewest, most)) = (block[0].0, fewest_and_most(block));
+            if begins < end && fewest < nodes && nodes <= most {
+                reads += block.len() as u32;
+            }
+        }
+        reads
     }
 
     /// "each waiting stack, once, in ticket order, is taken out of the plan and put in again at its smallest minute, the others staying at

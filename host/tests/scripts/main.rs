@@ -132,6 +132,8 @@ fn arguments() {
         "drop TICKET",
         "wait MINUTES",
         "profile",
+        "index",
+        "reads",
         "soonest TICKET",
     ] {
         assert!(help.output.contains(word), "{word}");

@@ -1,6 +1,6 @@
 //! What a line prints.
 
-use hingerota_host::{Answer, Desk, Earliest, Kind, Point};
+use hingerota_host::{Answer, Block, Desk, Earliest, Kind, Point};
 
 /// Why a line is refused, by its number.
 #[derive(Clone, Copy, PartialEq, Eq, Debug)]
@@ -64,6 +64,16 @@ impl Page {
         for point in points {
             self.row("free", point.minute, point.free);
         }
+    }
+
+    pub fn blocks(&mut self, blocks: &[Block]) {
+        for block in blocks {
+            self.row("block", block.fewest, block.most);
+        }
+    }
+
+    pub fn reads(&mut self, reads: u32) {
+        self.text += &format!("reads\t{reads}\n");
     }
 
     pub fn earliest_start(&mut self, ticket: u32, earliest: &Earliest) -> Done {

@@ -16,6 +16,8 @@ pub enum Script {
 /// What later lines ask.
 pub struct Rack {
     pub desk: Desk,
+    /// How many points the last `in` line taken read.
+    pub reads: u32,
 }
 
 impl Script {
@@ -66,7 +68,7 @@ fn open(fields: &[&[u8]]) -> Result<Rack, Refusal> {
     };
     let [nodes, minute, ticket, cleanup, quota_a, quota_b] = numbers(rest)?;
     match Desk::open(kind, Opening { nodes, minute, ticket, cleanup, quota_a, quota_b }) {
-        Ok(desk) => Ok(Rack { desk }),
+        Ok(desk) => Ok(Rack { desk, reads: 0 }),
         Err(refused) => Err(Refusal(refused.refusal)),
     }
 }

@@ -3,7 +3,7 @@
 use crate::fields::{letter, numbers};
 use crate::page::{taken, Done, Page, Refusal, LACKS_THE_FORM};
 use crate::script::Rack;
-use hingerota_host::{Order, Point, MOST_POINTS};
+use hingerota_host::{Block, Order, Point, MOST_BLOCKS, MOST_POINTS};
 
 struct Word {
     /// The word, and the fields after it as the usage shows them.
@@ -21,7 +21,9 @@ const WORDS: &[Word] = &[
             let (house, rest) = fields.split_last().ok_or(LACKS_THE_FORM)?;
             let ([nodes, least, estimate], tenant) = (order(rest)?, letter(house)?);
             let answer = rack.desk.submit(Order { nodes, estimate, tenant, least });
-            page.answer(&rack.desk, &answer)
+            page.answer(&rack.desk, &answer)?;
+            rack.reads = answer.reads;
+            Ok(())
         },
     },
     Word {
@@ -64,6 +66,27 @@ const WORDS: &[Word] = &[
             let shown = rack.desk.profile(&mut points);
             taken(shown.refusal)?;
             page.points(&points[..shown.count]);
+            Ok(())
+        },
+    },
+    Word {
+        form: "index",
+        does: "of a Promise Desk: prints block FEWEST MOST, the nodes free in 16 such lines",
+        play: |rack, fields, page| {
+            let [] = numbers(fields)?;
+            let mut blocks = [Block { fewest: 0, most: 0 }; MOST_BLOCKS];
+            let shown = rack.desk.index(&mut blocks);
+            taken(shown.refusal)?;
+            page.blocks(&blocks[..shown.count]);
+            Ok(())
+        },
+    },
+    Word {
+        form: "reads",
+        does: "prints reads NUMBER, of such lines read to place the last job taken in",
+        play: |rack, fields, page| {
+            let [] = numbers(fields)?;
+            page.reads(rack.reads);
             Ok(())
         },
     },
