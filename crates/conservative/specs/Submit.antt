@@ -15,7 +15,7 @@ use Rattle.scheduler.specs.declared.Scheduler.{Scheduler}
 use Rattle.scheduler.specs.declared.Outcome.{Outcome}
 use Rattle.scheduler.specs.Limits.{maxNodes, longestEstimate, lastTicket}
 use Rattle.scheduler.specs.Jobs.{fresh}
-use Rattle.scheduler.specs.Settings.{horizon, slots, holdTime}
+use Rattle.scheduler.specs.Settings.{horizon, slots, quota, holdTime}
 use Rattle.scheduler.specs.Times.{hold-pos, hold-le}
 use Rattle.scheduler.specs.Table.{withJobs, liveOf, tickets, oneIf}
 use Rattle.scheduler.specs.Model.{Model, view}
@@ -27,7 +27,7 @@ use Rattle.spans.specs.Spans.{free, lastEnd, fits, earliest}
 use Rattle.jobs.specs.Soundness.{Sound, Fit, fit-room, submit-fit}
 use Rattle.jobs.specs.Premise.{Holds, holds-as, refused-held}
 use Rattle.job_table.specs.Parts.{refusalBy, sharedRefusal}
-use Rattle.job_table.specs.Submitting.{tests-more, withNext, enters}
+use Rattle.job_table.specs.Submitting.{Tells, tests-more, judged-alike, withNext, enters}
 use Rattle.conservative_laws.specs.Validity.{Valid}
 use Rattle.conservative_plan.specs.PlannedSlots.{Planned, valid-planned, last-slots}
 use Rattle.conservative_plan.specs.EarliestStart.{startFor, Askable}
@@ -89,9 +89,10 @@ module _ (d : Scheduler) (o : Submission) (h : Holds Valid d) where
         h .holds .sound .clock-to,
       )
 
-  pub shared-held : (live : ℕ) → live ≡ liveOf (o .tenant) (m .jobs) → refusalBy (d .settings) live (d .next) o ≡ sharedRefusal m o
+  pub shared-held : (live places : ℕ) → places ≡ quota (d .settings) (o .tenant) → Tells places (liveOf (o .tenant) (m .jobs)) live
+      → refusalBy (d .settings) live (d .next) o ≡ sharedRefusal m o
   unfolding view
-  shared-held live q = ap (λ (n : ℕ). refusalBy (d .settings) n (d .next) o) q
+  shared-held live places e q = judged-alike (d .settings) (liveOf (o .tenant) (m .jobs)) live (d .next) o (rw e at q)
 
   module _ (a : accepts (sharedRefusal m o) ≡ true) where
     pub fit-held : Fit m o

@@ -136,7 +136,7 @@ pub fn submit(d: Scheduler, s: Submission) -> Outcome
     let settings = d.settings;
     let slot = job_table::first_unused(d);
     let tenant = s.tenant;
-    let live = job_table::live_of(d, tenant);
+    let live = job_table::live_of(d, slot, tenant, settings.quota(tenant));
     let refusal = job_table::submit_refusal(s, settings, live, d.next);
     if refusal.is_none() {
         let hold = settings.hold_time(s.estimate);
@@ -154,13 +154,10 @@ pub fn submit(d: Scheduler, s: Submission) -> Outcome
 fn starts_at(job: Job, now: u32) -> bool
     ensures { λ r. ⌜ r ≡ startsAt now job ⌝ }
 {
-    let s = job.state;
-    match s {
-        State::Unused => false,
-        State::Waiting => job.start == now,
-        State::Running => false,
-        State::Cleanup => false,
+    if job.start == now {
+        return job.is_waiting();
     }
+    false
 }
 
 // The waiting jobs whose planned start is now start, and the call answers. None is planned for now where it is refused.

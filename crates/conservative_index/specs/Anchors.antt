@@ -2,11 +2,11 @@
 -- Assumes nothing.
 use Prim.Native.Nat.{ℕ, zero, suc, _+_, _≤_, _<_}
 use native.Mathlib.Omega.{arith}
-use mathlib.Core.Path.{_≡_, sym}
+use mathlib.Core.Path.{_≡_, refl, sym}
 use mathlib.Core.Bool.{Bool, true, false, cond}
 use lib.Dec.{leb, ltb}
 use borrow.Author.Tests.{le-leb, lt-leb, lt-ltb, le-ltb}
-use Rattle.lists.specs.Tests.{case}
+use Rattle.lists.specs.Tests.{case, true-false}
 use Rattle.conservative_index.specs.declared.Anchor.{Anchor}
 use Rattle.conservative_index.specs.declared.Anchor.the-variants.{Lost, From, Found}
 use Rattle.conservative_index.specs.declared.Step.{Step}
@@ -28,6 +28,16 @@ over Lost = false
 over (From a) = false
 over (Found a) = true
 
+-- the nodes have been free since a minute, or are not
+abbrev pub standing : Bool → ℕ → Anchor
+standing true a = From a
+standing false a = Lost
+
+abbrev pub isOpen : Anchor → Bool
+isOpen Lost = false
+isOpen (From a) = true
+isOpen (Found a) = false
+
 abbrev pub minuteOf : Anchor → ℕ
 minuteOf Lost = 0
 minuteOf (From a) = a
@@ -36,10 +46,38 @@ minuteOf (Found a) = a
 abbrev pub readPoint : ℕ → ℕ → ℕ → ℕ → Anchor → Anchor
 readPoint n h t v s = settle t (leb n v) (enter h t s)
 
+-- the five ways of a point
+module _ (n h t v a : ℕ) where
+  pub read-found : a + h ≤ t → readPoint n h t v (From a) ≡ Found a
+  read-found l = rw (le-leb (a + h) t l)
+
+  pub read-on : t < a + h → n ≤ v → readPoint n h t v (From a) ≡ From a
+  read-on l e = rw (lt-leb (a + h) t l, le-leb n v e)
+
+  pub read-short : t < a + h → v < n → readPoint n h t v (From a) ≡ Lost
+  read-short l e = rw (lt-leb (a + h) t l, lt-leb n v e)
+
+  pub read-first : n ≤ v → readPoint n h t v Lost ≡ From t
+  read-first e = rw (le-leb n v e)
+
+  pub read-none : v < n → readPoint n h t v Lost ≡ Lost
+  read-none e = rw (lt-leb n v e)
+
 -- k places from p on
 unfoldable pub readPoints : ℕ → ℕ → (ℕ → ℕ) → (ℕ → ℕ) → ℕ → ℕ → Anchor → Anchor
 readPoints n h m g p zero s = s
 readPoints n h m g p (suc k) s = readPoint n h (m (p + k)) (g (p + k)) (readPoints n h m g p k s)
+
+pub stands : (s : Anchor) → over s ≡ false → standing (isOpen s) (minuteOf s) ≡ s
+stands Lost e = refl
+stands (From a) e = refl
+stands (Found a) e = true-false true refl e
+
+-- a minute that was found stays
+pub found-stays : (n h : ℕ) (m g : ℕ → ℕ) (p k r a : ℕ) (s : Anchor) → readPoints n h m g p k s ≡ Found a → readPoints n h m g p (k + r) s ≡ Found a
+unfolding readPoints
+found-stays n h m g p k zero a s e = let z : k + 0 ≡ k = omega arith in rw z e
+found-stays n h m g p k (suc r) a s e = let z : k + suc r ≡ suc (k + r) = omega arith in rw (z, found-stays n h m g p k r a s e)
 
 -- a block of k places from p on, whose fewest and most are low and high, once the search has come to it
 unfoldable pub passEntered : ℕ → ℕ → (ℕ → ℕ) → (ℕ → ℕ) → ℕ → ℕ → ℕ → ℕ → Anchor → Step

@@ -21,6 +21,9 @@ use Rattle.spans.specs.Index.{blocks, size, read?, overall, fewest, most, block
 abbrev pub at : List ℕ → ℕ → ℕ
 at xs j = getD xs j 0
 
+abbrev pub extremes : (ℕ → ℕ) → ℕ → ℕ → Block
+extremes g p k = record { fewest = fewest g p k; most = most g p k }
+
 -- the index of the first b blocks
 pub record Built (fs : List ℕ) (n : ℕ) (lo hi : List ℕ) (b : ℕ) : Type 0 where
   pub low-long : length lo ≡ 9

@@ -5,10 +5,10 @@ ghost use Prim.Native.Nat.{_+_, _-_, min, _<_, _≤_};
 ghost use lib.ListN.{length};
 ghost use Rattle.conservative_table.specs.ListChanges.{rows};
 ghost use Rattle.conservative_table.specs.ProfileLists.{IsProfile, Laying, Advancing};
-ghost use Rattle.spans.specs.Index.{blocks, fewest, most};
-ghost use Rattle.conservative_index.specs.BuiltIndex.{at, Built, Indexed, held};
+ghost use Rattle.spans.specs.Index.{blocks};
+ghost use Rattle.conservative_index.specs.BuiltIndex.{at, extremes, Built, Indexed, held};
 ghost use Rattle.conservative_index.specs.StoredIndex.{storedBlocks};
-ghost use Rattle.conservative_index.specs.Anchors.{over, minuteOf, enter, settle, readPoint, readPoints, passBlock};
+ghost use Rattle.conservative_index.specs.Anchors.{standing, isOpen, over, minuteOf, enter, settle, readPoints, passBlock};
 ghost use Rattle.conservative_index.specs.Search.{Searches, Sought};
 ghost use Rattle.conservative_index.specs.Intake.{Took};
 
@@ -42,38 +42,28 @@ impl Blocks {
     }
 }
 
-// The fewest free nodes in these places.
-fn fewest_of(free: &[u32; 131], from: usize, to: usize) -> u32
+// The fewest and the most free nodes in these places.
+fn extremes_of(free: &[u32; 131], from: usize, to: usize) -> spans::Block
     requires { ⌜ (length (now free) ≡ rows) × (from < to) × (to ≤ rows) ⌝ }
-    ensures { λ r. ⌜ r ≡ fewest (at (now (free .entry))) from (to - from - 1) ⌝ }
+    ensures { λ r. ⌜ r ≡ extremes (at (now (free .entry))) from (to - from - 1) ⌝ }
 {
     let mut low = free[from];
+    let mut high = low;
     let mut i = from + 1;
     while i < to {
         let left = free[i];
         if left < low {
             low = left;
         }
-        i += 1;
-    }
-    low
-}
-
-// The most free nodes in these places.
-fn most_of(free: &[u32; 131], from: usize, to: usize) -> u32
-    requires { ⌜ (length (now free) ≡ rows) × (from < to) × (to ≤ rows) ⌝ }
-    ensures { λ r. ⌜ r ≡ most (at (now (free .entry))) from (to - from - 1) ⌝ }
-{
-    let mut high = free[from];
-    let mut i = from + 1;
-    while i < to {
-        let left = free[i];
         if high < left {
             high = left;
         }
         i += 1;
     }
-    high
+    spans::Block {
+        fewest: low,
+        most: high,
+    }
 }
 
 // The end of the block that begins in this place.
@@ -96,10 +86,9 @@ pub fn build(free: &[u32; 131], count: usize, low: &mut [u32; 9], high: &mut [u3
     let mut from = first * 16;
     while from < count {
         let to = end_of(from, count);
-        let few = fewest_of(free, from, to);
-        let many = most_of(free, from, to);
-        low[b] = few;
-        high[b] = many;
+        let of = extremes_of(free, from, to);
+        low[b] = of.fewest;
+        high[b] = of.most;
         b += 1;
         from += 16;
     }
@@ -174,34 +163,69 @@ fn over(anchor: Anchor) -> bool
     }
 }
 
-// One point is read.
-fn read_point(anchor: Anchor, minute: u32, free: u32, nodes: u32, hold: u32) -> Anchor
-    ensures { λ r. ⌜ r ≡ readPoint nodes hold minute free anchor ⌝ }
+// Whether the nodes have been free so far.
+fn is_open(anchor: Anchor) -> bool
+    ensures { λ r. ⌜ r ≡ isOpen anchor ⌝ }
 {
-    let here = enter(anchor, hold, minute);
-    settle(here, minute, nodes <= free)
+    match anchor {
+        Anchor::Lost => false,
+        Anchor::From(_) => true,
+        Anchor::Found(_) => false,
+    }
 }
 
-// The points of these places are read.
+// The minute from which on they have been, or that was found.
+fn minute_of(anchor: Anchor) -> u32
+    ensures { λ r. ⌜ r ≡ minuteOf anchor ⌝ }
+{
+    match anchor {
+        Anchor::Lost => 0,
+        Anchor::From(a) => a,
+        Anchor::Found(a) => a,
+    }
+}
+
+// The points of these places are read, where the nodes have been free since a minute, or are not. (In two locals: an enum matched at each
+// point takes three times as long.)
 fn read_points(
     minutes: &[u32; 131],
     free: &[u32; 131],
     from: usize,
     to: usize,
-    anchor: Anchor,
+    enough: bool,
+    since: u32,
     nodes: u32,
     hold: u32,
 ) -> Anchor
     requires { ⌜ (length (now minutes) ≡ rows) × (length (now free) ≡ rows) × (from ≤ to) × (to ≤ rows) ⌝ }
-    ensures { λ r. ⌜ r ≡ readPoints nodes hold (at (now (minutes .entry))) (at (now (free .entry))) from (to - from) anchor ⌝ }
+    ensures { λ r. ⌜ r ≡ readPoints nodes hold (at (now (minutes .entry))) (at (now (free .entry))) from (to - from) (standing enough since) ⌝ }
 {
-    let mut here = anchor;
+    let mut on = enough;
+    let mut first = since;
     let mut i = from;
     while i < to {
-        here = read_point(here, minutes[i], free[i], nodes, hold);
+        let minute = minutes[i];
+        if on {
+            if first <= minute {
+                if hold <= minute - first {
+                    return Anchor::Found(first);
+                }
+            }
+            if free[i] < nodes {
+                on = false;
+            }
+        } else {
+            if nodes <= free[i] {
+                on = true;
+                first = minute;
+            }
+        }
         i += 1;
     }
-    here
+    if on {
+        return Anchor::From(first);
+    }
+    Anchor::Lost
 }
 
 // A block is passed as a whole, or its points are read.
@@ -240,21 +264,12 @@ fn pass_block(
             reads: 0,
         };
     }
-    let next = read_points(minutes, free, from, to, here, nodes, hold);
+    let on = is_open(here);
+    let since = minute_of(here);
+    let next = read_points(minutes, free, from, to, on, since, nodes, hold);
     Step {
         anchor: next,
         reads: to - from,
-    }
-}
-
-// The minute that was found.
-fn minute_of(anchor: Anchor) -> u32
-    ensures { λ r. ⌜ r ≡ minuteOf anchor ⌝ }
-{
-    match anchor {
-        Anchor::Lost => 0,
-        Anchor::From(a) => a,
-        Anchor::Found(a) => a,
     }
 }
 

@@ -2,12 +2,12 @@
 -- Assumes nothing.
 use Prim.Native.Nat.{ℕ, _≤_}
 use native.Mathlib.Omega.{arith}
-use mathlib.Core.Path.{_≡_, refl, sym, _∙_}
-use mathlib.Core.Bool.{Bool, not}
-use mathlib.Core.List.{List, [], _∷_}
+use mathlib.Core.Path.{_≡_, sym, _∙_}
+use mathlib.Core.Bool.{not}
+use mathlib.Core.List.{List}
 use lib.ListN.{length, length-map}
-use Rattle.lists.specs.Tests.{on, case}
-use Rattle.lists.specs.Lists.{keep, sum, sum-map}
+use Rattle.lists.specs.Tests.{on}
+use Rattle.lists.specs.Lists.{sum, sum-map, sum-picked}
 use Rattle.spans.specs.Spans.{used, lastEnd}
 use Rattle.scheduler.specs.declared.Job.{Job}
 use Rattle.scheduler.specs.declared.Select.{Select}
@@ -20,7 +20,6 @@ use Rattle.jobs.specs.Soundness.{Sound}
 use Rattle.conservative_table.specs.ListChanges.{rows}
 use Rattle.conservative_table.specs.ProfileLists.{IsProfile, exact-few, exact-same}
 use Rattle.spans.specs.Index.{blocks, index}
-use Rattle.spans.specs.declared.Block.{Block}
 use Rattle.conservative_index.specs.BuiltIndex.{Built, built-none, Indexed, held, indexed-index}
 use Rattle.conservative_rules.specs.Conservative.{span, spans, points}
 use Rattle.conservative_laws.specs.Validity.{Valid, taken, used-jobs}
@@ -68,10 +67,6 @@ profile-stored m p = exact-same (spans (m .settings) (store m .jobs)) p (λ r l.
 
 -- ## What those that remain take
 
-pub sum-on : {A : Type 0} (f : A → ℕ) (p : A → Bool) (xs : List A) → sum f (keep p xs) ≡ sum (λ (a : A). on (p a) (f a)) xs
-sum-on f p [] = refl
-sum-on f p (x ∷ xs) = case (p x) (λ e. rw e (omega (arith, sum-on f p xs))) (λ e. rw e (omega (arith, sum-on f p xs)))
-
 -- what is left of a job takes
 abbrev pub left : Settings → ℕ → Select → ℕ → Job → ℕ
 left S c s t j = on (not (leaves S s j)) (taken S t (ceased c s j))
@@ -80,4 +75,4 @@ pub used-left : (S : Settings) (c : ℕ) (s : Select) (t : ℕ) (js : List Job) 
 used-left S c s t js =
     used-jobs S t (remaining S c s js)
     ∙ sum-map (taken S t) (ceased c s) (staying S s js)
-    ∙ sum-on (λ (j : Job). taken S t (ceased c s j)) (λ (j : Job). not (leaves S s j)) js
+    ∙ sum-picked (λ (j : Job). taken S t (ceased c s j)) (λ (j : Job). not (leaves S s j)) js

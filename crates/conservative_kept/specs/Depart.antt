@@ -12,7 +12,7 @@ use lib.Dec.{eqb}
 use lib.ListN.{length, getD, replicate, List·getD-append}
 use borrow.Author.Tests.{eqb-true}
 use Rattle.lists.specs.Tests.{on, case, true-false, both, le-or}
-use Rattle.lists.specs.Lists.{keep, sum, In, here, there, in-nil, in-cons, in-getD, keep-none}
+use Rattle.lists.specs.Lists.{keep, sum, In, here, there, in-nil, in-cons, in-getD, keep-none, sum-picked}
 use Rattle.lists.specs.Loops.{position, position-says}
 use Rattle.lists.specs.Pads.{pad}
 use Rattle.spans.specs.declared.Span.{Span}
@@ -49,7 +49,7 @@ use Rattle.conservative_table.specs.ProfileLists.{IsProfile, Lifting, Changed, 
 use Rattle.conservative_rules.specs.Conservative.{spans, call}
 use Rattle.conservative_plan.specs.PlannedSlots.{Tabulated}
 use Rattle.conservative_laws.specs.Validity.{Valid, taken, used-jobs}
-use Rattle.conservative_kept.specs.Beside.{few-spans, ends-within, stored-profile, profile-stored, sum-on, left, used-left}
+use Rattle.conservative_kept.specs.Beside.{few-spans, ends-within, stored-profile, profile-stored, left, used-left}
 
 -- the slot that a search has found; the one after the last if there is none
 abbrev pub slotAt : Option ℕ → ℕ
@@ -147,7 +147,7 @@ module _ (m : Model) (v : Valid m) (h : Departure) (u : ℕ) {z : Job} (i : In z
         used-jobs S t (m .jobs),
         all,
         used-left S (m .clock) (select.Departing h u) t (m .jobs),
-        sum-on gives (departsAs h u) (m .jobs),
+        sum-picked gives (departsAs h u) (m .jobs),
         one,
       )
 

@@ -91,7 +91,7 @@ pub fn submit(
     let settings = d.settings;
     let slot = job_table::first_unused(d);
     let tenant = s.tenant;
-    let live = job_table::live_of(d, tenant);
+    let live = job_table::live_of(d, slot, tenant, settings.quota(tenant));
     let refusal = job_table::submit_refusal(s, settings, live, d.next);
     if refusal.is_none() {
         let hold = settings.hold_time(s.estimate);

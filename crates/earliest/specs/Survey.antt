@@ -10,7 +10,7 @@ use lib.Dec.{eqb}
 use lib.ListN.{length, getD, set, take, length-map, length-append}
 use lib.Seq.{take-all, length-take-le}
 use Rattle.lists.specs.Tests.{on}
-use Rattle.lists.specs.Lists.{In, sum, first, first-in, map-in, keep-in, sum-map, sum-cong, length-keep-le}
+use Rattle.lists.specs.Lists.{In, sum, first, first-in, map-in, keep-in, sum-map, sum-picked, sum-cong, length-keep-le}
 use Rattle.lists.specs.Loops.{keep-take-yes, keep-take-no}
 use Rattle.lists.specs.FirstLaws.{first-keep}
 use Rattle.lists.specs.Pads.{keep-pad}
@@ -35,7 +35,7 @@ use Rattle.easy_rules.specs.EarliestStart.{overAtLeast, atLeast, earliestFor, e
 use Rattle.easy_laws.specs.EarliestStart.{over-holding, over-nodes, least-held, least-releasing, earliest-now}
 use Rattle.easy_engine.specs.Survey.{Column, nodesOf, running, Holding, Held, Lacks}
 use Rattle.easy_engine.specs.Columns.{column-push}
-use Rattle.easy_engine.specs.SurveyLoop.{sum-first, sum-those, slot-fits}
+use Rattle.easy_engine.specs.SurveyLoop.{sum-first, slot-fits}
 
 -- the nodes of a job found; 0 where there is none
 abbrev pub nodesIn : Option Job → ℕ
@@ -151,7 +151,7 @@ module _ (d : Scheduler) (h : Holds Sound d) (len : length (d .jobs) ≡ 64) {he
       sums f =
           let o = overAtLeast (d .clock) in
           sum-map f o (running (view d .jobs))
-          ∙ sum-those (λ (j : Job). f (o j)) isHolding (view d .jobs)
+          ∙ sum-picked (λ (j : Job). f (o j)) isHolding (view d .jobs)
           ∙ sum-cong (λ (j : Job). on (isHolding j) (f (o j))) (λ (j : Job). on (isHolding (o j)) (f (o j))) (view d .jobs)
           (λ j i. ap (λ (b : Bool). on b (f (o j))) (sym (over-holding (d .clock) j)))
           ∙ sym (sum-map (λ (j : Job). on (isHolding j) (f j)) o (view d .jobs))

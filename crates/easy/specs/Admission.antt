@@ -5,10 +5,10 @@ use native.Mathlib.Omega.{arith}
 use mathlib.Core.Path.{_≡_, sym, ap, _∙_}
 use mathlib.Core.Bool.{Bool, true, false}
 use mathlib.Core.List.{List, [], _∷_}
-use lib.Dec.{leb, ltb}
-use lib.ListN.{length, take, set}
-use borrow.Author.Tests.{lt-leb, le-ltb}
-use Rattle.lists.specs.Lists.{keep, length-keep, length-keep-le}
+use lib.Dec.{ltb}
+use lib.ListN.{length, set}
+use borrow.Author.Tests.{le-ltb}
+use Rattle.lists.specs.Lists.{length-keep-le}
 use Rattle.scheduler.specs.declared.Job.{Job}
 use Rattle.scheduler.specs.declared.Refusal.{Refusal}
 use Rattle.scheduler.specs.declared.Refusal.the-variants as refusal
@@ -19,21 +19,19 @@ use Rattle.scheduler.specs.Limits.{horizon, slots}
 use Rattle.scheduler.specs.Jobs.{isWaiting}
 use Rattle.scheduler.specs.Settings.{quota}
 use Rattle.scheduler.specs.Times.{hold-le, units-le}
-use Rattle.scheduler.specs.Table.{withJobs, ofTenant, liveOf}
+use Rattle.scheduler.specs.Table.{withJobs, liveOf}
 use Rattle.scheduler.specs.Model.{Model, view}
 use Rattle.scheduler.specs.Answers.{verdict, accepts, noTickets}
 use Rattle.jobs.specs.Judgement.{accepts-none}
 use Rattle.jobs.specs.Soundness.{Fit, submit-fit, fit-room}
 use Rattle.jobs.specs.Premise.{Holds}
-use Rattle.jobs.specs.Slots.{first-live}
 use Rattle.easy_rules.specs.Easy.{newJob, rank, submitRefusal}
 use Rattle.easy_laws.specs.Validity.{Valid, latestEnd}
 use Rattle.job_table.specs.declared.Part.{Part}
 use Rattle.job_table.specs.Parts.{refusalBy, pastHorizon, part}
-use Rattle.job_table.specs.Submitting.{tests-more, withNext, enters}
+use Rattle.job_table.specs.Submitting.{Tells, tests-more, withNext, enters}
 use Rattle.scheduler.specs.declared.Request.the-variants as request
 use Rattle.easy.specs.Parts.{own, lateRefusal}
-use Rattle.easy.specs.HeldModel.{valid-sound}
 
 -- the five tests that both kinds share, and then the last minute
 module _ (S : Settings) (live next latest : ℕ) (o : Submission) where
@@ -71,34 +69,16 @@ module _ (d : Scheduler) (s : Submission) (h : Holds Valid d) where
   abbrev mine : ℕ
   mine = liveOf (s .tenant) (m .jobs)
 
-  -- so many jobs fill its places just where its own live ones do
-  abbrev pub Tells : ℕ → Type 0
-  Tells live = leb places live ≡ leb places mine
-
-  -- those counted among the live jobs
-  pub counted : (low : ℕ) → low ≡ length (m .jobs) → Tells (length (keep (ofTenant (s .tenant)) (take low (d .jobs))))
-  counted low e =
-      let p = ofTenant (s .tenant) in
-      ap (λ (n : ℕ). leb places (length (keep p (take n (d .jobs))))) e
-      ∙ ap (λ (js : List Job). leb places (length (keep p js))) (first-live d (valid-sound d h))
-      ∙ ap (leb places) (length-keep p (m .jobs))
-
-  -- none need be counted where all jobs together are fewer than its places
-  pub uncounted : (low : ℕ) → low ≡ length (m .jobs) → low < places → Tells 0
-  uncounted low e l =
-      lt-leb places 0 (omega arith)
-      ∙ sym (lt-leb places mine (omega (arith, length-keep (ofTenant (s .tenant)) (m .jobs), length-keep-le (ofTenant (s .tenant)) (m .jobs))))
-
-  judged-by : (live latest : ℕ) → Tells live → ltb horizon latest ≡ ltb horizon (latestEnd m (s .estimate))
+  judged-by : (live latest : ℕ) → Tells places mine live → ltb horizon latest ≡ ltb horizon (latestEnd m (s .estimate))
       → lateRefusal (d .settings) live (d .next) latest s ≡ submitRefusal m s
   unfolding lateRefusal submitRefusal view
   judged-by live latest e l = rw (e, l)
 
   -- the latest end counts only where it is past the last minute
-  pub judged-early : (live : ℕ) → Tells live → d .clock ≤ 332740 → lateRefusal (d .settings) live (d .next) 0 s ≡ submitRefusal m s
+  pub judged-early : (live : ℕ) → Tells places mine live → d .clock ≤ 332740 → lateRefusal (d .settings) live (d .next) 0 s ≡ submitRefusal m s
   judged-early live e l = judged-by live 0 e (sym (le-ltb horizon (latestEnd m (s .estimate)) (early-latest l)))
 
-  pub judged-latest : (live latest : ℕ) → Tells live → latest ≡ latestEnd m (s .estimate)
+  pub judged-latest : (live latest : ℕ) → Tells places mine live → latest ≡ latestEnd m (s .estimate)
       → lateRefusal (d .settings) live (d .next) latest s ≡ submitRefusal m s
   judged-latest live latest e l = judged-by live latest e (ap (ltb horizon) l)
 

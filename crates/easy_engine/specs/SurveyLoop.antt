@@ -4,13 +4,13 @@ use Prim.Native.Nat.{ℕ, zero, suc, _+_, _-_, _≤_, _<_}
 use native.Mathlib.Omega.{arith}
 use native.Mathlib.Numerals.{add-one}
 use mathlib.Core.Path.{_≡_, refl, sym, ap, subst, _∙_}
-use mathlib.Core.Bool.{Bool, true, false}
+use mathlib.Core.Bool.{true, false}
 use mathlib.Core.List.{List, [], _∷_, _++_, map, map-append, append-assoc, append-nil}
 use mathlib.Core.Logic.{_⊎_, inl, inr}
 use lib.ListN.{length, getD, set, take, drop, replicate, length-map, length-append, List·getD-append, drop-of-length-le}
 use lib.Seq.{take-all, take-suc, drop-cons, set-at, getD-at, length-take-le}
-use Rattle.lists.specs.Tests.{case, on}
-use Rattle.lists.specs.Lists.{In, keep, sum, in-append, in-cons, in-nil, keep-in, keep-all, sum-append, length-keep-le}
+use Rattle.lists.specs.Tests.{case}
+use Rattle.lists.specs.Lists.{In, keep, sum, in-append, in-cons, in-nil, keep-in, keep-all, sum-append, sum-picked, length-keep-le}
 use Rattle.lists.specs.Loops.{keep-take-yes, keep-take-no}
 use Rattle.lists.specs.Pads.{pad, keep-pad, sum-pad, pad-push, pad-set}
 use Rattle.scheduler.specs.declared.Settings.{Settings}
@@ -48,10 +48,6 @@ sum-within : (f : Job → ℕ) (xs : List Job) (i : ℕ) → sum f (take i xs) �
 sum-within f xs zero = omega arith
 sum-within f [] (suc i) = omega arith
 sum-within f (x ∷ xs) (suc i) = omega (arith, sum-within f xs i)
-
-pub sum-those : (f : Job → ℕ) (p : Job → Bool) (xs : List Job) → sum f (keep p xs) ≡ sum (λ (j : Job). on (p j) (f j)) xs
-sum-those f p [] = refl
-sum-those f p (x ∷ xs) = case (p x) (λ e. rw e (omega (arith, sum-those f p xs))) (λ e. rw e (omega (arith, sum-those f p xs)))
 
 -- who holds nodes after the first slots fits what these leave
 pub slot-fits : (d : Scheduler) → Holds Sound d → (i spare : ℕ) → i < length (d .jobs) → isHolding (getD (d .jobs) i unused) ≡ true
@@ -262,7 +258,7 @@ module _ (d : Scheduler) (h : Holds Ready d) {r w spare : ℕ} {heldₗ starts t
     jobs = running js;
     holding = record {
       releasing = sound-releasing (view d) (h .holds .sound);
-      runs = record { each = λ j i. keep-in isHolding js i .1; same = λ f. sum-those f isHolding js };
+      runs = record { each = λ j i. keep-in isHolding js i .1; same = λ f. sum-picked f isHolding js };
       held-is = v .held-is;
       ends-is = subst (λ (T : Settings). Column (until T) (running js) ends) (z ∙ settings-of) c;
       count-is = v .running-is;

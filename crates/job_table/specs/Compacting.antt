@@ -7,8 +7,8 @@ use native.Mathlib.Numerals.{add-one}
 use mathlib.Core.Path.{_≡_, sym, ap, _∙_}
 use mathlib.Core.Bool.{true, false, not}
 use mathlib.Core.List.{List, [], _∷_, _++_, map, map-append, append-assoc, append-nil}
-use lib.ListN.{length, getD, take, drop, set, replicate, replicate-append-replicate, length-append, length-drop, drop-of-length-le, take-append-drop}
-use lib.Seq.{length-take-le, getD-drop, getD-append-add, drop-cons, set-at, take-all, take-append-seam}
+use lib.ListN.{length, getD, take, drop, set, replicate, replicate-append-replicate, length-append, length-drop, take-append-drop}
+use lib.Seq.{length-take-le, getD-drop, getD-append-add, drop-cons, drop-append-seam, drop-append-add, set-at, take-append-seam}
 use Rattle.lists.specs.Loops.{keep-take-yes, keep-take-no}
 use Rattle.lists.specs.Pads.{pad, pad-push, pad-keep, keep-pad, map-pad, length-pad}
 use Rattle.scheduler.specs.declared.Settings.{Settings}
@@ -63,6 +63,17 @@ overwrite ws xs x k e h =
 
 pub take-written : (ws bs : List Job) (k : ℕ) → length ws ≡ k → take k (ws ++ bs) ≡ ws
 take-written ws bs k e = rw (← e) (take-append-seam ws bs)
+
+-- what stands after the first slots is as it was
+drop-written : (ws xs : List Job) (k i : ℕ) → length ws ≡ k → k ≤ length xs → k ≤ i → drop i (ws ++ drop k xs) ≡ drop i xs
+drop-written ws xs k i e h l =
+    let a : i ≡ length ws + (i - k) = omega arith in
+    let b : length (take k xs) + (i - k) ≡ i = omega (arith, length-take-le k xs h) in
+    ap (λ (n : ℕ). drop n (ws ++ drop k xs)) a
+    ∙ drop-append-add ws (drop k xs) (i - k)
+    ∙ sym (drop-append-add (take k xs) (drop k xs) (i - k))
+    ∙ ap (λ (ys : List Job). drop (length (take k xs) + (i - k)) ys) (take-append-drop k xs)
+    ∙ ap (λ (n : ℕ). drop n xs) b
 
 -- no unused slot
 pub pad-whole : (xs : List Job) (k : ℕ) → length xs ≡ k → pad k unused xs ≡ xs
@@ -216,14 +227,17 @@ module _ {from : ℕ} {d e : Scheduler} {i : ℕ} (v : Clears from d e i) (len :
         ∙ ap (λ (js : List Job). js ++ drop (i + 1) (d .jobs)) (sym (pad-grow front i short)));
   }
 
-  pub clears-done : 64 ≤ i → e ≡ withJobs d (pad 64 unused front)
-  clears-done h =
-      let end : i ≡ 64 = omega (arith, v .low) in
-      let few : length (d .jobs) ≤ 64 = omega arith in
-      let past : drop 64 (d .jobs) ≡ [] = drop-of-length-le (d .jobs) few in
+  -- where the slots from there on are unused already
+  pub clears-done : drop i (d .jobs) ≡ replicate (64 - i) unused → e ≡ withJobs d (pad 64 unused front)
+  unfolding pad
+  clears-done q =
+      let k = length front in
+      let both : (i - k) + (64 - i) ≡ 64 - k = omega (arith, short, v .low) in
       v .scheduler-is
-      ∙ ap (λ (n : ℕ). withJobs d (pad n unused front ++ drop n (d .jobs))) end
-      ∙ ap (withJobs d) (ap (λ (js : List Job). pad 64 unused front ++ js) past ∙ append-nil (pad 64 unused front))
+      ∙ ap (withJobs d)
+      (ap (λ (js : List Job). pad i unused front ++ js) q
+      ∙ append-assoc front (replicate (i - k) unused) (replicate (64 - i) unused)
+      ∙ ap (λ (js : List Job). front ++ js) (replicate-append-replicate (i - k) (64 - i) unused ∙ ap (λ (n : ℕ). replicate n unused) both))
 
 -- ## Both
 
@@ -241,17 +255,45 @@ module _ {now : ℕ} {s : Select} {d e : Scheduler} {list : List ℕ} {kept gone
         v .low,
       )
 
-  pub compacted : {f : Scheduler} {k : ℕ} → Clears kept e f k → 64 ≤ i → 64 ≤ k
-      → record { tickets = record { count = gone; list = list }; scheduler = f } ≡ removed d now s
-  unfolding removed tickets
-  compacted {f} u a b =
-      let all : take i (d .jobs) ≡ d .jobs = take-all i (d .jobs) (omega arith) in
-      let left = remaining (d .settings) now s (take i (d .jobs)) in
-      let table : f ≡ withJobs d (pad 64 unused left) =
-      clears-done u compacts-length b
-      ∙ ap (λ (y : Scheduler). withJobs y (pad 64 unused (take kept (y .jobs)))) (v .stored .scheduler-is)
-      ∙ ap (λ (js : List Job). withJobs d (pad 64 unused js)) (take-written left (drop kept (d .jobs)) kept (sym (v .stored .kept-is))) in
-      λ j. record {
-        tickets = record { count = (rw all at (v .listed .gone-is)) j; list = (rw all at (v .listed .list-is)) j };
-        scheduler = (rw all at table) j;
-      }
+  -- all live jobs have been passed: the slots after them are unused
+  module _ (L : List Job) (few : length L ≤ 64) (p : d .jobs ≡ pad 64 unused L) (a : i ≡ length L) where
+    lives : take i (d .jobs) ≡ L
+    unfolding pad
+    lives = ap (λ (n : ℕ). take n (d .jobs)) a ∙ ap (take (length L)) p ∙ take-append-seam L (replicate (64 - length L) unused)
+
+    -- what was listed and what remains of them is that of all slots
+    ended-all : endedOf s (take i (d .jobs)) ≡ endedOf s (d .jobs)
+    ended-all =
+        ap (endedOf s) lives
+        ∙ sym (ap (endedOf s) p ∙ ap ticketsOf (keep-pad slots unused (ends s) L (ends-unused s)))
+
+    remaining-all : pad 64 unused (remaining (d .settings) now s (take i (d .jobs))) ≡ pad 64 unused (remaining (d .settings) now s (d .jobs))
+    remaining-all =
+        ap (λ (js : List Job). pad 64 unused (remaining (d .settings) now s js)) lives
+        ∙ sym (ap (λ (js : List Job). pad 64 unused (remaining (d .settings) now s js)) p ∙ remaining-pad (d .settings) now s L few)
+
+    abbrev stays : List Job
+    stays = remaining (d .settings) now s (take i (d .jobs))
+
+    rest : drop i (e .jobs) ≡ replicate (64 - i) unused
+    unfolding pad
+    rest =
+        ap (λ (y : Scheduler). drop i (y .jobs)) (v .stored .scheduler-is)
+        ∙ drop-written stays (d .jobs) kept i (sym (v .stored .kept-is)) (omega (arith, v .stored .kept-low, v .low)) (v .stored .kept-low)
+        ∙ ap (drop i) p
+        ∙ ap (λ (n : ℕ). drop n (L ++ replicate (64 - length L) unused)) a
+        ∙ drop-append-seam L (replicate (64 - length L) unused)
+        ∙ ap (λ (n : ℕ). replicate (64 - n) unused) (sym a)
+
+    pub compacted : {f : Scheduler} {k : ℕ} → Clears kept e f k → k ≡ i
+        → record { tickets = record { count = gone; list = list }; scheduler = f } ≡ removed d now s
+    unfolding removed tickets
+    compacted {f} u b =
+        let table : f ≡ withJobs d (pad 64 unused stays) =
+        clears-done u compacts-length (ap (λ (n : ℕ). drop n (e .jobs)) b ∙ rest ∙ ap (λ (n : ℕ). replicate (64 - n) unused) (sym b))
+        ∙ ap (λ (y : Scheduler). withJobs y (pad 64 unused (take kept (y .jobs)))) (v .stored .scheduler-is)
+        ∙ ap (λ (js : List Job). withJobs d (pad 64 unused js)) (take-written stays (drop kept (d .jobs)) kept (sym (v .stored .kept-is))) in
+        λ j. record {
+          tickets = record { count = (rw ended-all at (v .listed .gone-is)) j; list = (rw ended-all at (v .listed .list-is)) j };
+          scheduler = (rw remaining-all at table) j;
+        }

@@ -41,7 +41,9 @@ use Rattle.jobs.specs.Soundness.{Sound, running-clean, ends-runs, all-remain}
 use Rattle.jobs.specs.Premise.{Holds}
 use Rattle.jobs.specs.Slots.{slots-are}
 use Rattle.job_table.specs.declared.Part.{Part}
-use Rattle.job_table.specs.Parts.{Found, foundAt, ends?, endsIf, cleansIf, withdrawnIf, pastHorizon, cappedClock, departing, ticking, part}
+use Rattle.job_table.specs.declared.Due.{Due}
+use Rattle.job_table.specs.declared.Due.the-variants as due
+use Rattle.job_table.specs.Parts.{Found, foundAt, ends?, endsIf, cleansIf, withdrawnIf, pastHorizon, cappedClock, departing, ticking, part, dueBy}
 use Rattle.job_table.specs.Compacting.{Removed, removed, removed-stored, overwrite, Compacts, compacted, Clears}
 
 abbrev pub withClock : Scheduler → ℕ → Scheduler
@@ -415,6 +417,12 @@ module _ (d : Scheduler) (h : Departure) (t : ℕ) (v : Holds Sound d) where
 
 -- ## A tick
 
+-- the ways of a slot are three
+abbrev rank : Due → ℕ
+rank due.Stays = 0
+rank due.Ends = 1
+rank due.Leaves = 2
+
 -- the ways of a job at a tick
 module _ (S : Settings) (t : ℕ) (j : Job) where
   abbrev at : Select
@@ -439,6 +447,22 @@ module _ (S : Settings) (t : ℕ) (j : Job) where
 
   pub tick-stays : endsAt S t j ≡ false → releasedAt S t j ≡ false → leaves S at j ≡ false
   tick-stays e r = rw (e, r)
+
+  -- which of these it is
+  pub due-ends : dueBy S t j ≡ due.Ends → endsAt S t j ≡ true
+  due-ends q =
+      case (endsAt S t j) (λ e. e)
+      (λ e. absurd (case (releasedAt S t j) (λ r. omega (arith, rw (e, r) at (ap rank q))) (λ r. omega (arith, rw (e, r) at (ap rank q)))))
+
+  pub due-leaves : dueBy S t j ≡ due.Leaves → (endsAt S t j ≡ false) × (releasedAt S t j ≡ true)
+  due-leaves q =
+      case (endsAt S t j) (λ e. absurd (omega (arith, rw e at (ap rank q))))
+      (λ e. case (releasedAt S t j) (λ r. (e, r)) (λ r. absurd (omega (arith, rw (e, r) at (ap rank q)))))
+
+  pub due-stays : dueBy S t j ≡ due.Stays → (endsAt S t j ≡ false) × (releasedAt S t j ≡ false)
+  due-stays q =
+      case (endsAt S t j) (λ e. absurd (omega (arith, rw e at (ap rank q))))
+      (λ e. case (releasedAt S t j) (λ r. absurd (omega (arith, rw (e, r) at (ap rank q)))) (λ r. (e, r)))
 
 module _ (d : Scheduler) (h : Holds Sound d) where
   abbrev minute : ℕ
@@ -508,11 +532,11 @@ module _ (d : Scheduler) (h : Holds Sound d) where
 
 pub expires : (d : Scheduler) → Holds Sound d → {e f : Scheduler} {list : List ℕ} {kept gone i k c : ℕ}
     → Compacts (d .clock + 1) (select.EndingAt (d .settings) (d .clock + 1)) (withClock d c) e list kept gone i → length (d .jobs) ≡ 64
-    → Clears kept e f k → 64 ≤ i → 64 ≤ k → c ≡ cappedClock (d .clock + 1)
+    → Clears kept e f k → i ≡ length (view d .jobs) → k ≡ i → c ≡ cappedClock (d .clock + 1)
     → record { refusal = pastHorizon (d .clock + 1); ticket = 0; ended = record { count = gone; list = list }; withdrawn = 0; scheduler = f } ≡ part (ticking (view d))
-unfolding removed
+unfolding removed store
 expires d h v len u a b z =
-    ap given (compacted v len u a b)
+    ap given (compacted v len (view d .jobs) (h .holds .few) (slots-are d h) a u b)
     ∙ ap (λ (n : ℕ). record {
       refusal = pastHorizon (d .clock + 1);
       ticket = 0;

@@ -9,6 +9,7 @@ use lib.Dec.{ltb}
 use lib.ListN.{getD}
 use Rattle.lists.specs.Tests.{case, true-false}
 use Rattle.scheduler.specs.declared.Settings.{Settings}
+use Rattle.scheduler.specs.declared.Job.{Job}
 use Rattle.scheduler.specs.declared.Scheduler.{Scheduler}
 use Rattle.scheduler.specs.declared.Submission.{Submission}
 use Rattle.scheduler.specs.declared.Departure.{Departure}
@@ -18,13 +19,15 @@ use Rattle.scheduler.specs.declared.Refusal.the-variants as refusal
 use Rattle.scheduler.specs.declared.Select.{Select}
 use Rattle.scheduler.specs.declared.Select.the-variants as select
 use Rattle.scheduler.specs.Limits.{slots, horizon}
-use Rattle.scheduler.specs.Jobs.{unused, tooEarly}
+use Rattle.scheduler.specs.Jobs.{unused, tooEarly, endsAt, releasedAt}
 use Rattle.scheduler.specs.Settings.{cleanup}
 use Rattle.scheduler.specs.Table.{liveOf, tickets, endedOf}
 use Rattle.scheduler.specs.Model.{Model, ending, store, view, without}
 use Rattle.scheduler.specs.Answers.{verdict, accepts}
 use Rattle.scheduler.specs.Refusals.{testsBy, notThere, departRefusal, tickRefusal}
 use Rattle.job_table.specs.declared.Part.{Part}
+use Rattle.job_table.specs.declared.Due.{Due}
+use Rattle.job_table.specs.declared.Due.the-variants as due
 
 pub record Own : Type 0 where
   pub refusal : Refusal
@@ -119,3 +122,7 @@ pastHorizon clock = cond (ltb horizon clock) refusal.PastHorizon refusal.None
 
 abbrev pub cappedClock : ℕ → ℕ
 cappedClock clock = cond (ltb horizon clock) horizon clock
+
+-- what a tick does to a job: its run ends, or its nodes are free again
+abbrev pub dueBy : Settings → ℕ → Job → Due
+dueBy S t j = cond (endsAt S t j) due.Ends (cond (releasedAt S t j) due.Leaves due.Stays)

@@ -6,19 +6,24 @@ use scheduler::Job;
 use scheduler::Refusal;
 use scheduler::Scheduler;
 use scheduler::Settings;
+use scheduler::State;
 use scheduler::Submission;
 use scheduler::Tenant;
 use scheduler::Tickets;
 ghost use mathlib.Core.Path.{_≡_};
-ghost use lib.ListN.{length};
+ghost use lib.ListN.{length, take};
+ghost use Prim.Native.Nat.{_≤_};
 ghost use Rattle.lists.specs.Lists.{keep};
+ghost use Rattle.scheduler.specs.Limits.{slots};
 ghost use Rattle.scheduler.specs.Jobs.{isWaiting};
 ghost use Rattle.scheduler.specs.Refusals.{notThere};
-ghost use Rattle.scheduler.specs.Table.{liveOf};
+ghost use Rattle.scheduler.specs.Table.{liveOf, ofTenant};
 ghost use Rattle.scheduler.specs.Model.{view};
 ghost use Rattle.jobs.specs.Soundness.{Sound};
 ghost use Rattle.jobs.specs.Premise.{Holds};
-ghost use Rattle.job_table.specs.Parts.{refusalBy, endsIf, cleansIf, withdrawnIf, pastHorizon, cappedClock, part, departing, ticking};
+ghost use Rattle.jobs.specs.Slots.{Low, Orderly};
+ghost use Rattle.job_table.specs.Parts.{refusalBy, endsIf, cleansIf, withdrawnIf, pastHorizon, cappedClock, part, departing, ticking, dueBy};
+ghost use Rattle.job_table.specs.Submitting.{Tells};
 
 // The last slot.
 const LAST: usize = Scheduler::LIVE - 1;
@@ -70,15 +75,14 @@ pub fn waiting(d: Scheduler) -> usize
     n
 }
 
-// How many live jobs this tenant has.
-pub fn live_of(d: Scheduler, tenant: Tenant) -> usize
-    requires { ⌜ Holds Sound d ⌝ }
-    ensures { λ r. ⌜ r ≡ liveOf tenant (view d .jobs) ⌝ }
+// How many of the first jobs are this tenant's.
+fn of_tenant(d: Scheduler, live: usize, tenant: Tenant) -> usize
+    requires { ⌜ live ≤ slots ⌝ }
+    ensures { λ r. ⌜ r ≡ length (keep (ofTenant tenant) (take live (d .jobs))) ⌝ }
 {
-    let end = first_unused(d);
     let mut n: usize = 0;
     let mut i: usize = 0;
-    while i < end {
+    while i < live {
         let j = d.jobs[i];
         let whose = j.tenant;
         if whose.is(tenant) {
@@ -87,6 +91,17 @@ pub fn live_of(d: Scheduler, tenant: Tenant) -> usize
         i += 1;
     }
     n
+}
+
+// The tenant's live jobs, by which its lack of places is judged: none need be counted where all live jobs are fewer than its places.
+pub fn live_of(d: Scheduler, live: usize, tenant: Tenant, places: u32) -> usize
+    requires { ⌜ Holds Sound d × (live ≡ length (view d .jobs)) ⌝ }
+    ensures { λ r. ⌜ Tells places (liveOf tenant (view d .jobs)) r ⌝ }
+{
+    if (live as u32) < places {
+        return 0;
+    }
+    of_tenant(d, live, tenant)
 }
 
 // What a submission is refused for, whatever the kind, in this order: 14, 1, 2, 19, 15, 5. Its tenant has so many live jobs.
@@ -232,6 +247,40 @@ fn capped(clock: u32) -> u32
     clock
 }
 
+// What a tick does to a job.
+enum Due {
+    Stays,
+    Ends,
+    Leaves,
+}
+
+// Whether its run ends in this minute, or its nodes are free again. (The wall time is worked out only from the estimate's end on.)
+fn due_at(job: Job, settings: Settings, minute: u32) -> Due
+    requires { ⌜ Low job × Orderly settings job ⌝ }
+    ensures { λ r. ⌜ r ≡ dueBy settings minute job ⌝ }
+{
+    let s = job.state;
+    match s {
+        State::Unused => Due::Stays,
+        State::Waiting => Due::Stays,
+        State::Running => {
+            if minute < job.start + job.estimate as u32 {
+                return Due::Stays;
+            }
+            if job.ends_at(settings, minute) {
+                return Due::Ends;
+            }
+            Due::Stays
+        }
+        State::Cleanup => {
+            if job.released_at(settings, minute) {
+                return Due::Leaves;
+            }
+            Due::Stays
+        }
+    }
+}
+
 // A tick: whose runs end leave, or are in cleanup from then on; those whose nodes are free again leave. Past the last minute nobody does
 // either, so that a refused tick changes nothing.
 pub fn expire(d: Scheduler) -> Part
@@ -250,15 +299,21 @@ pub fn expire(d: Scheduler) -> Part
     let mut i: usize = 0;
     while i < Scheduler::LIVE {
         let j = e.jobs[i];
-        if j.ends_at(settings, clock) {
-            list[gone] = j.ticket;
-            gone += 1;
-            if cleared {
-                e.jobs[kept] = j.cleaning(clock);
-                kept += 1;
+        if !j.is_live() {
+            break;
+        }
+        let what = due_at(j, settings, clock);
+        match what {
+            Due::Ends => {
+                list[gone] = j.ticket;
+                gone += 1;
+                if cleared {
+                    e.jobs[kept] = j.cleaning(clock);
+                    kept += 1;
+                }
             }
-        } else {
-            if !j.released_at(settings, clock) {
+            Due::Leaves => {}
+            Due::Stays => {
                 // Read once more: compiled code then moves it whole.
                 let stays = e.jobs[i];
                 e.jobs[kept] = stays;
@@ -267,7 +322,7 @@ pub fn expire(d: Scheduler) -> Part
         }
         i += 1;
     }
-    while kept < Scheduler::LIVE {
+    while kept < i {
         e.jobs[kept] = none;
         kept += 1;
     }

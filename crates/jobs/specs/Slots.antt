@@ -14,8 +14,10 @@ use Rattle.lists.specs.Lists.{All, In, all-of, all-at, in-getD}
 use Rattle.lists.specs.Pads.{pad, all-pad}
 use Rattle.scheduler.specs.declared.Job.{Job}
 use Rattle.scheduler.specs.declared.Scheduler.{Scheduler}
+use Rattle.scheduler.specs.declared.Settings.{Settings}
 use Rattle.scheduler.specs.Limits.{horizon, slots}
 use Rattle.scheduler.specs.Jobs.{unused, isLive, isCleaning}
+use Rattle.scheduler.specs.Settings.{longest}
 use Rattle.scheduler.specs.Model.{Model, store, view}
 use Rattle.jobs.specs.Soundness.{Sound, start-until}
 use Rattle.jobs.specs.Premise.{Holds}
@@ -38,17 +40,30 @@ sound-low m s j i =
       case (isCleaning j) (λ c. omega (arith, f .cleaned c, s .clock-to)) (λ c. omega (arith, f .no-end c)),
     )
 
+-- its estimate is no longer than the longest, and if it is in cleanup, its end is not before its start
+abbrev pub Orderly : Settings → Job → Type 0
+Orderly S j = (j .estimate ≤ longest S) × (isCleaning j ≡ true → j .start ≤ j .end)
+
 module _ (d : Scheduler) (h : Holds Sound d) where
   pub slots-are : d .jobs ≡ store (view d) .jobs
   slots-are = ap (λ (e : Scheduler). e .jobs) (h .stored)
 
-  all-low : (m : Model) → Sound m → All Low (store m .jobs)
+  -- what holds of an unused slot and of every live job holds of every slot
+  all-slots : (P : Job → Type 0) → P unused → ((j : Job) → In j (view d .jobs) → P j) → (i : ℕ) → i < length (d .jobs) → P (getD (d .jobs) i unused)
   unfolding store
-  all-low m s = all-pad slots unused Low (m .jobs) (omega arith) (all-of Low (m .jobs) (λ j i. sound-low m s j i))
+  all-slots P u each i l = all-at P (d .jobs) i unused (subst (All P) (sym slots-are) (stored (view d) each)) l
+    where
+      stored : (m : Model) → ((j : Job) → In j (m .jobs) → P j) → All P (store m .jobs)
+      stored m f = all-pad slots unused P (m .jobs) u (all-of P (m .jobs) f)
 
   -- no start and no end passes the last minute
   pub slots-low : (i : ℕ) → i < length (d .jobs) → Low (getD (d .jobs) i unused)
-  slots-low i l = all-at Low (d .jobs) i unused (subst (All Low) (sym slots-are) (all-low (view d) (h .holds))) l
+  slots-low = all-slots Low (omega arith) (λ j x. sound-low (view d) (h .holds) j x)
+
+  pub slots-orderly : (i : ℕ) → i < length (d .jobs) → Orderly (d .settings) (getD (d .jobs) i unused)
+  unfolding view
+  slots-orderly =
+      all-slots (Orderly (d .settings)) (omega arith, λ c. omega arith) (λ j x. let f = h .holds .each j x in (f .estimate-to, λ c. f .cleaned c .0))
 
   abbrev L : List Job
   L = view d .jobs

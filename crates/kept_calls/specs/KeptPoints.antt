@@ -2,7 +2,7 @@
 -- Assumes nothing.
 use Prim.Native.Nat.{ℕ, _+_, _≤_}
 use native.Mathlib.Omega.{arith}
-use mathlib.Core.Path.{_≡_, refl, sym, ap, subst, _∙_}
+use mathlib.Core.Path.{_≡_, sym, ap, subst, _∙_}
 use mathlib.Core.List.{List, [], _∷_}
 use Rattle.scheduler.specs.declared.Kind.{Kind}
 use Rattle.scheduler.specs.declared.Kind.the-variants.{Conservative, Easy}
@@ -24,11 +24,12 @@ use Rattle.conservative_index.specs.BuiltIndex.{Indexed}
 use Rattle.conservative_kept.specs.Beside.{Beside}
 use Rattle.conservative_kept.specs.Tick.{advances-to, waited-profile}
 
+-- the lists beside a model are its points and their index, if it is a conservative one
 pub record KeptBeside (m : Model) (n : ℕ) (ms fs lo hi : List ℕ) : Type 0 where
   pub beside : m .settings .kind ≡ Conservative → Beside m n ms fs lo hi
 
 -- EASY is another kind
-pub not-easy : {A : Type 0} (k : Kind) → k ≡ Easy → k ≡ Conservative → A
+not-easy : {A : Type 0} (k : Kind) → k ≡ Easy → k ≡ Conservative → A
 not-easy k e q = absurd (let w : Easy ≡ Conservative = sym e ∙ q in let z : _≡_ {A = ℕ} 0 1 = cc in omega arith)
 
 -- calls keep the kind

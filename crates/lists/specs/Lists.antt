@@ -180,6 +180,10 @@ module _ {A : Type 0} where
   sum-keep f p [] = omega arith
   sum-keep f p (x ∷ xs) = case (p x) (λ e. rw e (omega (arith, sum-keep f p xs))) (λ e. rw e (omega (arith, sum-keep f p xs)))
 
+  pub sum-picked : (f : A → ℕ) (p : A → Bool) (xs : List A) → sum f (keep p xs) ≡ sum (λ (a : A). on (p a) (f a)) xs
+  sum-picked f p [] = refl
+  sum-picked f p (x ∷ xs) = case (p x) (λ e. rw e (omega (arith, sum-picked f p xs))) (λ e. rw e (omega (arith, sum-picked f p xs)))
+
   -- what weighs nothing may be dropped
   pub sum-kept : (f : A → ℕ) (p : A → Bool) (xs : List A) → ((a : A) → p a ≡ false → f a ≡ 0) → sum f (keep p xs) ≡ sum f xs
   sum-kept f p [] h = refl

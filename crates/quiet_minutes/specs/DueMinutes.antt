@@ -13,14 +13,14 @@ use Rattle.conservative_laws.specs.Sentences.{startsAt}
 abbrev pub dueAt : Settings → ℕ → Job → Bool
 dueAt S t j = endsAt S t j || releasedAt S t j || startsAt t j
 
--- for this job nothing is due in the k minutes after the clock
-abbrev pub QuietFor : Settings → ℕ → ℕ → Job → Type 0
-QuietFor S clock k j = (t : ℕ) → clock < t → t ≤ clock + k → dueAt S t j ≡ false
+-- for this job nothing is due in the minutes after the clock, up to the last
+abbrev pub QuietTo : Settings → (clock last : ℕ) → Job → Type 0
+QuietTo S clock last j = (t : ℕ) → clock < t → t ≤ last → dueAt S t j ≡ false
 
--- and for no job
+-- and for no job in the k minutes after the clock
 abbrev pub Quiet : Model → ℕ → Type 0
-Quiet m k = (j : Job) → In j (m .jobs) → QuietFor (m .settings) (m .clock) k j
+Quiet m k = (j : Job) → In j (m .jobs) → QuietTo (m .settings) (m .clock) (m .clock + k) j
 
--- this minute is none of the k minutes after the clock
-abbrev pub Until : ℕ → ℕ → ℕ → Type 0
-Until minute clock k = (minute ≤ clock + k) → minute ≤ clock
+-- this minute is none of the minutes after the clock, up to the last
+abbrev pub Until : (minute clock last : ℕ) → Type 0
+Until minute clock last = (minute ≤ last) → minute ≤ clock

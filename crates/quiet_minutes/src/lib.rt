@@ -1,43 +1,52 @@
 // Minutes in which nothing is due: ticks of them only move the clock, so that they can be passed over.
 ghost use Prim.Native.Nat.{_≤_};
-ghost use Rattle.jobs.specs.Slots.{Low};
+ghost use Rattle.jobs.specs.Slots.{Low, Orderly};
 ghost use Rattle.guarantees.specs.Premise.{Premise};
-ghost use Rattle.quiet_minutes.specs.DueMinutes.{Until, QuietFor};
+ghost use Rattle.quiet_minutes.specs.DueMinutes.{Until, QuietTo};
 ghost use Rattle.quiet_minutes.specs.QuietCount.{Ahead};
 use scheduler::Job;
 use scheduler::Scheduler;
 use scheduler::Settings;
 use scheduler::State;
 
-// How many minutes lie between `clock` and `minute`, at most `most`; a `minute` that is past does not count.
-fn before(minute: u32, clock: u32, most: u32) -> u32
-    ensures { λ r. ⌜ (r ≤ most) × Until minute clock r ⌝ }
+// The last minute before `minute`, at most `last`; a `minute` that is past does not count.
+fn before(minute: u32, clock: u32, last: u32) -> u32
+    requires { ⌜ clock ≤ last ⌝ }
+    ensures { λ r. ⌜ (clock ≤ r) × (r ≤ last) × Until minute clock r ⌝ }
 {
     if minute <= clock {
-        return most;
+        return last;
     }
-    let ahead = minute - clock - 1;
-    if ahead < most {
-        return ahead;
+    if minute <= last {
+        return minute - 1;
     }
-    most
+    last
 }
 
-// How many minutes lie between `clock` and the start, the end or the release of `job`, whichever is next, at most `most`.
-fn quiet_of(job: Job, settings: Settings, clock: u32, most: u32) -> u32
-    requires { ⌜ Low job ⌝ }
-    ensures { λ r. ⌜ (r ≤ most) × QuietFor settings clock r job ⌝ }
+// The last minute, at most `last`, up to which `job` neither starts nor ends nor is released. (Most jobs of a long queue start later than that,
+// and the wall time is worked out only where the estimate is over by then.)
+fn quiet_of(job: Job, settings: Settings, clock: u32, last: u32) -> u32
+    requires { ⌜ Low job × Orderly settings job × (clock ≤ last) ⌝ }
+    ensures { λ r. ⌜ (clock ≤ r) × (r ≤ last) × QuietTo settings clock r job ⌝ }
 {
+    if last < job.start {
+        return last;
+    }
     let s = job.state;
     match s {
-        State::Unused => most,
-        State::Waiting => before(job.start, clock, most),
-        State::Running => before(
-            job.start + settings.run_time(job.estimate as u32),
-            clock,
-            most,
-        ),
-        State::Cleanup => before(job.end + settings.cleanup(), clock, most),
+        State::Unused => last,
+        State::Waiting => before(job.start, clock, last),
+        State::Running => {
+            if last < job.start + job.estimate as u32 {
+                return last;
+            }
+            before(
+                job.start + settings.run_time(job.estimate as u32),
+                clock,
+                last,
+            )
+        }
+        State::Cleanup => before(job.end + settings.cleanup(), clock, last),
     }
 }
 
@@ -48,12 +57,15 @@ pub fn quiet_minutes(d: Scheduler, most: u32) -> u32
     ensures { λ r. ⌜ Ahead d most r ⌝ }
 {
     let settings = d.settings;
-    let mut k = before(Scheduler::HORIZON + 1, d.clock, most);
+    let mut last = Scheduler::HORIZON;
+    if most < Scheduler::HORIZON - d.clock {
+        last = d.clock + most;
+    }
     let mut i: usize = 0;
     while i < Scheduler::LIVE {
         let j = d.jobs[i];
-        k = quiet_of(j, settings, d.clock, k);
+        last = quiet_of(j, settings, d.clock, last);
         i += 1;
     }
-    k
+    last - d.clock
 }

@@ -86,7 +86,8 @@ pub fn run(from: i32, to: i32) {
         return;
     }
     let n = input.len;
-    let mut page = io::large_buffer();
+    // Room for many answers, and short enough to stay in the nearest cache.
+    let mut page = [0u8; 16384];
     if !play(&space[..n], to, &mut page) {
         os::fail(b"sheet: the printout cannot be written");
     }

@@ -8,6 +8,7 @@ use mathlib.Core.Logic.{_⊎_, inl, inr}
 use lib.ListN.{getD, set, length-set}
 use lib.Seq.{getD-set-same, getD-set-other}
 use Rattle.lists.specs.Tests.{le-or}
+use Rattle.spans.specs.declared.Block.{Block}
 use Rattle.spans.specs.Index.{blocks, size, fewest, most, blockFewest, blockMost}
 use Rattle.conservative_index.specs.BuiltIndex.{at, Built, Indexed}
 use borrow.Author.Needs.{needs}
@@ -67,10 +68,10 @@ loop-holds c = record { from-is = omega arith; to = c .pre .3; built = c .pre .0
 
 loop-again : tie.Need-loop-again Inv-loop μ-loop
 loop-again c =
-    let l = c .before .before .before .before .loop in
-    let s = c .before .before .before .before .before in
-    one-more _ _ (l .low) (l .high) (l .b) (l .from) _ _ _ (l .inv) (omega arith) (s .pre .2) (c .before .before .end-of .ensures)
-    (c .before .fewest-of .ensures) (c .most-of .ensures)
+    let l = c .before .before .before .loop in
+    let s = c .before .before .before .before in
+    one-more _ _ (l .low) (l .high) (l .b) (l .from) _ _ _ (l .inv) (omega arith) (s .pre .2) (c .before .end-of .ensures)
+    (ap (λ (x : Block). x .fewest) (c .extremes-of .ensures)) (ap (λ (x : Block). x .most) (c .extremes-of .ensures))
 
 returns : tie.Need-returns Inv-loop μ-loop
 returns c =
@@ -79,6 +80,6 @@ returns c =
 
 pub build-spec : {M : Type 1} → statement M
 build-spec =
-    tie.close (tie.spec Inv-loop μ-loop (λ c. search needs) loop-holds (λ c κs. search needs) (λ c κs. search needs)
+    tie.close (tie.spec Inv-loop μ-loop (λ c. search needs) loop-holds (λ c κs. search needs)
     (λ c κs. search needs) (λ c. search needs) (λ c. search needs) (λ c. search needs) (λ c. search needs) (λ c. search needs)
     (λ c. search needs) (λ c. search needs) loop-again returns)

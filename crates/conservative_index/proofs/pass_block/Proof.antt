@@ -2,7 +2,7 @@
 -- Assumes nothing.
 use native.Mathlib.Omega.{arith}
 use mathlib.Core.Path.{sym, _∙_}
-use Rattle.conservative_index.specs.Anchors.{pass-over, pass-free, pass-lost, pass-read}
+use Rattle.conservative_index.specs.Anchors.{pass-over, pass-free, pass-lost, pass-read, stands}
 use borrow.Author.Needs.{needs}
 use Rattle.conservative_index.proofs.pass_block.Statement.{statement}
 use Rattle.conservative_index.proofs.pass_block.Tie as tie
@@ -19,10 +19,14 @@ returns-3 c = pass-lost _ _ _ _ _ _ _ _ (c .before .before .before .before .ente
     (sym (c .before .before .before .over .ensures) ∙ c .before .before .if1 .left) (omega arith) (omega arith)
 
 returns-4 : tie.Need-returns-4
-returns-4 c = pass-read _ _ _ _ _ _ _ _ (c .before .before .before .before .before .enter .ensures)
-    (sym (c .before .before .before .before .over .ensures) ∙ c .before .before .before .if1 .left) (omega arith) (omega arith) (c .read-points .ensures)
+returns-4 c =
+    let o = c .before .before in
+    let e = o .before .before .before in
+    let n = sym (e .before .over .ensures) ∙ e .if1 .left in
+    pass-read _ _ _ _ _ _ _ _ (e .before .before .enter .ensures) n (omega arith) (omega arith)
+    (c .read-points .ensures ∙ rw (c .before .minute-of .ensures, o .is-open .ensures, stands _ n))
 
 pub pass-block-spec : {M : Type 1} → statement M
 pass-block-spec =
     tie.close (tie.spec (λ c. search needs) (λ c. search needs) (λ c κs. search needs) (λ c κs. search needs) returns
-    (λ c κs. search needs) returns-2 returns-3 (λ c κs. search needs) (λ c. search needs) returns-4)
+    (λ c κs. search needs) returns-2 returns-3 (λ c κs. search needs) (λ c κs. search needs) (λ c κs. search needs) (λ c. search needs) returns-4)
