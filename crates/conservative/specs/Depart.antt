@@ -2,7 +2,6 @@
 -- Assumes nothing.
 use mathlib.Core.Path.{_≡_, refl, sym, ap, _∙_}
 use mathlib.Core.Bool.{true, false}
-use mathlib.Core.List.{[]}
 use Prim.Native.Nat.{ℕ}
 use native.Mathlib.Omega.{arith}
 use Rattle.scheduler.specs.declared.Outcome.{Outcome}
@@ -17,14 +16,14 @@ use Rattle.jobs.specs.Premise.{Holds, store-holds}
 use Rattle.job_table.specs.declared.Part.{Part}
 use Rattle.job_table.specs.Parts.{Own, departing, withdrawnBy, leaving, part, own-taken, own-refused}
 use Rattle.history.specs.Calls.{depart}
-use Rattle.conservative_rules.specs.Conservative.{pass, call, departed}
+use Rattle.conservative_rules.specs.Conservative.{compressed, call, departed}
 use Rattle.conservative_laws.specs.Validity.{Valid, used-remaining}
 use Rattle.conservative.specs.Advance.{advancedBy, refused-stored, advanced-stored}
-use Rattle.conservative_plan.specs.Pass.{Replannable, pass-stored, pass-length}
+use Rattle.conservative_plan.specs.Pass.{Replannable, compressed-stored, compressed-length}
 
 -- what the code computes of the table after its part: the jobs that stay have their turns
 abbrev pub departsBy : Part → Outcome
-departsBy p = advancedBy p (withJobs (p .scheduler) (pass (view (p .scheduler) .settings) (p .scheduler .clock) [] (p .scheduler .jobs)))
+departsBy p = advancedBy p (withJobs (p .scheduler) (compressed (view (p .scheduler) .settings) (p .scheduler .clock) (p .scheduler .jobs)))
 
 module _ (m : Model) (h : Departure) (t : ℕ) (v : Valid m) where
   abbrev rest : Model
@@ -42,18 +41,18 @@ module _ (m : Model) (h : Departure) (t : ℕ) (v : Valid m) where
   rest-held : Holds Replannable (store rest)
   rest-held = store-holds Replannable rest (all-live rest sound-rest) replannable
 
-  abbrev after-pass : Model
-  after-pass = withModelJobs rest (pass (rest .settings) (rest .clock) [] (rest .jobs))
+  abbrev after-passes : Model
+  after-passes = withModelJobs rest (compressed (rest .settings) (rest .clock) (rest .jobs))
 
-  pass-is : withJobs (store rest) (pass (view (store rest) .settings) (store rest .clock) [] (store rest .jobs)) ≡ store after-pass
+  passes-are : withJobs (store rest) (compressed (view (store rest) .settings) (store rest .clock) (store rest .jobs)) ≡ store after-passes
   unfolding view store
-  pass-is = pass-stored rest replannable
+  passes-are = compressed-stored rest replannable
 
   taken-is : departsBy (part (leaving m (m .clock) (select.Departing h t) (withdrawnBy h t))) ≡ outcome (departed m h t)
   unfolding departed
   taken-is =
-      ap (advancedBy (part (leaving m (m .clock) (select.Departing h t) (withdrawnBy h t)))) pass-is
-      ∙ advanced-stored m (m .clock) (select.Departing h t) (withdrawnBy h t) (after-pass .jobs) (sym (pass-length (rest .settings) (rest .clock) [] (rest .jobs)))
+      ap (advancedBy (part (leaving m (m .clock) (select.Departing h t) (withdrawnBy h t)))) passes-are
+      ∙ advanced-stored m (m .clock) (select.Departing h t) (withdrawnBy h t) (after-passes .jobs) (sym (compressed-length (rest .settings) (rest .clock) (rest .jobs)))
 
   abbrev own : Own
   own = departing m h t

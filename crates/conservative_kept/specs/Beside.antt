@@ -2,19 +2,12 @@
 -- Assumes nothing.
 use Prim.Native.Nat.{ℕ, _≤_}
 use native.Mathlib.Omega.{arith}
-use mathlib.Core.Path.{_≡_, sym, _∙_}
-use mathlib.Core.Bool.{not}
+use mathlib.Core.Path.{_≡_, sym}
 use mathlib.Core.List.{List}
 use lib.ListN.{length, length-map}
-use Rattle.lists.specs.Tests.{on}
-use Rattle.lists.specs.Lists.{sum, sum-map, sum-picked}
-use Rattle.spans.specs.Spans.{used, lastEnd}
-use Rattle.scheduler.specs.declared.Job.{Job}
-use Rattle.scheduler.specs.declared.Select.{Select}
-use Rattle.scheduler.specs.declared.Settings.{Settings}
+use Rattle.spans.specs.Spans.{lastEnd}
 use Rattle.scheduler.specs.Limits.{slots}
 use Rattle.scheduler.specs.Settings.{horizon}
-use Rattle.scheduler.specs.Table.{leaves, staying, ceased, remaining}
 use Rattle.scheduler.specs.Model.{Model, store, view}
 use Rattle.jobs.specs.Soundness.{Sound}
 use Rattle.conservative_table.specs.ListChanges.{rows}
@@ -22,7 +15,7 @@ use Rattle.conservative_table.specs.ProfileLists.{IsProfile, exact-few, exact-s
 use Rattle.spans.specs.Index.{blocks, index}
 use Rattle.conservative_index.specs.BuiltIndex.{Built, built-none, Indexed, held, indexed-index}
 use Rattle.conservative_rules.specs.Conservative.{span, spans, points}
-use Rattle.conservative_laws.specs.Validity.{Valid, taken, used-jobs}
+use Rattle.conservative_laws.specs.Validity.{Valid}
 use Rattle.conservative_plan.specs.PlannedSlots.{Tabulated, used-slots, last-slots}
 
 -- the lists are the points of the model and their index
@@ -64,15 +57,3 @@ pub profile-stored : (m : Model) {n : ℕ} {ms fs : List ℕ} → IsProfile (m .
     → Tabulated (store m) n ms fs
 unfolding store view
 profile-stored m p = exact-same (spans (m .settings) (store m .jobs)) p (λ r l. sym (used-slots (m .settings) r (m .jobs)))
-
--- ## What those that remain take
-
--- what is left of a job takes
-abbrev pub left : Settings → ℕ → Select → ℕ → Job → ℕ
-left S c s t j = on (not (leaves S s j)) (taken S t (ceased c s j))
-
-pub used-left : (S : Settings) (c : ℕ) (s : Select) (t : ℕ) (js : List Job) → used t (spans S (remaining S c s js)) ≡ sum (left S c s t) js
-used-left S c s t js =
-    used-jobs S t (remaining S c s js)
-    ∙ sum-map (taken S t) (ceased c s) (staying S s js)
-    ∙ sum-picked (λ (j : Job). taken S t (ceased c s j)) (λ (j : Job). not (leaves S s j)) js

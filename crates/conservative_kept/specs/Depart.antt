@@ -1,5 +1,5 @@
 -- An early completion or a withdrawal with the points kept beside the model: what the job gives back is taken out of the points, and the
--- pass goes over them.
+-- passes go over them.
 -- Assumes nothing.
 use Prim.Native.Nat.{ℕ, suc, _+_, _-_, _≤_, _<_}
 use native.Mathlib.Omega.{arith}
@@ -49,7 +49,8 @@ use Rattle.conservative_table.specs.ProfileLists.{IsProfile, Lifting, Changed, 
 use Rattle.conservative_rules.specs.Conservative.{spans, call}
 use Rattle.conservative_plan.specs.PlannedSlots.{Tabulated}
 use Rattle.conservative_laws.specs.Validity.{Valid, taken, used-jobs}
-use Rattle.conservative_kept.specs.Beside.{few-spans, ends-within, stored-profile, profile-stored, left, used-left}
+use Rattle.conservative_laws.specs.Remaining.{left, used-left}
+use Rattle.conservative_kept.specs.Beside.{few-spans, ends-within, stored-profile, profile-stored}
 
 -- the slot that a search has found; the one after the last if there is none
 abbrev pub slotAt : Option ℕ → ℕ
@@ -194,7 +195,7 @@ lifted-stored m h u a p =
     let o = own-taken m (departRefusal m h u) (leaving m (m .clock) (select.Departing h u) (withdrawnBy h u)) a .1 in
     rw o (profile-stored (without m (m .clock) (select.Departing h u)) p)
 
--- after the pass they are that of the model handed back
+-- after the passes they are that of the model handed back
 pub passed-profile : (d : Scheduler) (m : Model) → d ≡ store m → {n : ℕ} {ms fs : List ℕ} → Tabulated d n ms fs
     → IsProfile (m .settings .nodes) (spans (m .settings) (m .jobs)) (m .clock) n ms fs
 passed-profile d m e {n} {ms} {fs} t = stored-profile m (subst (λ (x : Scheduler). Tabulated x n ms fs) e t)

@@ -1,5 +1,9 @@
 pub mod Validity
-pub mod Obligations
+pub mod Remaining
 pub mod PassLoop
+pub mod Compression
+pub mod Outcomes
+pub mod Obligations
 pub mod Sentences
 pub mod TickedJob
+pub mod Tightness

@@ -34,7 +34,8 @@ use Rattle.history_proof.specs.Obligations.{shown, fateBy, live, remark, Tells,
 use Rattle.history_proof.specs.Departures.{shown-with, queued-by, lives, Departs, departs-live, departs-shown, tells-leave, tells-stay, tells-nothing, kept-by}
 use Rattle.conservative_rules.specs.Conservative.{planned, stateAt, newJob, submitted, placed, begun, advanced, call}
 use Rattle.conservative_laws.specs.Validity.{Valid, Zip, zip-map, zip-left, Follows, stays, moves, follows-ticket, follows-start}
-use Rattle.conservative_laws.specs.Validity.{follows-begins, Moved, Says, CameOut, idle, joins, leaves, outcome, call-valid}
+use Rattle.conservative_laws.specs.Validity.{follows-begins, Moved}
+use Rattle.conservative_laws.specs.Outcomes.{Says, CameOut, idle, joins, leaves, outcome, call-valid}
 
 -- the job u waits, and is planned to start by b
 pub record OnCourse (m : Model) (u b : ℕ) : Type 0 where

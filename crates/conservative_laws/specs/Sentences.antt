@@ -40,20 +40,20 @@ use Rattle.scheduler.specs.Answers.{Result, verdict, accepts, refuse}
 use Rattle.scheduler.specs.Refusals.{judged, submitTests, departRefusal, tickRefusal}
 use Rattle.jobs.specs.Order.{Asc, asc-keep, asc-one}
 use Rattle.jobs.specs.Departing.{cancel-judged, departs-alone, left-ran, ticked-ran}
-use Rattle.jobs.specs.Soundness.{SoundJob, Sound, early, waiting-clean, ceased-ticket, waits-on, remained-waits, sound-leave}
+use Rattle.jobs.specs.Soundness.{SoundJob, Sound, waiting-clean, ceased-ticket, waits-on, remained-waits, sound-leave}
 use Rattle.history.specs.Calls.{Call, submit, depart, complete, cancel, tick, unchanged}
 use Rattle.history.specs.News.{News, newsOf}
 use Rattle.history.specs.Tickets.{nextAfter}
 use Rattle.history_proof.specs.Obligations.{said, Ticketed}
 use Rattle.history_proof.specs.Departures.{waits-runs, queued-by, lives, Ended, unless-said}
 use Rattle.conservative_rules.specs.Conservative.{span, spans, planned, points, submitRefusal, submitted, begun}
-use Rattle.conservative_rules.specs.Conservative.{advanced, moved, departed, turned, ticked, call}
-use Rattle.conservative_rules.specs.Computed.{startOf, promiseOf}
+use Rattle.conservative_rules.specs.Conservative.{advanced, moved, startOf, departed, turned, ticked, call}
+use Rattle.conservative_rules.specs.Computed.{promiseOf}
 use Rattle.jobs.specs.Judgement.{judged-by, judged-accepted, judged-refusal, judged-refused}
-use Rattle.conservative_laws.specs.Validity.{Valid, zip-left, Follows, follows-ticket, follows-start, follows-promise, CameOut, idle}
-use Rattle.conservative_laws.specs.Validity.{joins, leaves, outcome, call-valid}
+use Rattle.conservative_laws.specs.Validity.{Valid, zip-left, Follows, follows-ticket, follows-start, follows-promise}
+use Rattle.conservative_laws.specs.Outcomes.{CameOut, idle, joins, leaves, outcome, call-valid}
 use Rattle.conservative_laws.specs.Obligations.{OnCourse, begun-waited, lives-stays, waits-lives, outcome-joins}
-use Rattle.conservative_laws.specs.PassLoop.{loop, pass-as-loop}
+use Rattle.conservative_laws.specs.Compression.{Repeats, left-compressible, compressed-is}
 
 -- ## Free nodes
 
@@ -191,15 +191,15 @@ pub moved-running : (S : Settings) (now : ℕ) (others : List Job) (j : Job) →
 moved-running S now others j w = rw w
 
 -- "Then each waiting stack, once, in ticket order": the jobs that remain have their turns by their indices, each with all others as they are
--- then (`turn` moves the job at an index; z stands for what is past the list). Document 02, No. 1: the same after a withdrawal. No. 3: one
--- whose run has ended is in cleanup, and the others are planned around it.
+-- then (`turn` moves the job at an index; z stands for what is past the list). Document 02, No. 10: "Repeat the pass until a whole pass
+-- moves nothing." That it ends is that there are so many passes, one after another, of which the last changes nothing (`Repeats`). No. 1:
+-- the same after a withdrawal. No. 3: one whose run has ended is in cleanup, and the others are planned around it.
 pub depart-moves : (m : Model) (h : Departure) (t : ℕ) (z : Job) → Valid m → accepts (call m (depart h t) .reply .refusal) ≡ true
-    → let js = remaining (m .settings) (m .clock) (select.Departing h t) (m .jobs) in
-    call m (depart h t) .model .jobs ≡ loop (m .settings) (m .clock) z (length js) 0 js
+    → Repeats (m .settings) (m .clock) z (remaining (m .settings) (m .clock) (select.Departing h t) (m .jobs)) (call m (depart h t) .model .jobs)
 unfolding call departed advanced
 depart-moves m h t z v =
-    judged-taken (λ (r : Result). r .model .jobs ≡ loop (m .settings) (m .clock) z (length js) 0 js) m (departRefusal m h t) (departed m h t)
-    (sym (pass-as-loop (m .settings) (m .clock) z js (λ j i. sound-leave m (m .clock) (select.Departing h t) (v .sound) (early h t) .each j i .nodes-to)))
+    judged-taken (λ (r : Result). Repeats (m .settings) (m .clock) z js (r .model .jobs)) m (departRefusal m h t) (departed m h t)
+    (compressed-is (m .settings) (m .clock) js (left-compressible m h t v) .repeats z)
   where
     js : List Job
     js = remaining (m .settings) (m .clock) (select.Departing h t) (m .jobs)

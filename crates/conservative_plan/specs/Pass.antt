@@ -1,16 +1,20 @@
--- The pass after an early end, over the slots of the table: each waiting job has its turn, once, in ticket order.
+-- The passes after an early end or a withdrawal, over the slots of the table: each waiting job has its turn, in ticket order, until a whole
+-- pass moves nobody.
 -- Assumes nothing.
 use mathlib.Core.Path.{_≡_, refl, sym, ap, subst, _∙_}
-use mathlib.Core.Bool.{true, false}
+use mathlib.Core.Bool.{Bool, true, false, _&&_, cond}
 use mathlib.Core.List.{List, [], _∷_, _++_}
-use Prim.Native.Nat.{ℕ, zero, suc, _+_, _-_, _≤_, _<_}
+use mathlib.Core.Logic.{_⊎_, inl, inr, ⊎-elim}
+use Prim.Native.Nat.{ℕ, zero, suc, _+_, _-_, _*_, _≤_, _<_}
 use native.Mathlib.Numerals.{add-one}
-use native.Mathlib.Nat.{add-zero}
 use native.Mathlib.Omega.{arith}
+use lib.Dec.{ltb, eqb}
 use lib.ListN.{length, getD, take, drop, set, replicate}
-use lib.Seq.{set-split, set-getD, split-at, drop-set-lt, drop-drop, getD-drop}
-use Rattle.lists.specs.Tests.{true-false}
-use Rattle.lists.specs.Lists.{All, In, all-of, all-in, all-at}
+use lib.Seq.{set-split, set-getD, split-at}
+use borrow.Author.Tests.{eqb-true, eqb-false, lt-ltb, le-ltb}
+use Rattle.lists.specs.Tests.{on, case, true-false, le-or}
+use Rattle.lists.specs.Lists.{All, In, sum, all-of, all-in, all-at, sum-append}
+use Rattle.lists.specs.Loops.{sum-set}
 use Rattle.lists.specs.Pads.{pad, all-pad}
 use Rattle.spans.specs.Spans.{used}
 use Rattle.scheduler.specs.declared.Job.{Job}
@@ -25,24 +29,31 @@ use Rattle.scheduler.specs.Model.{Model, store, view, withModelJobs}
 use Rattle.jobs.specs.Soundness.{waiting-clean}
 use Rattle.jobs.specs.Premise.{Holds}
 use Rattle.conservative_table.specs.ProfileLists.{IsProfile}
-use Rattle.conservative_rules.specs.Conservative.{spans, moved, pass}
-use Rattle.conservative_laws.specs.Validity.{used-append}
-use Rattle.conservative_laws.specs.PassLoop.{moved-same, loop, pass-as-loop}
+use Rattle.conservative_rules.specs.Conservative.{spans, placed, moved, pass, startOf, unmoved, passes, compressed}
+use Rattle.conservative_laws.specs.Validity.{used-append, Follows, stays, moves, follows-start}
+use Rattle.conservative_laws.specs.PassLoop.{moved-same, turn, loop, pass-as-loop}
+use Rattle.conservative_laws.specs.Compression.{Movable, Compressible, follows-movable, follows-still, passed-ready, compressed-still, compressed-passed}
 use Rattle.conservative_plan.specs.declared.Replanned.{Replanned}
 use Rattle.conservative_plan.specs.PlannedSlots.{Planned, Slots, Tabulated, planned-slots, takes-unused}
-use Rattle.conservative_plan.specs.Replan.{Replans, TurnDone, movedTo, fits-after}
+use Rattle.conservative_plan.specs.Replan.{Replans, TurnDone, all-instead, movedTo, follows, fits-after}
 
 -- a model whose waiting jobs are planned for later than now
 pub record Replannable (m : Model) : Type 0 where
   pub planned : Planned m
   pub ahead : (j : Job) → In j (m .jobs) → isWaiting j ≡ true → m .clock < j .start
 
+compressible-jobs : (m : Model) → Replannable m → Compressible (m .settings) (m .clock) (m .jobs)
+compressible-jobs m r = record {
+  each = λ j i.
+      let s = r .planned .sound .each j i in
+      record { nodes-to = s .nodes-to; ahead = r .ahead j i; no-end = λ w. s .no-end (waiting-clean (j .state) w) };
+  room = r .planned .room;
+}
+
 pub record SlotJob (S : Settings) (now : ℕ) (j : Job) : Type 0 where
+  pub movable : Movable S now j
   pub nodes-from : isWaiting j ≡ true → 1 ≤ j .nodes
-  pub nodes-to : j .nodes ≤ S .nodes
-  pub ahead : isWaiting j ≡ true → now < j .start
   pub hold-from : isWaiting j ≡ true → 1 ≤ holdTime S (j .estimate)
-  pub no-end : isWaiting j ≡ true → j .end ≡ 0
 
 slot-jobs : (m : Model) → Replannable m → All (SlotJob (m .settings) (m .clock)) (store m .jobs)
 unfolding store
@@ -50,25 +61,29 @@ slot-jobs m r = all-pad slots unused (SlotJob (m .settings) (m .clock)) (m .jobs
   where
     none : SlotJob (m .settings) (m .clock) unused
     none = record {
+      movable = record { nodes-to = omega arith; ahead = λ e. true-false false e refl; no-end = λ e. refl };
       nodes-from = λ e. true-false false e refl;
-      nodes-to = omega arith;
-      ahead = λ e. true-false false e refl;
       hold-from = λ e. true-false false e refl;
-      no-end = λ e. refl;
     }
 
     one : (j : Job) → In j (m .jobs) → SlotJob (m .settings) (m .clock) j
     one j i =
         let s = r .planned .sound .each j i in
         record {
+          movable = compressible-jobs m r .each j i;
           nodes-from = λ e. s .nodes-from;
-          nodes-to = s .nodes-to;
-          ahead = λ e. r .ahead j i e;
           hold-from = λ e. hold-pos (m .settings) (j .estimate) (s .estimate-from);
-          no-end = λ e. s .no-end (waiting-clean (j .state) e);
         }
 
--- the slots from which a pass begins
+follows-slot : (S : Settings) (now : ℕ) (j k : Job) → Follows now j k → SlotJob S now j → SlotJob S now k
+follows-slot S now j k (stays e) s = s
+follows-slot S now j k (moves r e a b) s = record {
+  movable = follows-movable S now j (placed now r j) (moves r e a b) (s .movable);
+  nodes-from = λ w. s .nodes-from e;
+  hold-from = λ w. s .hold-from e;
+}
+
+-- slots over which passes can go
 pub record Before (S : Settings) (now : ℕ) (js : List Job) : Type 0 where
   pub fits : Slots S now js
   pub each : All (SlotJob S now) js
@@ -79,115 +94,203 @@ held-before d h =
     subst (λ (e : Scheduler). Before (view d .settings) (d .clock) (e .jobs)) (sym (h .stored))
     (record { fits = planned-slots (view d) (h .holds .planned); each = slot-jobs (view d) (h .holds) })
 
--- the turns before i are over: js are the slots now, and the lists are their profile
-pub record Passing (S : Settings) (now : ℕ) (js₀ js : List Job) (i n : ℕ) (ms fs : List ℕ) : Type 0 where
-  pub low : i ≤ slots
-  pub fits : Slots S now js
-  pub same : drop i js ≡ drop i js₀
-  pub rest : loop S now unused (slots - i) i js ≡ loop S now unused slots 0 js₀
+module _ {S : Settings} {now : ℕ} {js : List Job} (b : Before S now js) where
+  compressible : Compressible S now js
+  compressible = record { each = λ j i. all-in (SlotJob S now) (b .each) i .movable; room = b .fits .room }
+
+  as-pass : loop S now unused slots 0 js ≡ pass S now [] js
+  as-pass =
+      ap (λ (n : ℕ). loop S now unused n 0 js) (sym (b .fits .all))
+      ∙ pass-as-loop S now unused js (λ k x. all-in (SlotJob S now) (b .each) x .movable .nodes-to)
+
+  -- a pass more makes no difference
+  round : compressed S now (loop S now unused slots 0 js) ≡ compressed S now js
+  round = ap (compressed S now) as-pass ∙ compressed-passed S now js compressible
+
+-- ## Turns
+
+-- of so many turns in a row, the last of which finds a job at one start and leaves it at another, those that have moved nobody
+abbrev pub calmTurns : ℕ → ℕ → ℕ → ℕ
+calmTurns n before after = on (eqb after before) n
+
+-- the slot whose turn is next
+abbrev pub slotAfter : ℕ → ℕ
+slotAfter i = cond (ltb (i + 1) slots) (i + 1) 0
+
+-- js are the slots when it is the turn of i, and the lists are their profile; so many turns in a row have moved nobody
+pub record Turning (S : Settings) (now : ℕ) (js₀ js : List Job) (i turns n : ℕ) (ms fs : List ℕ) : Type 0 where
+  pub low : i < slots
+  pub few : turns ≤ slots
+  pub before : Before S now js
+  pub rest : compressed S now (loop S now unused (slots - i) i js) ≡ compressed S now js₀
+  -- the turns before i, and those before them from the last slot on
+  pub calm : (x : ℕ) → x < i → i ≤ x + turns → turn S now unused x js ≡ js
+  pub calm-last : (x : ℕ) → x < slots → i + slots ≤ x + turns → turn S now unused x js ≡ js
   pub profile : IsProfile (S .nodes) (spans S js) now n ms fs
 
-pub pass-begins : (d : Scheduler) {n : ℕ} {ms fs : List ℕ} → Slots (view d .settings) (d .clock) (d .jobs) → Tabulated d n ms fs
-    → Passing (view d .settings) (d .clock) (d .jobs) (d .jobs) 0 n ms fs
-pass-begins d s t = record { low = omega arith; fits = s; same = refl; rest = refl; profile = t }
+pub turns-begin : (d : Scheduler) {n : ℕ} {ms fs : List ℕ} → Before (view d .settings) (d .clock) (d .jobs) → Tabulated d n ms fs
+    → Turning (view d .settings) (d .clock) (d .jobs) (d .jobs) 0 0 n ms fs
+turns-begin d b t = record {
+  low = omega arith;
+  few = omega arith;
+  before = b;
+  rest = round b;
+  calm = λ x l k. absurd (omega arith);
+  calm-last = λ x l k. absurd (omega arith);
+  profile = t;
+}
 
-module _ {S : Settings} {now : ℕ} {js₀ js : List Job} {i n : ℕ} {ms fs : List ℕ} (b : Before S now js₀) (v : Passing S now js₀ js i n ms fs)
-    (l : i < slots) where
+module _ {S : Settings} {now : ℕ} {js₀ js : List Job} {i turns n : ℕ} {ms fs : List ℕ} (v : Turning S now js₀ js i turns n ms fs) (l : turns < slots) where
   abbrev j : Job
   j = getD js i unused
 
   in₀ : i < length js
-  in₀ = omega (arith, v .fits .all)
-
-  -- its turn is still to come
-  here-is : getD js₀ i unused ≡ j
-  here-is =
-      ap (λ (n : ℕ). getD js₀ n unused) (sym (add-zero i))
-      ∙ sym (getD-drop i js₀ 0 unused)
-      ∙ ap (λ (l : List Job). getD l 0 unused) (sym (v .same))
-      ∙ getD-drop i js 0 unused
-      ∙ ap (λ (n : ℕ). getD js n unused) (add-zero i)
+  in₀ = omega (arith, v .before .fits .all, v .low)
 
   split : js ≡ take i js ++ j ∷ drop (i + 1) js
   split = split-at js i unused in₀ ∙ rw (← add-one i)
 
+  put-is : (k : Job) → set js i k ≡ take i js ++ k ∷ drop (i + 1) js
+  put-is k = set-split js i k in₀ ∙ rw (← add-one i)
+
+  slot-job : SlotJob S now j
+  slot-job = all-at (SlotJob S now) js i unused (v .before .each) in₀
+
   -- the turn of a waiting job
   replans : isWaiting j ≡ true → Replans ms fs n j now
-  replans w =
-      let s = subst (SlotJob S now) here-is (all-at (SlotJob S now) js₀ i unused (b .each) (omega (arith, b .fits .all))) in
-      record {
-        settings = S;
-        xs = take i js;
-        ys = drop (i + 1) js;
-        fits = subst (Slots S now) split (v .fits);
-        profile = subst (λ (ks : List Job). IsProfile (S .nodes) (spans S ks) now n ms fs) split (v .profile);
-        waits = w;
-        ahead = s .ahead w;
-        nodes-from = s .nodes-from w;
-        nodes-to = s .nodes-to;
-        hold-from = s .hold-from w;
-        no-end = s .no-end w;
-      }
+  replans w = record {
+    settings = S;
+    xs = take i js;
+    ys = drop (i + 1) js;
+    fits = subst (Slots S now) split (v .before .fits);
+    profile = subst (λ (ks : List Job). IsProfile (S .nodes) (spans S ks) now n ms fs) split (v .profile);
+    waits = w;
+    ahead = slot-job .movable .ahead w;
+    nodes-from = slot-job .nodes-from w;
+    nodes-to = slot-job .movable .nodes-to;
+    hold-from = slot-job .hold-from w;
+    no-end = slot-job .movable .no-end w;
+  }
 
   pub turn-asked : {hold : ℕ} → hold ≡ holdTime S (j .estimate) → isWaiting j ≡ true
       → (q : Replans ms fs n j now) × (hold ≡ holdTime (q .settings) (j .estimate))
   unfolding replans
   turn-asked h w = (replans w, h)
 
-  more : slots - i ≡ suc (slots - (i + 1))
-  more = omega arith
-
-  same-next : (k : Job) → drop (i + 1) (set js i k) ≡ drop (i + 1) js₀
-  same-next k =
-      drop-set-lt (i + 1) js i k (omega arith)
-      ∙ sym (drop-drop 1 i js)
-      ∙ ap (drop 1) (v .same)
-      ∙ drop-drop 1 i js₀
-
   -- one turn of the definition's loop
-  loop-turn : loop S now unused (slots - (i + 1)) (i + 1) (set js i (moved S now (take i js ++ drop (i + 1) js) j)) ≡ loop S now unused slots 0 js₀
+  loop-turn : loop S now unused (slots - i) i js ≡ loop S now unused (slots - (i + 1)) (i + 1) (turn S now unused i js)
   unfolding loop
-  loop-turn = rw more at (v .rest)
+  loop-turn = let more : slots - i ≡ suc (slots - (i + 1)) = omega (arith, v .low) in rw more
 
-  pub turn-taken : {hold : ℕ} → hold ≡ holdTime S (j .estimate) → (w : isWaiting j ≡ true) (r : Replanned) {ms′ fs′ : List ℕ}
-      → ((q : Replans ms fs n j now) → hold ≡ holdTime (q .settings) (j .estimate) → TurnDone q r ms′ fs′)
-      → Passing S now js₀ (set js i (r .job)) (i + 1) (r .count) ms′ fs′
-  unfolding replans
-  turn-taken h w r {ms′} {fs′} f =
-      let q = replans w in
-      let done = f q h in
-      let job-is : r .job ≡ movedTo q = done .job-is in
-      let set-is : set js i (r .job) ≡ take i js ++ movedTo q ∷ drop (i + 1) js = ap (set js i) job-is ∙ set-split js i (movedTo q) in₀ ∙ rw (← add-one i) in
-      record {
-        low = omega arith;
-        fits = subst (Slots S now) (sym set-is) (fits-after q);
-        same = same-next (r .job);
-        rest = ap (λ (k : Job). loop S now unused (slots - (i + 1)) (i + 1) (set js i k)) job-is ∙ loop-turn;
-        profile = subst (λ (ks : List Job). IsProfile (S .nodes) (spans S ks) now (r .count) ms′ fs′) (sym set-is) (done .profile);
-      }
+  -- what the next turn finds: nobody has moved, or the count begins anew
+  module _ {ks : List Job} {k n′ : ℕ} {ms′ fs′ : List ℕ} (e : ks ≡ turn S now unused i js) (b : Before S now ks)
+      (p : IsProfile (S .nodes) (spans S ks) now n′ ms′ fs′) (c : ((k ≡ turns + 1) × (ks ≡ js)) ⊎ (k ≡ 0)) where
+    few-turns : k ≤ slots
+    few-turns = ⊎-elim (λ x. omega (arith, x .0)) (λ x. omega arith) c
 
-  pub turn-passed : isWaiting j ≡ false → Passing S now js₀ js (i + 1) n ms fs
+    rest-is : compressed S now (loop S now unused (slots - (i + 1)) (i + 1) ks) ≡ compressed S now js₀
+    rest-is = ap (λ (l : List Job). compressed S now (loop S now unused (slots - (i + 1)) (i + 1) l)) e ∙ sym (ap (compressed S now) loop-turn) ∙ v .rest
+
+    -- those that have moved nobody, up to this turn
+    calm-now : (x : ℕ) → x < i + 1 → i + 1 ≤ x + k → turn S now unused x ks ≡ ks
+    calm-now x a g = ⊎-elim (λ y. same (y .0) (y .1)) (λ y. absurd (omega arith)) c
+      where
+        same : k ≡ turns + 1 → ks ≡ js → turn S now unused x ks ≡ ks
+        same y q =
+            subst (λ (l : List Job). turn S now unused x l ≡ l) (sym q)
+            (⊎-elim (λ h. ap (λ (z : ℕ). turn S now unused z js) (omega arith) ∙ sym e ∙ q) (λ h. v .calm x h (omega arith)) (le-or i x))
+
+    calm-before : (x : ℕ) → x < slots → i + 1 + slots ≤ x + k → turn S now unused x ks ≡ ks
+    calm-before x a g =
+        ⊎-elim
+        (λ y. subst (λ (l : List Job). turn S now unused x l ≡ l) (sym (y .1)) (v .calm-last x a (omega (arith, y .0))))
+        (λ y. absurd (omega arith)) c
+
+    onward : i + 1 < slots → Turning S now js₀ ks (i + 1) k n′ ms′ fs′
+    onward h = record { low = h; few = few-turns; before = b; rest = rest-is; calm = calm-now; calm-last = calm-before; profile = p }
+
+    around : slots ≤ i + 1 → Turning S now js₀ ks 0 k n′ ms′ fs′
+    unfolding loop
+    around h =
+        let none : slots - (i + 1) ≡ 0 = omega arith in
+        record {
+          low = omega arith;
+          few = few-turns;
+          before = b;
+          rest = round b ∙ (rw none at rest-is);
+          calm = λ x a g. absurd (omega arith);
+          calm-last = λ x a g. calm-now x (omega arith) (omega (arith, v .low));
+          profile = p;
+        }
+
+    next : Turning S now js₀ ks (slotAfter i) k n′ ms′ fs′
+    next = ⊎-elim (λ h. rw (le-ltb (i + 1) slots h) (around h)) (λ h. rw (lt-ltb (i + 1) slots h) (onward h)) (le-or slots (i + 1))
+
+  module _ {hold : ℕ} (h : hold ≡ holdTime S (j .estimate)) (w : isWaiting j ≡ true) (r : Replanned) {ms′ fs′ : List ℕ}
+      (f : (q : Replans ms fs n j now) → hold ≡ holdTime (q .settings) (j .estimate) → TurnDone q r ms′ fs′) where
+    done : TurnDone (replans w) r ms′ fs′
+    unfolding replans
+    done = f (replans w) h
+
+    set-is : set js i (r .job) ≡ take i js ++ movedTo (replans w) ∷ drop (i + 1) js
+    set-is = ap (set js i) (done .job-is) ∙ put-is (movedTo (replans w))
+
+    followed : Follows now j (r .job)
+    followed = subst (Follows now j) (sym (done .job-is)) (follows (replans w))
+
+    before-after : Before S now (set js i (r .job))
+    unfolding replans
+    before-after = record {
+      fits = subst (Slots S now) (sym set-is) (fits-after (replans w));
+      each =
+          subst (All (SlotJob S now)) (sym (put-is (r .job)))
+          (all-instead (SlotJob S now) (take i js) j (r .job) (drop (i + 1) js) (subst (All (SlotJob S now)) split (v .before .each))
+          (follows-slot S now j (r .job) followed slot-job));
+    }
+
+    stays-if : eqb (r .job .start) (j .start) ≡ true → set js i (r .job) ≡ js
+    stays-if q = ap (set js i) (follows-still S now j (r .job) followed (slot-job .movable) (eqb-true (r .job .start) (j .start) q)) ∙ set-getD js i unused
+
+    pub turn-taken : Turning S now js₀ (set js i (r .job)) (slotAfter i) (calmTurns (turns + 1) (j .start) (r .job .start)) (r .count) ms′ fs′
+    unfolding replans
+    turn-taken =
+        next (ap (set js i) (done .job-is)) before-after
+        (subst (λ (ks : List Job). IsProfile (S .nodes) (spans S ks) now (r .count) ms′ fs′) (sym set-is) (done .profile))
+        (case (eqb (r .job .start) (j .start)) (λ q. inl (rw q, stays-if q)) (λ q. inr (rw q)))
+
+    -- the sum of the planned starts falls where the job moves, and more turns have moved nobody where it does not
+    pub taken-falls : 65 * sum startOf (set js i (r .job)) + (64 - calmTurns (turns + 1) (j .start) (r .job .start)) < 65 * sum startOf js + (64 - turns)
+    taken-falls =
+        case (eqb (r .job .start) (j .start))
+        (λ q. rw (q, stays-if q) (omega (arith, l)))
+        (λ q. rw q
+        (omega (
+          arith,
+          l,
+          eqb-false (r .job .start) (j .start) q,
+          follows-start now j (r .job) followed,
+          sum-set unused startOf js i (r .job) in₀,
+        )))
+
+  pub turn-passed : isWaiting j ≡ false → Turning S now js₀ js (slotAfter i) (turns + 1) n ms fs
   turn-passed w =
       let still : moved S now (take i js ++ drop (i + 1) js) j ≡ j = rw w in
-      let set-is : js ≡ set js i (moved S now (take i js ++ drop (i + 1) js) j) = sym (ap (set js i) still ∙ set-getD js i unused) in
-      record {
-        low = omega arith;
-        fits = v .fits;
-        same = ap (drop (i + 1)) set-is ∙ same-next (moved S now (take i js ++ drop (i + 1) js) j);
-        rest = ap (loop S now unused (slots - (i + 1)) (i + 1)) set-is ∙ loop-turn;
-        profile = v .profile;
-      }
+      next (sym (ap (set js i) still ∙ set-getD js i unused)) (v .before) (v .profile) (inl (refl, refl))
 
--- all turns are over
-pub pass-ends : {S : Settings} {now : ℕ} {js₀ js : List Job} {i n : ℕ} {ms fs : List ℕ} → Before S now js₀ → Passing S now js₀ js i n ms fs
-    → slots ≤ i → js ≡ pass S now [] js₀
+-- as many turns in a row as there are slots have moved nobody: no pass would
+pub turns-end : {S : Settings} {now : ℕ} {js₀ js : List Job} {i turns n : ℕ} {ms fs : List ℕ} → Turning S now js₀ js i turns n ms fs
+    → slots ≤ turns → js ≡ compressed S now js₀
 unfolding loop
-pass-ends {S} {now} {js₀} {js} {i} b v h =
-    let none : slots - i ≡ 0 = omega arith in
-    let all : length js₀ ≡ slots = b .fits .all in
-    (rw none at (v .rest))
-    ∙ ap (λ (n : ℕ). loop S now unused n 0 js₀) (sym all)
-    ∙ pass-as-loop S now unused js₀ (λ k x. all-in (SlotJob S now) (b .each) x .nodes-to)
+turns-end {S} {now} {js₀} {js} {i} {turns} v h =
+    let still : pass S now [] js ≡ js = sym (as-pass (v .before)) ∙ stays slots 0 (omega arith) in
+    sym (compressed-still S now js still) ∙ ap (compressed S now) (sym (stays (slots - i) i (omega (arith, v .low)))) ∙ v .rest
+  where
+    all : (x : ℕ) → x < slots → turn S now unused x js ≡ js
+    all x l = ⊎-elim (λ a. v .calm-last x l (omega arith)) (λ a. v .calm x a (omega (arith, v .low))) (le-or i x)
+
+    stays : (k x : ℕ) → x + k ≤ slots → loop S now unused k x js ≡ js
+    stays zero x a = refl
+    stays (suc k) x a = ap (loop S now unused k (x + 1)) (all x (omega arith)) ∙ stays k (x + 1) (omega arith)
 
 -- ## On the model
 
@@ -222,11 +325,57 @@ pass-append S now k done (j ∷ js) a =
     )) in
     rw same (ap (λ (l : List Job). moved S now (done ++ js) j ∷ l) (pass-append S now k (moved S now (done ++ js) j ∷ done) js (a .1)))
 
-pub pass-stored : (m : Model) → Replannable m
-    → withJobs (store m) (pass (m .settings) (m .clock) [] (store m .jobs)) ≡ store (withModelJobs m (pass (m .settings) (m .clock) [] (m .jobs)))
+-- so it is after any number of passes
+module _ (S : Settings) (now k : ℕ) where
+  abbrev padded : List Job → List Job
+  padded js = js ++ replicate k unused
+
+  unmoved-pads : (c : ℕ) → unmoved (replicate c unused) (replicate c unused) ≡ true
+  unmoved-pads zero = refl
+  unmoved-pads (suc c) = rw (unmoved-pads c)
+
+  unmoved-padded : (js ks : List Job) → length ks ≡ length js → unmoved (padded js) (padded ks) ≡ unmoved js ks
+  unmoved-padded [] [] l = unmoved-pads k
+  unmoved-padded [] (x ∷ ks) l = absurd (omega arith)
+  unmoved-padded (j ∷ js) [] l = absurd (omega arith)
+  unmoved-padded (j ∷ js) (x ∷ ks) l = ap (λ (b : Bool). eqb (x .start) (j .start) && b) (unmoved-padded js ks (omega arith))
+
+  passes-padded : (n : ℕ) (js : List Job) → Compressible S now js → passes S now n (padded js) ≡ padded (passes S now n js)
+  unfolding passes
+  passes-padded zero js c = refl
+  passes-padded (suc n) js c =
+      let ks = pass S now [] js in
+      let e : pass S now [] (padded js) ≡ padded ks = pass-append S now k [] js (all-of (λ (j : Job). j .nodes ≤ S .nodes) js (λ j i. c .each j i .nodes-to)) in
+      rw (e, unmoved-padded js ks (pass-length S now [] js))
+      (case (unmoved js ks) (λ u. rw u) (λ u. rw u (passes-padded n ks (passed-ready S now js c))))
+
+  starts-none : (c : ℕ) → sum startOf (replicate c unused) ≡ 0
+  starts-none zero = refl
+  starts-none (suc c) = omega (arith, starts-none c)
+
+  compressed-padded : (js : List Job) → Compressible S now js → compressed S now (padded js) ≡ padded (compressed S now js)
+  unfolding compressed
+  compressed-padded js c =
+      ap (λ (n : ℕ). passes S now (suc n) (padded js)) (omega (arith, sum-append startOf js (replicate k unused), starts-none k))
+      ∙ passes-padded (suc (sum startOf js)) js c
+
+passes-length : (S : Settings) (now n : ℕ) (js : List Job) → length (passes S now n js) ≡ length js
+unfolding passes
+passes-length S now zero js = refl
+passes-length S now (suc n) js =
+    let ks = pass S now [] js in
+    case (unmoved js ks) (λ u. rw u (pass-length S now [] js)) (λ u. rw u (passes-length S now n ks ∙ pass-length S now [] js))
+
+pub compressed-length : (S : Settings) (now : ℕ) (js : List Job) → length (compressed S now js) ≡ length js
+unfolding compressed
+compressed-length S now js = passes-length S now (suc (sum startOf js)) js
+
+pub compressed-stored : (m : Model) → Replannable m
+    → withJobs (store m) (compressed (m .settings) (m .clock) (store m .jobs)) ≡ store (withModelJobs m (compressed (m .settings) (m .clock) (m .jobs)))
 unfolding store pad
-pass-stored m r =
-    let nodes = all-of (λ (j : Job). j .nodes ≤ m .settings .nodes) (m .jobs) (λ j i. r .planned .sound .each j i .nodes-to) in
+compressed-stored m r =
+    let S = m .settings in
+    let now = m .clock in
     ap (withJobs (store m))
-    (pass-append (m .settings) (m .clock) (slots - length (m .jobs)) [] (m .jobs) nodes
-    ∙ ap (λ (n : ℕ). pass (m .settings) (m .clock) [] (m .jobs) ++ replicate (slots - n) unused) (sym (pass-length (m .settings) (m .clock) [] (m .jobs))))
+    (compressed-padded S now (slots - length (m .jobs)) (m .jobs) (compressible-jobs m r)
+    ∙ ap (λ (n : ℕ). compressed S now (m .jobs) ++ replicate (slots - n) unused) (sym (compressed-length S now (m .jobs))))

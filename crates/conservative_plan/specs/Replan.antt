@@ -8,7 +8,6 @@ use Prim.Native.Nat.{ℕ, _+_, _≤_, _<_}
 use native.Mathlib.Omega.{arith}
 use lib.Dec.{eqb}
 use lib.ListN.{length, getD, length-append, length-map}
-use borrow.Author.Tests.{ne-eqb}
 use Rattle.lists.specs.Tests.{case, true-false}
 use Rattle.lists.specs.Lists.{All, In, here, there, in-left, in-right, in-append}
 use Rattle.spans.specs.declared.Span.{Span}
@@ -21,13 +20,14 @@ use Rattle.scheduler.specs.declared.Settings.{Settings}
 use Rattle.scheduler.specs.Settings.{horizon, holdTime, until}
 use Rattle.scheduler.specs.Times.{hold-le, until-is, until-at}
 use Rattle.jobs.specs.Slots.{Low}
-use Rattle.jobs.specs.Soundness.{waiting-is, waiting-clean}
+use Rattle.jobs.specs.Soundness.{waiting-clean}
 use Rattle.conservative_table.specs.declared.Row.{Row}
 use Rattle.conservative_table.specs.declared.Found.{Found}
 use Rattle.conservative_table.specs.ProfileLists.{IsProfile, Laying, Lifting, Changed, exact-kept, exact-few, exact-same}
 use Rattle.conservative_table.specs.Search.{Seeks, Finds}
 use Rattle.conservative_rules.specs.Conservative.{span, spans, stateAt, placed, moved}
 use Rattle.conservative_laws.specs.Validity.{state-clean, Follows, follows-start, moved-follows}
+use Rattle.conservative_laws.specs.Compression.{placed-still}
 use Rattle.conservative_plan.specs.declared.Replanned.{Replanned}
 use Rattle.conservative_plan.specs.PlannedSlots.{spanAt, span-at, Slots, slot-ends, last-slots}
 
@@ -46,29 +46,12 @@ pub record Replans (ms fs : List ℕ) (n : ℕ) (j : Job) (now : ℕ) : Type 0 w
   pub no-end : j .end ≡ 0
 
 -- another element in the place of one
-all-instead : {A : Type 0} (P : A → Type 0) (xs : List A) (x y : A) (ys : List A) → All P (xs ++ x ∷ ys) → P y → All P (xs ++ y ∷ ys)
+pub all-instead : {A : Type 0} (P : A → Type 0) (xs : List A) (x y : A) (ys : List A) → All P (xs ++ x ∷ ys) → P y → All P (xs ++ y ∷ ys)
 all-instead P [] x y ys a h = (h, a .1)
 all-instead P (z ∷ xs) x y ys a h = (a .0, all-instead P xs x y ys (a .1) h)
 
 placed-span : (S : Settings) (now s : ℕ) (j : Job) → span S (placed now s j) ≡ spanAt (j .nodes) s (holdTime S (j .estimate))
 placed-span S now s j = rw (until-at S (stateAt now s) s j (state-clean now s))
-
--- one that waits is as it is where it is planned
-placed-still : (now : ℕ) (j : Job) → isWaiting j ≡ true → now < j .start → j .end ≡ 0 → placed now (j .start) j ≡ j
-placed-still now j w l n = λ i. record {
-  ticket = j .ticket;
-  nodes = j .nodes;
-  estimate = j .estimate;
-  state = state-is i;
-  tenant = j .tenant;
-  least = j .least;
-  start = j .start;
-  promise = j .promise;
-  end = sym n i;
-}
-  where
-    state-is : stateAt now (j .start) ≡ j .state
-    state-is = rw (ne-eqb (j .start) now (λ z. omega arith)) (sym (waiting-is (j .state) w))
 
 module _ {ms fs : List ℕ} {n : ℕ} {j : Job} {now : ℕ} (q : Replans ms fs n j now) where
   abbrev S : Settings
@@ -93,7 +76,7 @@ module _ {ms fs : List ℕ} {n : ℕ} {j : Job} {now : ℕ} (q : Replans ms fs n
   room : (t : ℕ) → now ≤ t → takes t (span S j) + used t (spans S others) ≤ S .nodes
   room t l = omega (arith, among t j, q .fits .room t l)
 
-  follows : Follows now j movedTo
+  pub follows : Follows now j movedTo
   follows = moved-follows S now others j (q .nodes-to) (λ w. q .ahead) room .0
 
   pub room-after : (t : ℕ) → now ≤ t → takes t (span S movedTo) + used t (spans S others) ≤ S .nodes

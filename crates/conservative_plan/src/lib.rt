@@ -1,16 +1,15 @@
-// Where conservative backfilling places jobs: the profile of a scheduler's plan, the earliest start of a job in it, and the pass in which
+// Where conservative backfilling places jobs: the profile of a scheduler's plan, the earliest start of a job in it, and the passes in which
 // waiting jobs move forward after an early completion or a withdrawal. The calls are in `conservative`.
 ghost use mathlib.Core.Path.{_≡_};
-ghost use mathlib.Core.List.{[]};
-ghost use Prim.Native.Nat.{_≤_};
+ghost use Prim.Native.Nat.{_≤_, _<_};
 ghost use lib.ListN.{length};
-ghost use Rattle.scheduler.specs.Limits.{horizon, longestHold};
+ghost use Rattle.scheduler.specs.Limits.{horizon, longestHold, slots};
 ghost use Rattle.scheduler.specs.Settings.{holdTime, until};
 ghost use Rattle.scheduler.specs.Table.{withJobs};
 ghost use Rattle.scheduler.specs.Model.{view};
 ghost use Rattle.jobs.specs.Premise.{Holds};
 ghost use Rattle.jobs.specs.Slots.{Low};
-ghost use Rattle.conservative_rules.specs.Conservative.{placed, points, pass};
+ghost use Rattle.conservative_rules.specs.Conservative.{placed, points, compressed};
 ghost use Rattle.conservative_table.specs.ListChanges.{rows};
 ghost use Rattle.spans.specs.Index.{index};
 ghost use Rattle.conservative_index.specs.StoredIndex.{storedBlocks};
@@ -18,7 +17,7 @@ ghost use Rattle.conservative_profile.specs.StoredProfile.{stored};
 ghost use Rattle.conservative_plan.specs.PlannedSlots.{spanAt, Planned, Tabulated};
 ghost use Rattle.conservative_plan.specs.EarliestStart.{Askable, Asked};
 ghost use Rattle.conservative_plan.specs.Replan.{Replans, TurnDone};
-ghost use Rattle.conservative_plan.specs.Pass.{Replannable};
+ghost use Rattle.conservative_plan.specs.Pass.{Replannable, calmTurns, slotAfter};
 use conservative_index::Blocks;
 use conservative_index::Start;
 use conservative_profile::Profile;
@@ -163,13 +162,35 @@ fn replan(
     }
 }
 
-// The scheduler after a pass, and how many points its profile has.
+// Of so many turns in a row the last found a job at one start and left it at another: those in a row that have moved nobody.
+fn calm(turns: usize, before: u32, after: u32) -> usize
+    ensures { λ r. ⌜ r ≡ calmTurns turns before after ⌝ }
+{
+    if after == before {
+        return turns;
+    }
+    0
+}
+
+// The slot whose turn is next: after the last, the first.
+fn slot_after(i: usize) -> usize
+    requires { ⌜ i < slots ⌝ }
+    ensures { λ r. ⌜ r ≡ slotAfter i ⌝ }
+{
+    if i + 1 < Scheduler::LIVE {
+        return i + 1;
+    }
+    0
+}
+
+// The scheduler after the passes, and how many points its profile has.
 pub struct Passed {
     pub scheduler: Scheduler,
     pub count: usize,
 }
 
-// Each waiting job, once, in ticket order, is taken out of the plan and put in again, the others staying at their places. The lists are the
+// Each waiting job, in ticket order, is taken out of the plan and put in again, the others staying at their places, and again from the
+// first on until a whole pass moves nobody. That is so once as many turns in a row as there are slots have moved nobody. The lists are the
 // scheduler's profile, before and after.
 pub fn replan_kept(
     d: Scheduler,
@@ -179,7 +200,7 @@ pub fn replan_kept(
 ) -> Passed
     requires { ⌜ Holds Replannable d × Tabulated d count (now minutes) (now free) ⌝ }
     ensures { λ r.
-        ⌜ (r .scheduler ≡ withJobs d (pass (view d .settings) (d .clock) [] (d .jobs)))
+        ⌜ (r .scheduler ≡ withJobs d (compressed (view d .settings) (d .clock) (d .jobs)))
         × Tabulated (r .scheduler) (r .count) (now (minutes .exit)) (now (free .exit)) ⌝ }
 {
     let settings = d.settings;
@@ -187,16 +208,19 @@ pub fn replan_kept(
     let mut n = count;
     let mut e = d;
     let mut i: usize = 0;
-    while i < Scheduler::LIVE {
+    let mut turns: usize = 0;
+    while turns < Scheduler::LIVE {
         let j = e.jobs[i];
+        turns += 1;
         if j.is_waiting() {
             let hold = settings.hold_time(j.estimate as u32);
             let t = replan(j, hold, clock, minutes, free, n);
             let k = t.job;
             e.jobs[i] = k;
             n = t.count;
+            turns = calm(turns, j.start, k.start);
         }
-        i += 1;
+        i = slot_after(i);
     }
     Passed {
         scheduler: e,
@@ -204,10 +228,10 @@ pub fn replan_kept(
     }
 }
 
-// The pass over the profile of the scheduler, which is not kept.
+// The passes over the profile of the scheduler, which is not kept.
 pub fn replan_all(d: Scheduler) -> Scheduler
     requires { ⌜ Holds Replannable d ⌝ }
-    ensures { λ r. ⌜ r ≡ withJobs d (pass (view d .settings) (d .clock) [] (d .jobs)) ⌝ }
+    ensures { λ r. ⌜ r ≡ withJobs d (compressed (view d .settings) (d .clock) (d .jobs)) ⌝ }
 {
     let mut minutes = [0u32; 131];
     let mut free = [0u32; 131];

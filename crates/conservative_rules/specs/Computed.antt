@@ -12,7 +12,8 @@ use Rattle.scheduler.specs.declared.State.the-variants.{Waiting, Cleanup}
 use Rattle.scheduler.specs.declared.Job.{Job}
 use Rattle.scheduler.specs.declared.Refusal.{Refusal}
 use Rattle.scheduler.specs.declared.Refusal.the-variants as refusal
-use Rattle.scheduler.specs.declared.Departure.the-variants.{Complete}
+use Rattle.scheduler.specs.declared.Departure.{Departure}
+use Rattle.scheduler.specs.declared.Departure.the-variants.{Complete, Cancel}
 use Rattle.scheduler.specs.declared.Select.the-variants as select
 use Rattle.scheduler.specs.Jobs.{isRunning}
 use Rattle.scheduler.specs.declared.Settings.{Settings}
@@ -23,10 +24,8 @@ use Rattle.scheduler.specs.Settings as times
 use Rattle.scheduler.specs.Refusals as refusals
 use Rattle.scheduler.specs.Opening.{openingRefusal, opening}
 use Rattle.history.specs.Calls.{submit, order, complete, cancel, tick, after}
-use Rattle.conservative_rules.specs.Conservative.{planned, points, submitRefusal, submitted, advanced, moved, pass, departed, ticked, call}
-
-abbrev pub startOf : Job → ℕ
-startOf j = j .start
+use Rattle.conservative_rules.specs.Conservative.{planned, points, submitRefusal, submitted, advanced, moved, pass, startOf, passes, compressed, departed}
+use Rattle.conservative_rules.specs.Conservative.{ticked, call}
 
 abbrev pub promiseOf : Job → ℕ
 promiseOf j = j .promise
@@ -89,6 +88,17 @@ fifth-tick = call (after call figure2 (replicate 4 tick)) tick .reply
 abbrev early : Model
 early = call figure2 (complete 2) .model
 
+-- what a single pass would leave where a job departs
+abbrev once : Model → Departure → ℕ → List Job
+once m h t = pass (m .settings) (m .clock) [] (remaining (m .settings) (m .clock) (select.Departing h t) (m .jobs))
+
+-- five jobs one after another, the third and the last beside each other
+abbrev stacked : Model
+stacked = after call (fresh 0) (submit (order 2 5) ∷ submit (order 2 5) ∷ submit (order 1 5) ∷ submit (order 2 5) ∷ submit (order 1 5) ∷ [])
+
+abbrev lowered : Model
+lowered = call stacked (cancel 2) .model
+
 -- one job runs on both nodes until 5, the next needs both for 10 minutes, the third one
 abbrev queued : Model
 queued = after call (fresh 0) (submit (order 2 5) ∷ submit (order 2 10) ∷ submit (order 1 5) ∷ [])
@@ -107,11 +117,19 @@ pub examples : (ticketsOf (figure2 .jobs) ≡ 1 ∷ 2 ∷ 3 ∷ 4 ∷ [])
     × (alone 999990 3 11 ≡ refusal.NodesOutOfRange)
     -- "Replanning the whole queue after an early end can start a stack after its promise (document 001, figure 2). Only single moves,
     -- each never later, are right." When job 2 ends at 0, replanning puts job 3 at 5 and job 4 at 10, after its promise. Single moves
-    -- leave job 3 at 15 and start job 4 at once.
+    -- start job 4 at once. Document 02, No. 10: "a free stretch that an earlier ticket could use, since a later one moved after it": one pass
+    -- leaves job 3 at 15, the next moves it to 10.
     × (map startOf (replanned figure2 2) ≡ 0 ∷ 5 ∷ 10 ∷ [])
     × (ticketsOf (early .jobs) ≡ 1 ∷ 3 ∷ 4 ∷ [])
     × (map promiseOf (early .jobs) ≡ 0 ∷ 15 ∷ 5 ∷ [])
-    × (map startOf (early .jobs) ≡ 0 ∷ 15 ∷ 0 ∷ [])
+    × (map startOf (once figure2 Complete 2) ≡ 0 ∷ 15 ∷ 0 ∷ [])
+    × (map startOf (early .jobs) ≡ 0 ∷ 10 ∷ 0 ∷ [])
+    × (call figure2 (complete 2) .reply .started ≡ 4 ∷ [])
+    -- "for withdrawals too": job 4 takes what jobs 3 and 5 leave
+    × (map startOf (stacked .jobs) ≡ 0 ∷ 5 ∷ 10 ∷ 15 ∷ 10 ∷ [])
+    × (map startOf (once stacked Cancel 2) ≡ 0 ∷ 5 ∷ 15 ∷ 5 ∷ [])
+    × (map startOf (lowered .jobs) ≡ 0 ∷ 5 ∷ 10 ∷ 5 ∷ [])
+    × (map promiseOf (lowered .jobs) ≡ 0 ∷ 10 ∷ 15 ∷ 10 ∷ [])
     -- document 02, No. 1: the second is withdrawn, and the third moves from 15 to 5; the first runs, and cannot be
     × (map startOf (queued .jobs) ≡ 0 ∷ 5 ∷ 15 ∷ [])
     × (ticketsOf (withdrawn .jobs) ≡ 1 ∷ 3 ∷ [])
@@ -156,8 +174,10 @@ unfolding
     submitted
     advanced
     pass
+    passes
+    compressed
     departed
     ticked
     call
     replan
-examples = (refl, refl, refl, refl, refl, refl, refl, refl, refl, refl, refl, refl, refl, refl, refl, refl, refl, refl, refl, refl, refl, refl, refl, refl, refl, refl, refl, refl, refl, refl)
+examples = (refl, refl, refl, refl, refl, refl, refl, refl, refl, refl, refl, refl, refl, refl, refl, refl, refl, refl, refl, refl, refl, refl, refl, refl, refl, refl, refl, refl, refl, refl, refl, refl, refl, refl, refl, refl)

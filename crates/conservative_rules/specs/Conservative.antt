@@ -1,11 +1,12 @@
 -- Conservative backfilling: what each call gives (document 01: "Promise Desk", "When a desk says no").
 -- Assumes nothing.
-use mathlib.Core.Bool.{_&&_, cond}
+use mathlib.Core.Bool.{Bool, true, _&&_, cond}
 use mathlib.Core.List.{List, [], _∷_, _++_, map}
 use mathlib.Core.Option.{none}
-use Prim.Native.Nat.{ℕ, suc, _+_}
+use Prim.Native.Nat.{ℕ, zero, suc, _+_}
 use lib.Dec.{ltb, eqb}
 use lib.ListN.{length}
+use Rattle.lists.specs.Lists.{sum}
 use Rattle.spans.specs.declared.Span.{Span}
 use Rattle.spans.specs.declared.Point.{Point}
 use Rattle.spans.specs.Spans.{earliest, profile}
@@ -123,11 +124,34 @@ unfoldable pub pass : Settings → ℕ → List Job → List Job → List Job
 pass S now done [] = []
 pass S now done (j ∷ js) = let k : Job = moved S now (done ++ js) j in k ∷ pass S now (k ∷ done) js
 
--- document 02, No. 1: "A waiting stack can be withdrawn. The Promise Desk then moves the others as after an early end"
+abbrev pub startOf : Job → ℕ
+startOf j = j .start
+
+-- whether nobody has come to another start
+abbrev pub unmoved : List Job → List Job → Bool
+unmoved [] ks = true
+unmoved (j ∷ js) [] = true
+unmoved (j ∷ js) (k ∷ ks) = eqb (k .start) (j .start) && unmoved js ks
+
+-- document 02, No. 10: "Repeat the pass until a whole pass moves nothing", and at most n times
+unfoldable pub passes : Settings → ℕ → (n : ℕ) → List Job → List Job
+passes S now zero js = js
+passes S now (suc n) js =
+    let ks = pass S now [] js in
+    let more = passes S now n ks in
+    cond (unmoved js ks) ks more
+
+-- The sum of the planned starts falls with each pass that moves somebody, so that these are enough: the last one moves nothing
+-- (`compressed-is`).
+unfoldable pub compressed : Settings → ℕ → List Job → List Job
+compressed S now js = passes S now (suc (sum startOf js)) js
+
+-- "This replaces the single pass of document 01, for withdrawals too."
+-- Document 02, No. 1: "A waiting stack can be withdrawn. The Promise Desk then moves the others as after an early end"
 unfoldable pub departed : Model → Departure → ℕ → Result
 departed m h t =
     advanced m (m .clock) (select.Departing h t)
-    (pass (m .settings) (m .clock) [] (remaining (m .settings) (m .clock) (select.Departing h t) (m .jobs)))
+    (compressed (m .settings) (m .clock) (remaining (m .settings) (m .clock) (select.Departing h t) (m .jobs)))
 
 -- ## Tick (document 01: "Minute step")
 

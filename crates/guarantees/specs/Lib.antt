@@ -10,3 +10,4 @@ pub mod Withdrawn
 pub mod Cleanup
 pub mod Quotas
 pub mod EarliestStart
+pub mod NoGaps

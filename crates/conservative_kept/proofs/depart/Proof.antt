@@ -1,4 +1,4 @@
--- `conservative_kept::depart` meets its contract: the pass goes over the points without what the job gives back.
+-- `conservative_kept::depart` meets its contract: the passes go over the points without what the job gives back.
 -- Assumes nothing.
 use mathlib.Core.Path.{_≡_, sym, ap, _∙_}
 use mathlib.Core.Logic.{⊎-elim}
@@ -15,7 +15,8 @@ use Rattle.history.specs.Calls.{depart}
 use Rattle.job_table.specs.declared.Part.{Part}
 use Rattle.job_table.specs.Parts.{departing, part}
 use Rattle.conservative_rules.specs.Conservative.{call}
-use Rattle.conservative_laws.specs.Validity.{Valid, call-valid}
+use Rattle.conservative_laws.specs.Validity.{Valid}
+use Rattle.conservative_laws.specs.Outcomes.{call-valid}
 use Rattle.conservative.specs.Advance.{advancedBy}
 use Rattle.conservative.specs.Depart.{departsBy, replannable-held, taken-held, refused-held}
 use Rattle.conservative_kept.specs.Beside.{builds}
