@@ -3,7 +3,6 @@
 use mathlib.Core.Path.{_≡_, refl, sym, ap, _∙_}
 use mathlib.Core.Bool.{true, false}
 use Prim.Native.Nat.{ℕ}
-use native.Mathlib.Omega.{arith}
 use Rattle.scheduler.specs.declared.Outcome.{Outcome}
 use Rattle.scheduler.specs.declared.Departure.{Departure}
 use Rattle.scheduler.specs.declared.Select.the-variants as select
@@ -11,13 +10,14 @@ use Rattle.scheduler.specs.Table.{withJobs}
 use Rattle.scheduler.specs.Model.{Model, store, view, without, withModelJobs}
 use Rattle.scheduler.specs.Answers.{outcome, accepts}
 use Rattle.scheduler.specs.Refusals.{departRefusal}
-use Rattle.jobs.specs.Soundness.{Sound, sound-leave, early, all-live, remained-waits}
+use Rattle.jobs.specs.Soundness.{Sound, sound-leave, early, all-live}
 use Rattle.jobs.specs.Premise.{Holds, store-holds}
 use Rattle.job_table.specs.declared.Part.{Part}
 use Rattle.job_table.specs.Parts.{Own, departing, withdrawnBy, leaving, part, own-taken, own-refused}
 use Rattle.history.specs.Calls.{depart}
 use Rattle.conservative_rules.specs.Conservative.{compressed, call, departed}
-use Rattle.conservative_laws.specs.Validity.{Valid, used-remaining}
+use Rattle.conservative_laws.specs.Validity.{Valid}
+use Rattle.conservative_laws.specs.Compression.{left-compressible}
 use Rattle.conservative.specs.Advance.{advancedBy, refused-stored, advanced-stored}
 use Rattle.conservative_plan.specs.Pass.{Replannable, compressed-stored, compressed-length}
 
@@ -33,10 +33,9 @@ module _ (m : Model) (h : Departure) (t : ℕ) (v : Valid m) where
   sound-rest = sound-leave m (m .clock) (select.Departing h t) (v .sound) (early h t)
 
   replannable : Replannable rest
-  replannable = record {
-    planned = record { sound = sound-rest; room = λ r l. omega (arith, used-remaining m (m .clock) (select.Departing h t) (v .sound) (early h t) r, v .room r l) };
-    ahead = λ j i w. v .ahead j (remained-waits (m .settings) (m .clock) (select.Departing h t) (m .jobs) i w .0) w;
-  }
+  replannable =
+      let c = left-compressible m h t v in
+      record { planned = record { sound = sound-rest; room = c .room }; ahead = λ j i. c .each j i .ahead }
 
   rest-held : Holds Replannable (store rest)
   rest-held = store-holds Replannable rest (all-live rest sound-rest) replannable

@@ -1,17 +1,18 @@
 -- Document 02, No. 10: "after any call no waiting stack of the Promise Desk could begin earlier with all others held". An early end and a
 -- withdrawal bring this about from any valid model, and every other call keeps it. The theorem over lists of calls is in `guarantees`.
 -- Assumes nothing.
-use Prim.Native.Nat.{ℕ, suc, _+_, _≤_, _<_}
+use Prim.Native.Nat.{ℕ, suc, _+_, _-_, _≤_, _<_}
 use native.Mathlib.Omega.{arith}
 use mathlib.Core.Path.{_≡_, refl, sym, ap, subst, _∙_}
 use mathlib.Core.Bool.{true, not, cond}
 use mathlib.Core.List.{List, [], _∷_, _++_, map, head-eq-of-cons-eq, tail-eq-of-cons-eq}
-use mathlib.Core.Logic.{_⊎_, inl, inr}
-use lib.Dec.{eqb}
-use borrow.Author.Tests.{eq-eqb, ne-eqb}
-use Rattle.lists.specs.Tests.{case, true-false}
+use mathlib.Core.Logic.{_⊎_, inl, inr, ⊎-elim}
+use lib.Dec.{leb, eqb}
+use lib.ListN.{getD}
+use borrow.Author.Tests.{leb-true, leb-false, eq-eqb, ne-eqb}
+use Rattle.lists.specs.Tests.{case, true-false, le-or}
 use Rattle.lists.specs.Lists.{keep, In, here, there, in-nil, in-cons, in-right, in-append, map-in, keep-all}
-use Rattle.spans.specs.Spans.{takes, used, free, earliest, Earliest}
+use Rattle.spans.specs.Spans.{takes, used, free, lastEnd, fits, earliest, Fits, Earliest}
 use Rattle.spans.specs.UsedNodes.{takes-in}
 use Rattle.spans.specs.EarliestStart.{earliest-is}
 use Rattle.scheduler.specs.declared.Job.{Job}
@@ -19,9 +20,9 @@ use Rattle.scheduler.specs.declared.Submission.{Submission}
 use Rattle.scheduler.specs.declared.Departure.{Departure}
 use Rattle.scheduler.specs.declared.Opening.{Opening}
 use Rattle.scheduler.specs.declared.Select.the-variants as select
-use Rattle.scheduler.specs.Jobs.{isWaiting}
+use Rattle.scheduler.specs.Jobs.{unused, isWaiting}
 use Rattle.scheduler.specs.declared.Settings.{Settings}
-use Rattle.scheduler.specs.Settings.{holdTime}
+use Rattle.scheduler.specs.Settings.{cleanup, runTime, holdTime, endOf, until}
 use Rattle.scheduler.specs.Times.{until-is}
 use Rattle.scheduler.specs.Table.{remaining}
 use Rattle.scheduler.specs.Model.{Model, ending}
@@ -34,6 +35,7 @@ use Rattle.jobs.specs.Soundness.{waiting-clean, remained-waits}
 use Rattle.history.specs.Calls.{Call, submit, depart, tick, unchanged}
 use Rattle.conservative_rules.specs.Conservative.{span, spans, planned, newJob, submitRefusal, submitted, placed, advanced, moved, pass, startOf, departed}
 use Rattle.conservative_rules.specs.Conservative.{turned, ticked, call}
+use Rattle.conservative_rules.specs.Computed.{machine, gapped}
 use Rattle.conservative_laws.specs.Validity.{Valid, used-append}
 use Rattle.conservative_laws.specs.Remaining.{ticked-used}
 use Rattle.conservative_laws.specs.Compression.{left-compressible, compressed-is}
@@ -230,3 +232,39 @@ call-tight m (unchanged r) v T = T
 pub opening-tight : (o : Opening) → Tight (opening o)
 unfolding opening
 opening-tight o = case (accepts (openingRefusal o)) (λ e. rw e (λ j i w. in-nil i)) (λ e. rw e (λ j i w. in-nil i))
+
+-- ## For the reader
+
+-- so in the minute before its planned start a waiting job and the others that hold nodes then would need more than there are
+pub short-before : (m : Model) (j : Job) → Valid m → Tight m → In j (m .jobs) → isWaiting j ≡ true
+    → m .settings .nodes < used (j .start - 1) (spans (m .settings) (others (j .ticket) (m .jobs))) + j .nodes
+short-before m j v T i w =
+    let ahead = v .ahead j i w in
+    let E = T j i w in
+    case (leb (used b (spans S (others (j .ticket) (m .jobs))) + j .nodes) (S .nodes))
+    (λ q. absurd (omega (arith, E .smallest b (omega arith) (sooner (leb-true (used b (spans S (others (j .ticket) (m .jobs))) + j .nodes) (S .nodes) q)))))
+    (λ q. leb-false (used b (spans S (others (j .ticket) (m .jobs))) + j .nodes) (S .nodes) q)
+  where
+    S : Settings
+    S = m .settings
+
+    b : ℕ
+    b = j .start - 1
+
+    sooner : used b (spans S (others (j .ticket) (m .jobs))) + j .nodes ≤ S .nodes
+        → Fits (free (S .nodes) (spans S (others (j .ticket) (m .jobs)))) (j .nodes) (holdTime S (j .estimate)) b
+    sooner l t p q =
+        ⊎-elim
+        (λ (k : j .start ≤ t). T j i w .fit t k (omega arith))
+        (λ (k : t < j .start). subst (λ (x : ℕ). j .nodes ≤ free (S .nodes) (spans S (others (j .ticket) (m .jobs))) x) (let e : b ≡ t = omega arith in e) (omega (arith, l)))
+        (le-or (j .start) t)
+
+-- "Staff see a free stretch that an earlier ticket could use": so a single pass leaves document 001's figure 2
+pub single-pass-leaves-gap : Tight (record { settings = machine 0; clock = 0; next = 5; jobs = gapped }) → ⊥
+unfolding cleanup runTime holdTime endOf until takes lastEnd fits earliest
+single-pass-leaves-gap T =
+    let j = getD gapped 1 unused in
+    let s : ℕ = earliest 2 (spans (machine 0) (others 3 gapped)) 0 2 5 in
+    let could : s ≡ 10 = refl in
+    let E = earliest-is 2 (spans (machine 0) (others 3 gapped)) 0 2 5 (omega arith) in
+    omega (arith, could, T j (there (here refl)) refl .smallest s (E .later) (E .fit))

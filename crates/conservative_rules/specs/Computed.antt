@@ -8,13 +8,14 @@ use Rattle.lists.specs.Lists.{keep}
 use Rattle.spans.specs.Spans as spans
 use Rattle.scheduler.specs.declared.Kind.the-variants.{Conservative}
 use Rattle.scheduler.specs.declared.State.{State}
-use Rattle.scheduler.specs.declared.State.the-variants.{Waiting, Cleanup}
+use Rattle.scheduler.specs.declared.State.the-variants.{Waiting, Running, Cleanup}
 use Rattle.scheduler.specs.declared.Job.{Job}
 use Rattle.scheduler.specs.declared.Refusal.{Refusal}
 use Rattle.scheduler.specs.declared.Refusal.the-variants as refusal
 use Rattle.scheduler.specs.declared.Departure.{Departure}
 use Rattle.scheduler.specs.declared.Departure.the-variants.{Complete, Cancel}
 use Rattle.scheduler.specs.declared.Select.the-variants as select
+use Rattle.scheduler.specs.Jobs as jobs
 use Rattle.scheduler.specs.Jobs.{isRunning}
 use Rattle.scheduler.specs.declared.Settings.{Settings}
 use Rattle.scheduler.specs.Table.{ticketsOf, remaining}
@@ -37,12 +38,11 @@ abbrev endOf : Job → ℕ
 endOf j = j .end
 
 -- a machine of 2 nodes, whose nodes are cleared for so many minutes
+abbrev pub machine : ℕ → Settings
+machine k = record { kind = Conservative; nodes = 2; cleanup = k; «quota_a» = 63; «quota_b» = 1 }
+
 abbrev cleared : ℕ → ℕ → Model
-cleared k minute = opening (record {
-  settings = record { kind = Conservative; nodes = 2; cleanup = k; «quota_a» = 63; «quota_b» = 1 };
-  minute = minute;
-  ticket = 1;
-})
+cleared k minute = opening (record { settings = machine k; minute = minute; ticket = 1 })
 
 abbrev fresh : ℕ → Model
 fresh minute = cleared 0 minute
@@ -92,6 +92,10 @@ early = call figure2 (complete 2) .model
 abbrev once : Model → Departure → ℕ → List Job
 once m h t = pass (m .settings) (m .clock) [] (remaining (m .settings) (m .clock) (select.Departing h t) (m .jobs))
 
+-- which is this of figure 2: job 3 is planned for 15, and could begin at 10
+abbrev pub gapped : List Job
+gapped = jobs.fresh 1 (order 1 5) Running 0 0 ∷ jobs.fresh 3 (order 2 5) Waiting 15 15 ∷ jobs.fresh 4 (order 1 10) Running 0 5 ∷ []
+
 -- five jobs one after another, the third and the last beside each other
 abbrev stacked : Model
 stacked = after call (fresh 0) (submit (order 2 5) ∷ submit (order 2 5) ∷ submit (order 1 5) ∷ submit (order 2 5) ∷ submit (order 1 5) ∷ [])
@@ -122,7 +126,7 @@ pub examples : (ticketsOf (figure2 .jobs) ≡ 1 ∷ 2 ∷ 3 ∷ 4 ∷ [])
     × (map startOf (replanned figure2 2) ≡ 0 ∷ 5 ∷ 10 ∷ [])
     × (ticketsOf (early .jobs) ≡ 1 ∷ 3 ∷ 4 ∷ [])
     × (map promiseOf (early .jobs) ≡ 0 ∷ 15 ∷ 5 ∷ [])
-    × (map startOf (once figure2 Complete 2) ≡ 0 ∷ 15 ∷ 0 ∷ [])
+    × (once figure2 Complete 2 ≡ gapped)
     × (map startOf (early .jobs) ≡ 0 ∷ 10 ∷ 0 ∷ [])
     × (call figure2 (complete 2) .reply .started ≡ 4 ∷ [])
     -- "for withdrawals too": job 4 takes what jobs 3 and 5 leave

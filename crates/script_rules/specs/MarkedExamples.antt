@@ -194,6 +194,8 @@ unfolding
     conservative.submitted
     conservative.advanced
     conservative.pass
+    conservative.passes
+    conservative.compressed
     conservative.departed
     conservative.ticked
     conservative.call
