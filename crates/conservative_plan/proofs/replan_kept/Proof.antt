@@ -52,7 +52,7 @@ unfolding view
 replan-requires c κs =
     let l = c .before .before .before .before .before .before .before .before .loop in
     let w = sym (c .before .before .before .before .before .is-waiting .ensures) ∙ c .before .before .before .before .if1 .taken in
-    turn-asked (l .inv .turning) (c .before .before .before .before .before .before .before .loop-test .taken) (c .before .before .hold-time .ensures) w
+    turn-asked (l .inv .turning) (omega (arith, c .before .before .before .before .before .before .before .loop-test .taken)) (c .before .before .hold-time .ensures) w
 
 mul-k : tie.Need-mul-k Inv-loop μ-loop
 mul-k c = omega (arith, c .before .before .before .before .before .before .before .before .before .before .loop .inv .turning .low)
@@ -72,7 +72,7 @@ loop-less c =
     let v = l .inv .turning in
     ⊎-elim
     (λ w. rw (w .11, w .12, w .7 .ensures)
-    (taken-falls v (t .loop-test .taken) (w .2 .ensures) (sym (i .is-waiting .ensures) ∙ w .0 .taken) (w .5 .result) (w .5 .ensures)))
+    (taken-falls v (omega (arith, t .loop-test .taken)) (w .2 .ensures) (sym (i .is-waiting .ensures) ∙ w .0 .taken) (w .5 .result) (w .5 .ensures)))
     (λ w. rw (w .4, w .5) (omega (arith, t .loop-test .taken)))
     (c .before .if1 .came)
 
@@ -88,11 +88,11 @@ loop-again c =
     (⊎-elim
     (λ w. rw (w .8, w .9, w .10, w .11, w .12, w .7 .ensures) (record {
       scheduler-is = ap (λ (f : Scheduler). withJobs f (set (l .e .jobs) (l .i) (w .5 .result .job))) (l .inv .scheduler-is);
-      turning = turn-taken v (t .loop-test .taken) (w .2 .ensures) (sym e ∙ w .0 .taken) (w .5 .result) (w .5 .ensures);
+      turning = turn-taken v (omega (arith, t .loop-test .taken)) (w .2 .ensures) (sym e ∙ w .0 .taken) (w .5 .result) (w .5 .ensures);
     }))
     (λ w. rw (w .1, w .2, w .3, w .4, w .5) (record {
       scheduler-is = l .inv .scheduler-is;
-      turning = turn-passed v (t .loop-test .taken) (sym e ∙ w .0 .left);
+      turning = turn-passed v (omega (arith, t .loop-test .taken)) (sym e ∙ w .0 .left);
     }))
     (c .before .if1 .came))
 
@@ -100,7 +100,7 @@ returns : tie.Need-returns Inv-loop μ-loop
 returns c =
     let d = c .before .before .before .args .d in
     let l = c .before .loop in (
-      l .inv .scheduler-is ∙ ap (withJobs d) (turns-end (l .inv .turning) (c .loop-test .left)),
+      l .inv .scheduler-is ∙ ap (withJobs d) (turns-end (l .inv .turning) (omega (arith, c .loop-test .left))),
       same-settings d (l .e) (l .inv .scheduler-is) (l .inv .turning .profile),
     )
 
