@@ -19,7 +19,8 @@ use Rattle.conservative_rules.specs.Conservative.{compressed, call, departed}
 use Rattle.conservative_laws.specs.Validity.{Valid}
 use Rattle.conservative_laws.specs.Compression.{left-compressible}
 use Rattle.conservative.specs.Advance.{advancedBy, refused-stored, advanced-stored}
-use Rattle.conservative_plan.specs.Pass.{Replannable, compressed-stored, compressed-length}
+use Rattle.conservative_plan.specs.Pass.{Replannable}
+use Rattle.conservative_plan.specs.StoredPass.{compressed-stored, compressed-length}
 
 -- what the code computes of the table after its part: the jobs that stay have their turns
 abbrev pub departsBy : Part → Outcome

@@ -118,7 +118,7 @@ module _ (S : Settings) (now : ℕ) where
       (λ e. omega (arith, follows-start now j k (z .0), zip-falls js ks (z .1) (rw e at u)))
       (λ e. omega (arith, follows-start now j k (z .0), eqb-false (k .start) (j .start) e, zip-starts js ks (z .1)))
 
-  unmoved-same : (js : List Job) → unmoved js js ≡ true
+  pub unmoved-same : (js : List Job) → unmoved js js ≡ true
   unmoved-same [] = refl
   unmoved-same (j ∷ js) = rw (eq-eqb (j .start) (j .start) refl, unmoved-same js)
 

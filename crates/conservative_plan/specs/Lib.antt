@@ -2,3 +2,4 @@ pub mod PlannedSlots
 pub mod EarliestStart
 pub mod Replan
 pub mod Pass
+pub mod StoredPass

@@ -2,21 +2,20 @@
 -- pass moves nobody.
 -- Assumes nothing.
 use mathlib.Core.Path.{_≡_, refl, sym, ap, subst, _∙_}
-use mathlib.Core.Bool.{Bool, true, false, _&&_, cond}
+use mathlib.Core.Bool.{true, false, cond}
 use mathlib.Core.List.{List, [], _∷_, _++_}
 use mathlib.Core.Logic.{_⊎_, inl, inr, ⊎-elim}
 use Prim.Native.Nat.{ℕ, zero, suc, _+_, _-_, _*_, _≤_, _<_}
 use native.Mathlib.Numerals.{add-one}
 use native.Mathlib.Omega.{arith}
 use lib.Dec.{ltb, eqb}
-use lib.ListN.{length, getD, take, drop, set, replicate}
+use lib.ListN.{length, getD, take, drop, set}
 use lib.Seq.{set-split, set-getD, split-at}
 use borrow.Author.Tests.{eqb-true, eqb-false, lt-ltb, le-ltb}
 use Rattle.lists.specs.Tests.{on, case, true-false, le-or}
-use Rattle.lists.specs.Lists.{All, In, sum, all-of, all-in, all-at, sum-append}
+use Rattle.lists.specs.Lists.{All, In, sum, all-of, all-in, all-at}
 use Rattle.lists.specs.Loops.{sum-set}
-use Rattle.lists.specs.Pads.{pad, all-pad}
-use Rattle.spans.specs.Spans.{used}
+use Rattle.lists.specs.Pads.{all-pad}
 use Rattle.scheduler.specs.declared.Job.{Job}
 use Rattle.scheduler.specs.declared.Scheduler.{Scheduler}
 use Rattle.scheduler.specs.Limits.{slots}
@@ -24,17 +23,16 @@ use Rattle.scheduler.specs.Jobs.{unused, isWaiting}
 use Rattle.scheduler.specs.declared.Settings.{Settings}
 use Rattle.scheduler.specs.Settings.{holdTime}
 use Rattle.scheduler.specs.Times.{hold-pos}
-use Rattle.scheduler.specs.Table.{withJobs}
-use Rattle.scheduler.specs.Model.{Model, store, view, withModelJobs}
+use Rattle.scheduler.specs.Model.{Model, store, view}
 use Rattle.jobs.specs.Soundness.{waiting-clean}
 use Rattle.jobs.specs.Premise.{Holds}
 use Rattle.conservative_table.specs.ProfileLists.{IsProfile}
-use Rattle.conservative_rules.specs.Conservative.{spans, placed, moved, pass, startOf, unmoved, passes, compressed}
-use Rattle.conservative_laws.specs.Validity.{used-append, Follows, stays, moves, follows-start}
-use Rattle.conservative_laws.specs.PassLoop.{moved-same, turn, loop, pass-as-loop}
-use Rattle.conservative_laws.specs.Compression.{Movable, Compressible, follows-movable, follows-still, passed-ready, compressed-still, compressed-passed}
+use Rattle.conservative_rules.specs.Conservative.{spans, placed, moved, pass, startOf, compressed}
+use Rattle.conservative_laws.specs.Validity.{Follows, stays, moves, follows-start}
+use Rattle.conservative_laws.specs.PassLoop.{turn, loop, pass-as-loop}
+use Rattle.conservative_laws.specs.Compression.{Movable, Compressible, follows-movable, follows-still, compressed-still, compressed-passed}
 use Rattle.conservative_plan.specs.declared.Replanned.{Replanned}
-use Rattle.conservative_plan.specs.PlannedSlots.{Planned, Slots, Tabulated, planned-slots, takes-unused}
+use Rattle.conservative_plan.specs.PlannedSlots.{Planned, Slots, Tabulated, planned-slots}
 use Rattle.conservative_plan.specs.Replan.{Replans, TurnDone, all-instead, movedTo, follows, fits-after}
 
 -- a model whose waiting jobs are planned for later than now
@@ -42,7 +40,7 @@ pub record Replannable (m : Model) : Type 0 where
   pub planned : Planned m
   pub ahead : (j : Job) → In j (m .jobs) → isWaiting j ≡ true → m .clock < j .start
 
-compressible-jobs : (m : Model) → Replannable m → Compressible (m .settings) (m .clock) (m .jobs)
+pub compressible-jobs : (m : Model) → Replannable m → Compressible (m .settings) (m .clock) (m .jobs)
 compressible-jobs m r = record {
   each = λ j i.
       let s = r .planned .sound .each j i in
@@ -291,91 +289,3 @@ turns-end {S} {now} {js₀} {js} {i} {turns} v h =
     stays : (k x : ℕ) → x + k ≤ slots → loop S now unused k x js ≡ js
     stays zero x a = refl
     stays (suc k) x a = ap (loop S now unused k (x + 1)) (all x (omega arith)) ∙ stays k (x + 1) (omega arith)
-
--- ## On the model
-
--- an unused slot takes nothing and stays unused
-pass-same : (S : Settings) (now k : ℕ) (done : List Job) → pass S now done (replicate k unused) ≡ replicate k unused
-unfolding pass
-pass-same S now zero done = refl
-pass-same S now (suc k) done = ap (λ (l : List Job). unused ∷ l) (pass-same S now k (unused ∷ done))
-
-used-none : (S : Settings) (t k : ℕ) → used t (spans S (replicate k unused)) ≡ 0
-used-none S t zero = refl
-used-none S t (suc k) = omega (arith, takes-unused S t, used-none S t k)
-
-pub pass-length : (S : Settings) (now : ℕ) (done js : List Job) → length (pass S now done js) ≡ length js
-unfolding pass
-pass-length S now done [] = refl
-pass-length S now done (j ∷ js) = ap suc (pass-length S now (moved S now (done ++ js) j ∷ done) js)
-
-pass-append : (S : Settings) (now k : ℕ) (done js : List Job) → All (λ (j : Job). j .nodes ≤ S .nodes) js
-    → pass S now done (js ++ replicate k unused) ≡ pass S now done js ++ replicate k unused
-unfolding pass
-pass-append S now k done [] a = pass-same S now k done
-pass-append S now k done (j ∷ js) a =
-    let same : moved S now (done ++ (js ++ replicate k unused)) j ≡ moved S now (done ++ js) j =
-    moved-same S now (done ++ (js ++ replicate k unused)) (done ++ js) j (a .0)
-    (λ t l. omega (
-      arith,
-      used-append S t done (js ++ replicate k unused),
-      used-append S t js (replicate k unused),
-      used-append S t done js,
-      used-none S t k,
-    )) in
-    rw same (ap (λ (l : List Job). moved S now (done ++ js) j ∷ l) (pass-append S now k (moved S now (done ++ js) j ∷ done) js (a .1)))
-
--- so it is after any number of passes
-module _ (S : Settings) (now k : ℕ) where
-  abbrev padded : List Job → List Job
-  padded js = js ++ replicate k unused
-
-  unmoved-pads : (c : ℕ) → unmoved (replicate c unused) (replicate c unused) ≡ true
-  unmoved-pads zero = refl
-  unmoved-pads (suc c) = rw (unmoved-pads c)
-
-  unmoved-padded : (js ks : List Job) → length ks ≡ length js → unmoved (padded js) (padded ks) ≡ unmoved js ks
-  unmoved-padded [] [] l = unmoved-pads k
-  unmoved-padded [] (x ∷ ks) l = absurd (omega arith)
-  unmoved-padded (j ∷ js) [] l = absurd (omega arith)
-  unmoved-padded (j ∷ js) (x ∷ ks) l = ap (λ (b : Bool). eqb (x .start) (j .start) && b) (unmoved-padded js ks (omega arith))
-
-  passes-padded : (n : ℕ) (js : List Job) → Compressible S now js → passes S now n (padded js) ≡ padded (passes S now n js)
-  unfolding passes
-  passes-padded zero js c = refl
-  passes-padded (suc n) js c =
-      let ks = pass S now [] js in
-      let e : pass S now [] (padded js) ≡ padded ks = pass-append S now k [] js (all-of (λ (j : Job). j .nodes ≤ S .nodes) js (λ j i. c .each j i .nodes-to)) in
-      rw (e, unmoved-padded js ks (pass-length S now [] js))
-      (case (unmoved js ks) (λ u. rw u) (λ u. rw u (passes-padded n ks (passed-ready S now js c))))
-
-  starts-none : (c : ℕ) → sum startOf (replicate c unused) ≡ 0
-  starts-none zero = refl
-  starts-none (suc c) = omega (arith, starts-none c)
-
-  compressed-padded : (js : List Job) → Compressible S now js → compressed S now (padded js) ≡ padded (compressed S now js)
-  unfolding compressed
-  compressed-padded js c =
-      ap (λ (n : ℕ). passes S now (suc n) (padded js)) (omega (arith, sum-append startOf js (replicate k unused), starts-none k))
-      ∙ passes-padded (suc (sum startOf js)) js c
-
-passes-length : (S : Settings) (now n : ℕ) (js : List Job) → length (passes S now n js) ≡ length js
-unfolding passes
-passes-length S now zero js = refl
-passes-length S now (suc n) js =
-    let ks = pass S now [] js in
-    case (unmoved js ks) (λ u. rw u (pass-length S now [] js)) (λ u. rw u (passes-length S now n ks ∙ pass-length S now [] js))
-
-pub compressed-length : (S : Settings) (now : ℕ) (js : List Job) → length (compressed S now js) ≡ length js
-unfolding compressed
-compressed-length S now js = passes-length S now (suc (sum startOf js)) js
-
-pub compressed-stored : (m : Model) → Replannable m
-    → withJobs (store m) (compressed (m .settings) (m .clock) (store m .jobs)) ≡ store (withModelJobs m (compressed (m .settings) (m .clock) (m .jobs)))
-unfolding store pad
-compressed-stored m r =
-    let S = m .settings in
-    let now = m .clock in
-    ap (withJobs (store m))
-    (compressed-padded S now (slots - length (m .jobs)) (m .jobs) (compressible-jobs m r)
-    ∙ ap (λ (n : ℕ). compressed S now (m .jobs) ++ replicate (slots - n) unused) (sym (compressed-length S now (m .jobs))))

@@ -32,7 +32,7 @@ module _ {A : Type 0} (n : ℕ) (b : A) where
   in-same (suc k) (here e) = e
   in-same (suc k) (there i) = in-same k i
 
-  sum-same : (f : A → ℕ) → f b ≡ 0 → (k : ℕ) → sum f (replicate k b) ≡ 0
+  pub sum-same : (f : A → ℕ) → f b ≡ 0 → (k : ℕ) → sum f (replicate k b) ≡ 0
   sum-same f e zero = refl
   sum-same f e (suc k) = omega (arith, sum-same f e k)
 
