@@ -48,6 +48,7 @@ compressible-jobs m r = record {
   room = r .planned .room;
 }
 
+-- a slot whose job can have its turn
 pub record SlotJob (S : Settings) (now : ℕ) (j : Job) : Type 0 where
   pub movable : Movable S now j
   pub nodes-from : isWaiting j ≡ true → 1 ≤ j .nodes
@@ -115,13 +116,19 @@ calmTurns n before after = on (eqb after before) n
 abbrev pub slotAfter : ℕ → ℕ
 slotAfter i = cond (ltb (i + 1) slots) (i + 1) 0
 
+-- More turns than these are not to come: the sum of the planned starts falls where somebody moves, and more turns in a row have moved nobody
+-- where nobody does.
+abbrev pub turnsLeft : List Job → ℕ → ℕ
+turnsLeft js turns = 65 * sum startOf js + (64 - turns)
+
 -- js are the slots when it is the turn of i, and the lists are their profile; so many turns in a row have moved nobody
 pub record Turning (S : Settings) (now : ℕ) (js₀ js : List Job) (i turns n : ℕ) (ms fs : List ℕ) : Type 0 where
   pub low : i < slots
   pub few : turns ≤ slots
   pub before : Before S now js
+  -- the rest of this pass, and the passes after it, come to what is asked for
   pub rest : compressed S now (loop S now unused (slots - i) i js) ≡ compressed S now js₀
-  -- the turns before i, and those before them from the last slot on
+  -- these are the turns before i, and before them those from the last slot down
   pub calm : (x : ℕ) → x < i → i ≤ x + turns → turn S now unused x js ≡ js
   pub calm-last : (x : ℕ) → x < slots → i + slots ≤ x + turns → turn S now unused x js ≡ js
   pub profile : IsProfile (S .nodes) (spans S js) now n ms fs
@@ -256,8 +263,7 @@ module _ {S : Settings} {now : ℕ} {js₀ js : List Job} {i turns n : ℕ} {ms 
         (subst (λ (ks : List Job). IsProfile (S .nodes) (spans S ks) now (r .count) ms′ fs′) (sym set-is) (done .profile))
         (case (eqb (r .job .start) (j .start)) (λ q. inl (rw q, stays-if q)) (λ q. inr (rw q)))
 
-    -- the sum of the planned starts falls where the job moves, and more turns have moved nobody where it does not
-    pub taken-falls : 65 * sum startOf (set js i (r .job)) + (64 - calmTurns (turns + 1) (j .start) (r .job .start)) < 65 * sum startOf js + (64 - turns)
+    pub taken-falls : turnsLeft (set js i (r .job)) (calmTurns (turns + 1) (j .start) (r .job .start)) < turnsLeft js turns
     taken-falls =
         case (eqb (r .job .start) (j .start))
         (λ q. rw (q, stays-if q) (omega (arith, l)))
@@ -280,12 +286,12 @@ pub turns-end : {S : Settings} {now : ℕ} {js₀ js : List Job} {i turns n : �
     → slots ≤ turns → js ≡ compressed S now js₀
 unfolding loop
 turns-end {S} {now} {js₀} {js} {i} {turns} v h =
-    let still : pass S now [] js ≡ js = sym (as-pass (v .before)) ∙ stays slots 0 (omega arith) in
-    sym (compressed-still S now js still) ∙ ap (compressed S now) (sym (stays (slots - i) i (omega (arith, v .low)))) ∙ v .rest
+    let still : pass S now [] js ≡ js = sym (as-pass (v .before)) ∙ unchanged slots 0 (omega arith) in
+    sym (compressed-still S now js still) ∙ ap (compressed S now) (sym (unchanged (slots - i) i (omega (arith, v .low)))) ∙ v .rest
   where
     all : (x : ℕ) → x < slots → turn S now unused x js ≡ js
     all x l = ⊎-elim (λ a. v .calm-last x l (omega arith)) (λ a. v .calm x a (omega (arith, v .low))) (le-or i x)
 
-    stays : (k x : ℕ) → x + k ≤ slots → loop S now unused k x js ≡ js
-    stays zero x a = refl
-    stays (suc k) x a = ap (loop S now unused k (x + 1)) (all x (omega arith)) ∙ stays k (x + 1) (omega arith)
+    unchanged : (k x : ℕ) → x + k ≤ slots → loop S now unused k x js ≡ js
+    unchanged zero x a = refl
+    unchanged (suc k) x a = ap (loop S now unused k (x + 1)) (all x (omega arith)) ∙ unchanged k (x + 1) (omega arith)

@@ -3,17 +3,16 @@
 use mathlib.Core.Path.{_≡_, refl, sym, ap, subst, _∙_}
 use mathlib.Core.List.{List}
 use mathlib.Core.Logic.{⊎-elim}
-use Prim.Native.Nat.{ℕ, _+_, _*_, _-_}
+use Prim.Native.Nat.{ℕ, _-_}
 use native.Mathlib.Omega.{arith}
 use lib.ListN.{set}
-use Rattle.lists.specs.Lists.{sum}
 use Rattle.scheduler.specs.declared.Scheduler.{Scheduler}
 use Rattle.scheduler.specs.Model.{view}
 use Rattle.scheduler.specs.Table.{withJobs}
 use Rattle.conservative_table.specs.ProfileLists.{IsProfile}
-use Rattle.conservative_rules.specs.Conservative.{spans, startOf}
+use Rattle.conservative_rules.specs.Conservative.{spans}
 use Rattle.conservative_plan.specs.PlannedSlots.{Tabulated}
-use Rattle.conservative_plan.specs.Pass.{Turning, held-before, turns-begin, turn-asked, turn-taken, taken-falls, turn-passed, turns-end}
+use Rattle.conservative_plan.specs.Pass.{turnsLeft, Turning, held-before, turns-begin, turn-asked, turn-taken, taken-falls, turn-passed, turns-end}
 use borrow.Author.Needs.{needs}
 use Rattle.conservative_plan.proofs.replan_kept.Statement.{statement}
 use Rattle.conservative_plan.proofs.replan_kept.Tie as tie
@@ -25,9 +24,8 @@ record Inv (d e : Scheduler) (i turns n : ℕ) (ms fs : List ℕ) : Type 0 where
 abbrev Inv-loop : tie.InvT-loop
 Inv-loop minutes₀ free₀ count settings clock n₀ e₀ i₀ turns₀ minutes free n e i turns = Inv e₀ e i turns n minutes free
 
--- the sum of the planned starts falls, or more turns have moved nobody
 abbrev μ-loop : tie.MeasureT-loop
-μ-loop minutes₀ free₀ count settings clock n₀ e₀ i₀ turns₀ minutes free n e i turns = 65 * sum startOf (e .jobs) + (64 - turns)
+μ-loop minutes₀ free₀ count settings clock n₀ e₀ i₀ turns₀ minutes free n e i turns = turnsLeft (e .jobs) turns
 
 -- only the slots have changed
 same-settings : (d e : Scheduler) {n : ℕ} {ms fs : List ℕ} → e ≡ withJobs d (e .jobs)
