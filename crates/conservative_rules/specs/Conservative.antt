@@ -5,7 +5,6 @@ use mathlib.Core.List.{List, [], _∷_, _++_, map}
 use mathlib.Core.Option.{none}
 use Prim.Native.Nat.{ℕ, zero, suc, _+_}
 use lib.Dec.{ltb, eqb}
-use lib.ListN.{length}
 use Rattle.lists.specs.Lists.{sum}
 use Rattle.spans.specs.declared.Span.{Span}
 use Rattle.spans.specs.declared.Point.{Point}
