@@ -28,9 +28,8 @@ struct Job {
 }
 
 impl Job {
-    fn start(&mut self, cleanup: u32, out: &mut Printout) {
+    fn start(&mut self, cleanup: u32) {
         (self.due, self.state) = (self.until - cleanup, State::Running);
-        out.start(self.ticket, self.start);
     }
 }
 
@@ -72,6 +71,20 @@ impl Profile {
             }
             return start;
         }
+    }
+
+    /// The smallest minute at which a job could stand that now stands from `start` on, or `start` itself. From there on its own nodes
+    /// are enough, so that only what is free before counts.
+    fn earliest_before(&self, start: u32, nodes: u32, hold: u32) -> u32 {
+        let mut points = self.points.iter();
+        while let Some(anchor) = points.find(|p| p.free >= nodes) {
+            let end = start.min(anchor.minute + hold);
+            let stop = points.find(|p| p.free < nodes || p.minute >= end);
+            if !stop.is_some_and(|p| p.minute < end) {
+                return start.min(anchor.minute);
+            }
+        }
+        start
     }
 
     fn reserve(&mut self, from: u32, until: u32, nodes: u32) {
@@ -125,11 +138,14 @@ pub struct Conservative {
     /// In ticket order.
     jobs: Vec<Job>,
     profile: Profile,
+    /// The tickets that the passes after a departure have started.
+    started: Vec<u32>,
 }
 
 impl Conservative {
     pub fn open(nodes: u32, now: u32, ticket: u32, cleanup: u32, quotas: Quotas) -> Self {
-        Conservative { nodes, cleanup, now, next: ticket, quotas, jobs: Vec::with_capacity(MAX_LIVE), profile: Profile::new(now, nodes) }
+        let (jobs, profile, started) = (Vec::with_capacity(MAX_LIVE), Profile::new(now, nodes), Vec::with_capacity(MAX_LIVE));
+        Conservative { nodes, cleanup, now, next: ticket, quotas, jobs, profile, started }
     }
 
     pub fn now(&self) -> u32 {
@@ -158,7 +174,8 @@ impl Conservative {
         out.took(ticket, Some(start));
         let mut job = Job { ticket, tenant, nodes, least, start, until, due: start, state: State::Waiting };
         if start == self.now {
-            job.start(self.cleanup, out);
+            job.start(self.cleanup);
+            out.start(ticket, start);
         }
         self.jobs.push(job);
         Ok(())
@@ -197,19 +214,50 @@ impl Conservative {
         Ok(())
     }
 
-    /// Each waiting job once, in ticket order, the others staying where they are: it moves forward or stays.
+    /// Passes over the waiting jobs in ticket order, each put at its smallest minute, the others staying where they are, until a whole
+    /// pass moves nobody. That is so once the turn comes to the last one moved: all others have had a turn since.
     fn replan(&mut self, out: &mut Printout) {
-        for job in self.jobs.iter_mut().filter(|j| j.state == State::Waiting) {
-            let hold = job.until - job.start;
-            self.profile.release(job.start, job.until, job.nodes);
-            job.start = self.profile.earliest(job.nodes, hold);
-            job.until = job.start + hold;
-            job.due = job.start;
-            self.profile.reserve(job.start, job.until, job.nodes);
-            if job.start == self.now {
-                job.start(self.cleanup, out);
+        let mut last = None;
+        'passes: loop {
+            for at in 0..self.jobs.len() {
+                if last == Some(at) {
+                    break 'passes;
+                }
+                if self.moves_up(at) {
+                    last = Some(at);
+                }
+            }
+            if last.is_none() {
+                break;
             }
         }
+        // One that a later pass starts may have a lower ticket.
+        self.started.sort_unstable();
+        for ticket in self.started.drain(..) {
+            out.start(ticket, self.now);
+        }
+    }
+
+    /// The job at that place, if it waits, goes to its smallest minute. One that comes to now starts.
+    fn moves_up(&mut self, at: usize) -> bool {
+        let job = &mut self.jobs[at];
+        if job.state != State::Waiting {
+            return false;
+        }
+        let hold = job.until - job.start;
+        let start = self.profile.earliest_before(job.start, job.nodes, hold);
+        if start == job.start {
+            return false;
+        }
+        let until = start + hold;
+        self.profile.reserve(start, until.min(job.start), job.nodes);
+        self.profile.release(until.max(job.start), job.until, job.nodes);
+        (job.start, job.until, job.due) = (start, until, start);
+        if start == self.now {
+            job.start(self.cleanup);
+            self.started.push(job.ticket);
+        }
+        true
     }
 
     /// As many ticks. Minutes in which nothing ends, starts or is free again are passed over.
@@ -235,7 +283,8 @@ impl Conservative {
                 j.until > now
             });
             for job in self.jobs.iter_mut().filter(|j| j.due == now) {
-                job.start(self.cleanup, out);
+                job.start(self.cleanup);
+                out.start(job.ticket, now);
             }
         }
         self.now = target;
