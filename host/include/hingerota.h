@@ -23,9 +23,10 @@
  * the minute of its submission + 10,080 and the cleanup for each job that waited then and for itself; every head of a Loose Desk hears a
  * forecast and starts no later; the jobs that run, with those that ended fewer minutes ago than the cleanup has, never hold more nodes
  * than the machine has; and of each tenant these and those that wait are never more than its quota. A promise, a bound and a forecast bind
- * until the job is withdrawn: that was before any of these minutes. A job that is withdrawn never starts. A job never starts before a
- * minute that hingerota_earliest_start gave of it, whatever calls followed. The index agrees with the profile after every call, and the
- * minute found by it is that of the search through every point. Minutes depend on the jobs of both tenants, and are kept for both.
+ * until the job is withdrawn: that was before any of these minutes. A job that is withdrawn never starts. After any call no waiting job of
+ * a Promise Desk could begin earlier than planned with all others where they are. A job never starts before a minute that
+ * hingerota_earliest_start gave of it, whatever calls followed. The index agrees with the profile after every call, and the minute found
+ * by it is that of the search through every point. Minutes depend on the jobs of both tenants, and are kept for both.
  */
 #ifndef HINGEROTA_H
 #define HINGEROTA_H
@@ -176,7 +177,8 @@ hingerota_opened hingerota_open_loose(hingerota_opening opening);
 hingerota_answer hingerota_submit(hingerota_desk *d, hingerota_order order);
 
 /* A running job is over before its time: it stands in `ended`, and those that start now in `started`. Its nodes are free again after the
- * cleanup. Refused by 7 or 20, the first that applies. */
+ * cleanup. The waiting jobs of a Promise Desk move, one after another in the order of tickets, to the smallest minute that is left for
+ * them, and again from the first on until none moves; none gets a later one. Refused by 7 or 20, the first that applies. */
 hingerota_answer hingerota_complete(hingerota_desk *d, uint32_t ticket);
 
 /* A waiting job is withdrawn: it leaves without having started, and stands in neither list. For the others it is as if a job were over

@@ -1,8 +1,10 @@
 //! Random lists of calls, on the library and on a model written from document 01's words: after every call the answers, every field of
-//! the desk and of its 64 records, the points, the blocks and an earliest start are compared, and the guarantees are watched by the calls
-//! and their answers. The lists are the same in every run; LISTS says how many, and LIST plays one alone.
+//! the desk and of its 64 records, the points, the blocks and an earliest start are compared, the guarantees are watched by the calls and
+//! their answers, and the rule on gaps by the records and the points. The lists are the same in every run; LISTS says how many, and LIST
+//! plays one alone.
 
 mod book;
+mod gaps;
 mod model;
 mod random;
 
@@ -152,6 +154,11 @@ struct Count {
     most_points: usize,
     most_blocks: usize,
     most_reads: u32,
+    /// Early ends and withdrawals after which a pass moved somebody that was not the first.
+    passes_repeated: u64,
+    most_passes: u32,
+    /// Waiting jobs of which it was watched that they could not begin earlier.
+    no_gaps: u64,
     /// By number, of openings and of calls.
     refusals: [u64; 21],
     tried: Tried,
@@ -180,6 +187,9 @@ impl Count {
         self.most_points = self.most_points.max(other.most_points);
         self.most_blocks = self.most_blocks.max(other.most_blocks);
         self.most_reads = self.most_reads.max(other.most_reads);
+        self.passes_repeated += other.passes_repeated;
+        self.most_passes = self.most_passes.max(other.most_passes);
+        self.no_gaps += other.no_gaps;
         for (sum, n) in self.refusals.iter_mut().zip(other.refusals) {
             *sum += n;
         }
@@ -276,10 +286,29 @@ impl Played {
         }
         self.same_desk()?;
         self.book.enter(&call, &library)?;
+        self.no_gaps()?;
         self.count.calls += 1;
         self.count.refusals[model.refusal as usize] += 1;
         self.count.most_live = self.count.most_live.max(self.model.jobs.len());
         Ok(())
+    }
+
+    /// From an opening on, after any call.
+    fn no_gaps(&mut self) -> Result<(), String> {
+        if self.desk.kind() == Kind::Promise {
+            let mut points = [Point { minute: 0, free: 0 }; MOST_POINTS];
+            let shown = self.desk.profile(&mut points);
+            self.count.no_gaps += gaps::none(&points[..shown.count], self.desk.records(), self.desk.cleanup())?;
+        }
+        Ok(())
+    }
+
+    /// After an early end or a withdrawal.
+    fn passed(&mut self, answer: &model::Answer) {
+        if answer.refusal == 0 && self.model.kind == Kind::Promise {
+            self.count.passes_repeated += u64::from(self.model.passes > 2);
+            self.count.most_passes = self.count.most_passes.max(self.model.passes);
+        }
     }
 
     fn submit(&mut self, order: Order) -> Result<(), String> {
@@ -303,6 +332,7 @@ impl Played {
             self.count.completions_just_before_least += u64::from(just_before);
         }
         let (library, model) = (self.desk.complete(ticket), self.model.complete(ticket));
+        self.passed(&model);
         self.same_answer(Call::Complete { ticket }, library, model)
     }
 
@@ -311,6 +341,7 @@ impl Played {
         self.count.withdrawals += 1;
         let before = *self.desk.records();
         let (library, model) = (self.desk.cancel(ticket), self.model.cancel(ticket));
+        self.passed(&model);
         if library.is_taken() {
             self.withdrawn.push(ticket);
         }
@@ -548,6 +579,7 @@ fn main() {
         None => (0, number("LISTS").unwrap_or(LISTS)),
     };
     book::finds_broken_claims();
+    gaps::finds_gaps();
     let (began, total, shown) = (Instant::now(), end - first, std::io::stderr().is_terminal());
     let (next, all) = (AtomicU64::new(first), Mutex::new(Count::default()));
     let work = || loop {
@@ -614,5 +646,9 @@ fn main() {
         "{earliest_kept} jobs started no earlier than given, {starts_at_the_earliest} of these in the minute given, which was to come"
     );
     println!("{indexes} times the index agreed with the profile, by {blocks} blocks");
+    println!(
+        "{} waiting jobs could not begin earlier; after {} early ends and withdrawals a second pass moved jobs, and there were up to {} passes",
+        all.no_gaps, all.passes_repeated, all.most_passes
+    );
     println!("library and model agree ({:.1} s)", began.elapsed().as_secs_f64());
 }

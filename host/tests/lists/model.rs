@@ -70,6 +70,8 @@ pub struct Model {
     /// In the order of tickets.
     pub jobs: Vec<Job>,
     pub search: Search,
+    /// How many passes the last early end or withdrawal took, with the one that moved nothing.
+    pub passes: u32,
 }
 
 /// "to 120 by fives, to 480 by tens, to 10,080 by thirties"
@@ -132,8 +134,8 @@ impl Model {
     /// at opening"; 13: "the places do not sum to 64 or one is 0, last at opening".
     pub fn open(kind: Kind, nodes: u32, minute: u32, ticket: u32, cleanup: u32, places: [u32; 2]) -> (u32, Model) {
         let empty = |nodes, clock, next, cleanup, places| {
-            let (jobs, search) = (Vec::new(), Search::Changes);
-            Model { kind, nodes, cleanup, places, clock, next, jobs, search }
+            let (jobs, search, passes) = (Vec::new(), Search::Changes, 0);
+            Model { kind, nodes, cleanup, places, clock, next, jobs, search, passes }
         };
         let refused = |number| (number, empty(1, 0, 1, 0, [63, 1]));
         if nodes < 1 || nodes > MOST_NODES {
@@ -394,9 +396,26 @@ impl Model {
         reads
     }
 
+    /// Document 02, No. 10: "Repeat the pass until a whole pass moves nothing. [...] This replaces the single pass of document 01, for
+    /// withdrawals too." The tickets started, "on the Promise Desk, ascending".
+    fn put_in_again(&mut self) -> Vec<u32> {
+        let mut started = Vec::new();
+        self.passes = 0;
+        loop {
+            let before = self.jobs.clone();
+            self.passes += 1;
+            started.extend(self.pass());
+            if self.jobs == before {
+                break;
+            }
+        }
+        started.sort();
+        started
+    }
+
     /// "each waiting stack, once, in ticket order, is taken out of the plan and put in again at its smallest minute, the others staying at
     /// their places. One that comes to now starts." The tickets started.
-    fn put_in_again(&mut self) -> Vec<u32> {
+    fn pass(&mut self) -> Vec<u32> {
         let mut started = Vec::new();
         for place in 0..self.jobs.len() {
             if !self.jobs[place].waits() {
