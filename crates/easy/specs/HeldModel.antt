@@ -1,13 +1,10 @@
 -- A scheduler that holds what is ready or valid, or is stored from it.
 -- Assumes nothing.
-use mathlib.Core.Path.{_≡_, ap, _∙_}
-use lib.ListN.{length}
+use mathlib.Core.Path.{_≡_}
 use Rattle.scheduler.specs.declared.Scheduler.{Scheduler}
-use Rattle.scheduler.specs.Limits.{slots}
-use Rattle.scheduler.specs.Model.{Model, store, view, view-store, store-length}
+use Rattle.scheduler.specs.Model.{Model, store, view, view-store}
 use Rattle.jobs.specs.Soundness.{Sound, all-live}
 use Rattle.jobs.specs.Premise.{Holds, holds-as, store-holds}
-use Rattle.jobs.specs.Slots.{slots-are}
 use Rattle.easy_laws.specs.Validity.{Ready, Valid}
 
 pub sound-of : (d : Scheduler) → Holds Ready d → Holds Sound d
@@ -21,6 +18,3 @@ stored-ready m r = store-holds Ready m (all-live m (r .sound)) r
 
 pub stored-view : (m : Model) → Ready m → view (store m) ≡ m
 stored-view m r = view-store m (all-live m (r .sound))
-
-pub slots-all : (d : Scheduler) → Holds Sound d → length (d .jobs) ≡ slots
-slots-all d h = ap length (slots-are d h) ∙ store-length (view d) (h .holds .few)

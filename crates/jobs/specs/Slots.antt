@@ -18,7 +18,7 @@ use Rattle.scheduler.specs.declared.Settings.{Settings}
 use Rattle.scheduler.specs.Limits.{horizon, slots}
 use Rattle.scheduler.specs.Jobs.{unused, isLive, isCleaning}
 use Rattle.scheduler.specs.Settings.{longest}
-use Rattle.scheduler.specs.Model.{Model, store, view}
+use Rattle.scheduler.specs.Model.{Model, store, view, store-length}
 use Rattle.jobs.specs.Soundness.{Sound, start-until}
 use Rattle.jobs.specs.Premise.{Holds}
 
@@ -47,6 +47,9 @@ Orderly S j = (j .estimate ≤ longest S) × (isCleaning j ≡ true → j .start
 module _ (d : Scheduler) (h : Holds Sound d) where
   pub slots-are : d .jobs ≡ store (view d) .jobs
   slots-are = ap (λ (e : Scheduler). e .jobs) (h .stored)
+
+  pub slots-all : length (d .jobs) ≡ slots
+  slots-all = ap length slots-are ∙ store-length (view d) (h .holds .few)
 
   -- what holds of an unused slot and of every live job holds of every slot
   all-slots : (P : Job → Type 0) → P unused → ((j : Job) → In j (view d .jobs) → P j) → (i : ℕ) → i < length (d .jobs) → P (getD (d .jobs) i unused)

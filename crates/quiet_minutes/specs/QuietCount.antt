@@ -20,7 +20,10 @@ use Rattle.scheduler.specs.Jobs.{unused, isLive}
 use Rattle.scheduler.specs.Settings.{cleanup, runTime, endOf, until}
 use Rattle.scheduler.specs.Times.{end-is, until-cleaning}
 use Rattle.scheduler.specs.Model.{view}
-use Rattle.jobs.specs.Slots.{Orderly}
+use Rattle.jobs.specs.Soundness.{Sound}
+use Rattle.jobs.specs.Premise.{Holds}
+use Rattle.jobs.specs.Slots.{Low, Orderly, slots-all, slots-low, slots-orderly}
+use Rattle.guarantees.specs.Premise.{Premise, premise-sound}
 use Rattle.quiet_minutes.specs.DueMinutes.{QuietTo, Quiet, Until}
 
 -- r of the next minutes, at most `most`, are quiet and lie by the last minute
@@ -57,6 +60,17 @@ later-quiet S clock last j o l = by (j .state) refl
     by Waiting e = waiting-quiet S clock last j e (λ h. omega arith)
     by Running e = running-quiet S clock last j e (λ h. omega arith)
     by Cleanup e = cleaning-quiet S clock last j e (λ h. omega (arith, o .1 (ap cleaning? e)))
+
+-- every slot can be asked
+module _ (d : Scheduler) (p : Premise d) where
+  sound : Holds Sound d
+  sound = record { stored = p .stored; holds = premise-sound d p }
+
+  pub slots-whole : length (d .jobs) ≡ slots
+  slots-whole = slots-all d sound
+
+  pub slot-ready : (i : ℕ) → i < length (d .jobs) → Low (getD (d .jobs) i unused) × Orderly (d .settings) (getD (d .jobs) i unused)
+  slot-ready i l = (slots-low d sound i l, slots-orderly d sound i l)
 
 -- the slots before i have been asked
 pub record Asked (d : Scheduler) (top last i : ℕ) : Type 0 where

@@ -1,13 +1,24 @@
-// Minutes in which nothing is due: ticks of them only move the clock, so that they can be passed over.
-ghost use Prim.Native.Nat.{_≤_};
+// Minutes in which nothing is due: ticks of them only move the clock, so that they can be passed over. A program that passes over them asks
+// the slots of its scheduler one after another, in place.
+ghost use Prim.Native.Nat.{_+_, _≤_};
+ghost use Rattle.scheduler.specs.Limits.{horizon};
 ghost use Rattle.jobs.specs.Slots.{Low, Orderly};
-ghost use Rattle.guarantees.specs.Premise.{Premise};
 ghost use Rattle.quiet_minutes.specs.DueMinutes.{Until, QuietTo};
-ghost use Rattle.quiet_minutes.specs.QuietCount.{Ahead};
 use scheduler::Job;
 use scheduler::Scheduler;
 use scheduler::Settings;
 use scheduler::State;
+
+// The last of the next `most` minutes, and no later than the last minute of all.
+pub fn latest(clock: u32, most: u32) -> u32
+    requires { ⌜ clock ≤ horizon ⌝ }
+    ensures { λ r. ⌜ (clock ≤ r) × (r ≤ clock + most) × (r ≤ horizon) ⌝ }
+{
+    if most < Scheduler::HORIZON - clock {
+        return clock + most;
+    }
+    Scheduler::HORIZON
+}
 
 // The last minute before `minute`, at most `last`; a `minute` that is past does not count.
 fn before(minute: u32, clock: u32, last: u32) -> u32
@@ -25,7 +36,7 @@ fn before(minute: u32, clock: u32, last: u32) -> u32
 
 // The last minute, at most `last`, up to which `job` neither starts nor ends nor is released. (Most jobs of a long queue start later than that,
 // and the wall time is worked out only where the estimate is over by then.)
-fn quiet_of(job: Job, settings: Settings, clock: u32, last: u32) -> u32
+pub fn quiet_of(job: Job, settings: Settings, clock: u32, last: u32) -> u32
     requires { ⌜ Low job × Orderly settings job × (clock ≤ last) ⌝ }
     ensures { λ r. ⌜ (clock ≤ r) × (r ≤ last) × QuietTo settings clock r job ⌝ }
 {
@@ -48,24 +59,4 @@ fn quiet_of(job: Job, settings: Settings, clock: u32, last: u32) -> u32
         }
         State::Cleanup => before(job.end + settings.cleanup(), clock, last),
     }
-}
-
-// How many of the next minutes are quiet, at most `most`: no job ends, is released or starts in them, and none lies
-// past the last minute.
-pub fn quiet_minutes(d: Scheduler, most: u32) -> u32
-    requires { ⌜ Premise d ⌝ }
-    ensures { λ r. ⌜ Ahead d most r ⌝ }
-{
-    let settings = d.settings;
-    let mut last = Scheduler::HORIZON;
-    if most < Scheduler::HORIZON - d.clock {
-        last = d.clock + most;
-    }
-    let mut i: usize = 0;
-    while i < Scheduler::LIVE {
-        let j = d.jobs[i];
-        last = quiet_of(j, settings, d.clock, last);
-        i += 1;
-    }
-    last - d.clock
 }

@@ -183,7 +183,14 @@ fn later(p: Play, script: &[u8], page: &mut [u8]) -> Played
         // quiet minutes are passed over at once: their ticks print nothing
         let mut minutes: u32 = 0;
         if 0 < steps {
-            minutes = quiet_minutes::quiet_minutes(d, steps);
+            let mut until = quiet_minutes::latest(d.clock, steps);
+            let mut i: usize = 0;
+            while i < Scheduler::LIVE {
+                let j = d.jobs[i];
+                until = quiet_minutes::quiet_of(j, d.settings, d.clock, until);
+                i += 1;
+            }
+            minutes = until - d.clock;
         }
         d.clock += minutes;
         if 0 < minutes {
