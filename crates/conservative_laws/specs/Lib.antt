@@ -5,5 +5,6 @@ pub mod Compression
 pub mod Outcomes
 pub mod Obligations
 pub mod Sentences
+pub mod LongestEstimate
 pub mod TickedJob
 pub mod Tightness

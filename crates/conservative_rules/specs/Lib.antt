@@ -1,2 +1,4 @@
 pub mod Conservative
+pub mod LongestEstimate
 pub mod Computed
+pub mod LongestComputed

@@ -193,7 +193,8 @@ refusalOf n =
     (cond (eqb n 14) refusal.UnknownTenant
     (cond (eqb n 15) refusal.QuotaFull
     (cond (eqb n 19) refusal.LeastAboveMost
-    (cond (eqb n 20) refusal.BeforeLeast refusal.None))))))))))))))
+    (cond (eqb n 20) refusal.BeforeLeast
+    (cond (eqb n 21) refusal.WantedMinutePast refusal.None)))))))))))))))
 
 abbrev pub readTickets : Tickets → scheduler-tickets.Tickets
 readTickets t = record { count = t .count; list = t .list }
@@ -227,6 +228,7 @@ refusal-back refusal.UnknownTenant = refl
 refusal-back refusal.QuotaFull = refl
 refusal-back refusal.LeastAboveMost = refl
 refusal-back refusal.BeforeLeast = refl
+refusal-back refusal.WantedMinutePast = refl
 
 pub read-answer : (a : scheduler-answer.Answer) → readAnswer (mirrorAnswer a) ≡ a
 read-answer a = λ i. record {

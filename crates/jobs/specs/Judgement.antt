@@ -26,6 +26,7 @@ accepts-none refusal.UnknownTenant e = true-false false e refl
 accepts-none refusal.QuotaFull e = true-false false e refl
 accepts-none refusal.LeastAboveMost e = true-false false e refl
 accepts-none refusal.BeforeLeast e = true-false false e refl
+accepts-none refusal.WantedMinutePast e = true-false false e refl
 
 -- what holds of an outcome where no test refuses it, and of the refusal where one does, holds of the call
 pub judged-by : (P : Result → Type 0) (m : Model) (r : Refusal) (o : Result) → (accepts r ≡ true → P o) → (accepts r ≡ false → P (refuse m r))

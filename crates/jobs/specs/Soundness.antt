@@ -8,7 +8,7 @@ use mathlib.Core.List.{List, [], _∷_, _++_, map, map-map}
 use mathlib.Core.Logic.{_⊎_, inl, inr}
 use lib.Dec.{eqb, leb, ltb}
 use lib.ListN.{length, length-append, length-map}
-use borrow.Author.Tests.{leb-false, ltb-false, eqb-true, eqb-false, not-true, not-false}
+use borrow.Author.Tests.{leb-false, ltb-false, lt-leb, le-ltb, eqb-true, eqb-false, not-true, not-false}
 use Rattle.lists.specs.Tests.{case, true-false, both, neither, on}
 use Rattle.lists.specs.Lists.{All, In, here, there, all-of, in-append, in-cons, in-nil, keep-in, length-keep-le, sum-append, sum-keep, sum-map, sum-cong}
 use Rattle.lists.specs.Lists.{in-map, map-in, in-keep, keep-all, map-same, map-cong}
@@ -259,6 +259,21 @@ submit-fit m o more h =
         ticket-left = ltb-false lastTicket (m .next) (d .0);
       },
       d .1,
+    )
+
+-- and what fits passes them all
+pub fit-passes : (m : Model) (o : Submission) (more : List (Bool × Refusal)) → Fit m o → verdict (submitTests m o more) ≡ verdict more
+unfolding verdict
+fit-passes m o more f =
+    rw (
+      f .tenant-is,
+      le-ltb (o .nodes) 1 (f .nodes-from),
+      le-ltb (m .settings .nodes) (o .nodes) (f .nodes-to),
+      le-ltb (o .estimate) 1 (f .estimate-from),
+      le-ltb (longest (m .settings)) (o .estimate) (f .estimate-to),
+      le-ltb (o .estimate) (o .least) (f .least-to),
+      lt-leb (quota (m .settings) (o .tenant)) (liveOf (o .tenant) (m .jobs)) (f .share),
+      le-ltb lastTicket (m .next) (f .ticket-left),
     )
 
 pub sound-join : (m : Model) (o : Submission) (j : Job) → Sound m → Fit m o → SoundJob (m .settings) (m .clock) j → j .ticket ≡ m .next

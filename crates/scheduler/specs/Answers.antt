@@ -33,6 +33,7 @@ code refusal.UnknownTenant = 14
 code refusal.QuotaFull = 15
 code refusal.LeastAboveMost = 19
 code refusal.BeforeLeast = 20
+code refusal.WantedMinutePast = 21
 
 -- "Where several apply, order": the first test that holds decides
 unfoldable pub verdict : List (Bool × Refusal) → Refusal

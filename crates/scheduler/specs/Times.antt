@@ -1,11 +1,12 @@
 -- What callers use of the times that jobs run and hold their nodes. Nobody else looks into `cleanup`, `runTime`, `holdTime`, `unit`,
 -- `endOf` and `until`.
 -- Assumes nothing.
-use Prim.Native.Nat.{ℕ, _+_, _*_, _≤_}
+use Prim.Native.Nat.{ℕ, _+_, _-_, _*_, _≤_, _<_}
 use native.Mathlib.Omega.{arith}
 use native.Mathlib.Nat.{mul-le-mul}
 use mathlib.Core.Path.{_≡_, refl}
 use mathlib.Core.Bool.{false, true}
+use Rattle.walltime.specs.Laws as wall
 use Rattle.walltime.specs.Laws.{wallTime-le, le-wallTime, wallTime-pos, wallTime-mono}
 use Rattle.scheduler.specs.declared.Settings.{Settings}
 use Rattle.scheduler.specs.declared.Submission.{Submission}
@@ -94,3 +95,22 @@ module _ (S : Settings) where
   pub until-fresh : (t : ℕ) (o : Submission) (s : State) (start promise : ℕ) → cleaning? s ≡ false
       → until S (fresh t o s start promise) ≡ start + holdTime S (o .estimate)
   until-fresh t o s start promise n = until-is (fresh t o s start promise) n
+
+-- e is the largest estimate with which a job holds its nodes for no longer than so many minutes, 0 if there is none
+pub record LongestWithin (S : Settings) (minutes e : ℕ) : Type 0 where
+  pub to : e ≤ longest S
+  pub within : 1 ≤ e → holdTime S e ≤ minutes
+  pub most : (d : ℕ) → 1 ≤ d → d ≤ longest S → holdTime S d ≤ minutes → d ≤ e
+
+module _ (S : Settings) (minutes : ℕ) where
+  -- the wall time is within what the cleanup leaves
+  pub longest-after : {e : ℕ} → cleanup S ≤ minutes → wall.LongestWithin (minutes - cleanup S) e → LongestWithin S minutes e
+  unfolding holdTime runTime
+  longest-after h w = record {
+    to = w .to;
+    within = λ p. omega (arith, w .within);
+    most = λ d p l b. w .most d l (omega arith);
+  }
+
+  pub longest-none : minutes < cleanup S → LongestWithin S minutes 0
+  longest-none h = record { to = omega arith; within = λ p. absurd (omega arith); most = λ d p l b. absurd (omega (arith, hold-is S d)) }

@@ -5,6 +5,7 @@ ghost use Rattle.scheduler.specs.Limits.{maxNodes, longestEstimate, limi
 ghost use Rattle.scheduler.specs.Jobs.{unused, fresh, jobAt, cleaning, isRunning, isCleaning, isHolding, tooEarly, releasedAt, picks};
 ghost use Rattle.scheduler.specs.Tenants.{known, number, sameTenant, tenantOf, letterOf};
 ghost use Rattle.scheduler.specs.Settings.{refusedSettings, quota, cleanup, runTime, holdTime, unit};
+ghost use Rattle.scheduler.specs.Times.{LongestWithin};
 ghost use Rattle.scheduler.specs.Table.{tickets, oneIf};
 ghost use Rattle.scheduler.specs.Model.{store, empty};
 ghost use Rattle.scheduler.specs.Answers.{code, accepts, refusedAnswer, refusedOutcome, noTickets};
@@ -92,6 +93,7 @@ pub enum Refusal {
     QuotaFull,
     LeastAboveMost,
     BeforeLeast,
+    WantedMinutePast,
 }
 
 // Tickets in order; the places past the count are 0.
@@ -122,6 +124,19 @@ pub struct Outcome {
 pub struct Earliest {
     pub refusal: Refusal,
     pub minute: u32,
+}
+
+// How long may a job of so many nodes be, submitted now by this tenant, to start by this minute (document 02, No. 9)?
+pub struct Inquiry {
+    pub nodes: u32,
+    pub tenant: Tenant,
+    pub minute: u32,
+}
+
+// The largest estimate with which it would; 0 where there is none, and where the question is refused.
+pub struct Longest {
+    pub refusal: Refusal,
+    pub estimate: u32,
 }
 
 pub struct Opening {
@@ -204,6 +219,7 @@ impl Refusal {
             Refusal::QuotaFull => 15,
             Refusal::LeastAboveMost => 19,
             Refusal::BeforeLeast => 20,
+            Refusal::WantedMinutePast => 21,
         }
     }
 
@@ -554,6 +570,17 @@ impl Settings {
         ensures { λ r. ⌜ r ≡ unit self ⌝ }
     {
         self.hold_time(Scheduler::LONGEST_ESTIMATE)
+    }
+
+    // The largest estimate with which a job holds its nodes for no longer than so many minutes; 0 if there is none.
+    pub fn longest_within(self, minutes: u32) -> u32
+        ensures { λ r. ⌜ LongestWithin self minutes r ⌝ }
+    {
+        let cleanup = self.cleanup();
+        if minutes < cleanup {
+            return 0;
+        }
+        walltime::longest_within(minutes - cleanup)
     }
 
     // What a refused opening hands back.

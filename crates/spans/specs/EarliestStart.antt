@@ -64,3 +64,25 @@ pub earliest-same : (N : ℕ) (xs ys : List Span) (now n h : ℕ) → n ≤ N �
     → earliest N xs now n h ≡ earliest N ys now n h
 earliest-same N xs ys now n h a e =
     earliest-unique (free N xs) (free N ys) now n h _ _ (λ t b. omega (arith, e t b)) (earliest-is N xs now n h a) (earliest-is N ys now n h a)
+
+-- Document 02, No. 9: "Longer estimates never get earlier starts": nodes that are free for a longer hold are free for a shorter one
+pub earliest-mono : (N : ℕ) (xs : List Span) (now n h k : ℕ) → n ≤ N → h ≤ k → earliest N xs now n h ≤ earliest N xs now n k
+earliest-mono N xs now n h k a l =
+    let p = earliest-is N xs now n k a in
+    earliest-is N xs now n h a .smallest (earliest N xs now n k) (p .later) (λ t b c. p .fit t b (omega arith))
+
+-- there is room for h minutes by minute w: they begin by then, and end by the minute L
+abbrev pub Room : (f : ℕ → ℕ) → (now n L w h : ℕ) → Type 0
+Room f now n L w h = (r : ℕ) × (now ≤ r) × (r ≤ w) × (r + h ≤ L) × Fits f n h r
+
+-- which is so just where the earliest start is by then and they end in time
+pub room-start : (N : ℕ) (xs : List Span) (now n L w h : ℕ) → n ≤ N → Room (free N xs) now n L w h
+    → (earliest N xs now n h ≤ w) × (earliest N xs now n h + h ≤ L)
+room-start N xs now n L w h a (r, b, c, d, e) = let p = earliest-is N xs now n h a .smallest r b e in (omega arith, omega arith)
+
+pub start-room : (N : ℕ) (xs : List Span) (now n L w h : ℕ) → n ≤ N → earliest N xs now n h ≤ w → earliest N xs now n h + h ≤ L → Room (free N xs) now n L w h
+start-room N xs now n L w h a b c = let p = earliest-is N xs now n h a in (earliest N xs now n h, p .later, b, c, p .fit)
+
+-- and for fewer minutes
+pub room-less : {f : ℕ → ℕ} {now n L w : ℕ} (h k : ℕ) → h ≤ k → Room f now n L w k → Room f now n L w h
+room-less h k l (r, b, c, d, e) = (r, b, c, omega arith, λ t x y. e t x (omega arith))

@@ -2,7 +2,7 @@
 -- Assumes nothing.
 use mathlib.Core.Path.{_≡_, refl}
 use mathlib.Core.Bool.{Bool, true, false, cond}
-use Prim.Native.Nat.{ℕ, _+_, _≤_}
+use Prim.Native.Nat.{ℕ, _+_, _-_, _*_, _/_, _≤_}
 use native.Mathlib.Omega.{arith}
 use lib.Dec.{leb}
 use borrow.Author.Tests.{leb-true, leb-false}
@@ -40,3 +40,46 @@ wallTime-mono d e l =
     (λ a b. by-band (λ v. v ≤ roundUp e 10) d (λ c. omega arith) (λ c k. omega arith) (λ c k. omega arith) (λ c. omega arith))
     (λ a b. by-band (λ v. v ≤ roundUp e 30) d (λ c. omega arith) (λ c k. omega arith) (λ c k. omega arith) (λ c. omega arith))
     (λ a. wallTime-le d)
+
+-- e is the largest estimate whose wall time is within so many minutes; an estimate of 0 has none
+pub record LongestWithin (minutes e : ℕ) : Type 0 where
+  pub to : e ≤ longest
+  pub within : wallTime e ≤ minutes
+  pub most : (d : ℕ) → d ≤ longest → wallTime d ≤ minutes → d ≤ e
+
+-- rounded down by the first band that reaches the minutes
+module _ (x : ℕ) where
+  abbrev fives : ℕ
+  fives = x / 5 * 5
+
+  abbrev tens : ℕ
+  tens = x / 10 * 10
+
+  abbrev thirties : ℕ
+  thirties = x / 30 * 30
+
+  pub within-fives : x ≤ 120 → LongestWithin x fives
+  within-fives h = record {
+    to = omega arith;
+    within = by-band (λ w. w ≤ x) fives (λ a. let e : (fives + 5 - 1) / 5 ≤ x / 5 = omega arith in omega (arith, e))
+        (λ a b. let e : (fives + 10 - 1) / 10 ≤ 12 = omega arith in omega (arith, e)) (λ a b. omega arith) (λ a. omega arith);
+    most = λ d l. by-band (λ w. w ≤ x → d ≤ fives) d (λ a b. omega arith) (λ a b c. omega arith) (λ a b c. omega arith) (λ a b. omega arith);
+  }
+
+  pub within-tens : 120 ≤ x → x ≤ 480 → LongestWithin x tens
+  within-tens g h = record {
+    to = omega arith;
+    within = by-band (λ w. w ≤ x) tens (λ a. omega arith) (λ a b. let e : (tens + 10 - 1) / 10 ≤ x / 10 = omega arith in omega (arith, e))
+        (λ a b. let e : (tens + 30 - 1) / 30 ≤ 16 = omega arith in omega (arith, e)) (λ a. omega arith);
+    most = λ d l. by-band (λ w. w ≤ x → d ≤ tens) d (λ a b. omega arith) (λ a b c. omega arith) (λ a b c. omega arith) (λ a b. omega arith);
+  }
+
+  pub within-thirties : 480 ≤ x → x ≤ longest → LongestWithin x thirties
+  within-thirties g h = record {
+    to = omega arith;
+    within = by-band (λ w. w ≤ x) thirties (λ a. omega arith) (λ a b. omega arith) (λ a b. let e : (thirties + 30 - 1) / 30 ≤ x / 30 = omega arith in omega (arith, e)) (λ a. omega arith);
+    most = λ d l. by-band (λ w. w ≤ x → d ≤ thirties) d (λ a b. omega arith) (λ a b c. omega arith) (λ a b c. omega arith) (λ a b. omega arith);
+  }
+
+  pub within-all : longest ≤ x → LongestWithin x longest
+  within-all h = record { to = omega arith; within = h; most = λ d l b. l }

@@ -1,6 +1,7 @@
 // Wall times (document 01: "held time", "the wall chart"): the minutes that an estimate reserves.
 ghost use mathlib.Core.Path.{_≡_};
 ghost use Rattle.walltime.specs.WallTime.{wallTime};
+ghost use Rattle.walltime.specs.Laws.{LongestWithin};
 
 // Estimates up to `end` are rounded up to a multiple of `width`.
 pub struct Band {
@@ -29,6 +30,22 @@ pub fn wall_time(estimate: u32) -> u32
         let b = BANDS[i];
         if estimate <= b.end {
             return (estimate + b.width - 1) / b.width * b.width;
+        }
+        i += 1;
+    }
+    let last = BANDS[2];
+    last.end
+}
+
+// The largest estimate whose wall time is within so many minutes, 0 if none is: rounded down, by the band that reaches them.
+pub fn longest_within(minutes: u32) -> u32
+    ensures { λ r. ⌜ LongestWithin minutes r ⌝ }
+{
+    let mut i: usize = 0;
+    while i < 3 {
+        let b = BANDS[i];
+        if minutes <= b.end {
+            return minutes / b.width * b.width;
         }
         i += 1;
     }
