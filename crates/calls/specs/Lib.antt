@@ -1,3 +1,4 @@
 pub mod ListCall
 pub mod ProfileCall
 pub mod IndexCall
+pub mod LongestCall

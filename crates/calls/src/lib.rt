@@ -13,11 +13,14 @@ ghost use Rattle.guarantees.specs.Rules.{call};
 ghost use Rattle.guarantees.specs.Premise.{Premise};
 ghost use Rattle.calls.specs.ProfileCall.{showing, showIn, profileOutcome, pointAt};
 ghost use Rattle.calls.specs.IndexCall.{indexing, indexIn, indexOutcome, blockAt};
+ghost use Rattle.calls.specs.LongestCall.{longestOf};
 use conservative_index::Blocks;
 use conservative_profile::Profile;
 use scheduler::Departure;
 use scheduler::Earliest;
+use scheduler::Inquiry;
 use scheduler::Kind;
+use scheduler::Longest;
 use scheduler::Outcome;
 use scheduler::Refusal;
 use scheduler::Request;
@@ -215,6 +218,23 @@ pub fn earliest_start(d: Scheduler, ticket: u32) -> Earliest
     ensures { λ r. ⌜ r ≡ earliestStart (view d) ticket ⌝ }
 {
     earliest::start(d, ticket)
+}
+
+// The largest estimate with which a submission now would be promised the wanted minute or an earlier one (document 02, No. 9), of conservative
+// backfilling. EASY promises none, and has nothing to answer.
+pub fn longest_estimate(d: Scheduler, q: Inquiry) -> Longest
+    requires { ⌜ Premise d ⌝ }
+    ensures { λ r. ⌜ r ≡ longestOf (view d) q ⌝ }
+{
+    let settings = d.settings;
+    let kind = settings.kind;
+    match kind {
+        Kind::Conservative => longest::estimate(d, q),
+        Kind::Easy => Longest {
+            refusal: Refusal::None,
+            estimate: 0,
+        },
+    }
 }
 
 // Why a wait of `minutes` is refused, or that it is not: it is then that number of ticks.

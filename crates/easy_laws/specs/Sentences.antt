@@ -291,6 +291,7 @@ Because m o refusal.UnknownTenant = known (o .tenant) ≡ false
 Because m o refusal.QuotaFull = quota (m .settings) (o .tenant) ≤ liveOf (o .tenant) (m .jobs)
 Because m o refusal.LeastAboveMost = o .estimate < o .least
 Because m o refusal.BeforeLeast = ⊥
+Because m o refusal.WantedMinutePast = ⊥
 
 pub submit-because : (m : Model) (o : Submission) → Because m o (submitRefusal m o)
 unfolding submitRefusal verdict
