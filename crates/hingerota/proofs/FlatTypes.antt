@@ -17,6 +17,10 @@ use Rattle.hingerota.proofs.Answer.Laws as N′
 use Rattle.hingerota.proofs.Outcome as S
 use Rattle.hingerota.proofs.Earliest as E
 use Rattle.hingerota.proofs.Earliest.Laws as E′
+use Rattle.hingerota.proofs.Inquiry as J
+use Rattle.hingerota.proofs.Inquiry.Laws as J′
+use Rattle.hingerota.proofs.Longest as L
+use Rattle.hingerota.proofs.Longest.Laws as L′
 use Rattle.hingerota.proofs.Shown as W
 use Rattle.hingerota.proofs.Shown.Laws as W′
 use Rattle.hingerota.proofs.ProfileOutcome as P
@@ -43,6 +47,18 @@ earliest = struct-flat E.the-type E′.the-laws
 
 pub earliest-laws : FlatLaws earliest
 earliest-laws = struct-laws E.the-type E′.the-laws E′.the-plain
+
+abbrev pub inquiry : Flat
+inquiry = struct-flat J.the-type J′.the-laws
+
+pub inquiry-laws : FlatLaws inquiry
+inquiry-laws = struct-laws J.the-type J′.the-laws J′.the-plain
+
+abbrev pub longest : Flat
+longest = struct-flat L.the-type L′.the-laws
+
+pub longest-laws : FlatLaws longest
+longest-laws = struct-laws L.the-type L′.the-laws L′.the-plain
 
 abbrev pub shown : Flat
 shown = struct-flat W.the-type W′.the-laws

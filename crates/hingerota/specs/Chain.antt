@@ -23,11 +23,14 @@ use Rattle.guarantees.specs.Statement.{bookOf}
 use Rattle.conservative_rules.specs.Conservative.{points}
 use Rattle.calls.specs.ListCall.{listRefusal}
 use Rattle.calls.specs.IndexCall.{blocksOf}
+use Rattle.calls.specs.LongestCall.{longestOf}
 use Rattle.hingerota.specs.declared.Desk.{Desk}
 use Rattle.hingerota.specs.declared.Answer.{Answer}
 use Rattle.hingerota.specs.declared.Point.{Point}
 use Rattle.hingerota.specs.declared.Block.{Block}
 use Rattle.hingerota.specs.declared.Earliest.{Earliest}
+use Rattle.hingerota.specs.declared.Inquiry.{Inquiry}
+use Rattle.hingerota.specs.declared.Longest.{Longest}
 use Rattle.hingerota.specs.declared.Shown.{Shown}
 use Rattle.hingerota.specs.Mirror.{mirror, mirrorTickets, mirrorAnswer, read, read-mirror, readAnswer, read-answer}
 use Rattle.hingerota.specs.DeskPremise.{opens}
@@ -35,6 +38,7 @@ use Rattle.hingerota.specs.CallContract.{HostLeaves}
 use Rattle.hingerota.specs.ProfileContract.{HostShowsPoints}
 use Rattle.hingerota.specs.IndexContract.{HostShowsBlocks}
 use Rattle.hingerota.specs.EarliestContract.{earliestOn}
+use Rattle.hingerota.specs.LongestContract.{askedBy, longestOn}
 use Rattle.hingerota.specs.Waits.{waitRefusalOn, waitNumber}
 
 -- the reply that an answer in numbers says
@@ -57,6 +61,9 @@ pub data HostMade (d : Desk) : Call → Answer → Desk → Type 0 where
   -- and the question for an earliest start
   earliestAsked : {e : Earliest} (ticket : ℕ) → e ≡ earliestOn d ticket
       → HostMade d (unchanged (earliestStart (view (read d)) ticket .refusal)) (refusedBy (e .refusal)) d
+  -- and that for a longest estimate
+  longestAsked : {l : Longest} (q : Inquiry) → l ≡ longestOn d q
+      → HostMade d (unchanged (longestOf (view (read d)) (askedBy q) .refusal)) (refusedBy (l .refusal)) d
   -- and a wait which is refused; one that is not is as many ticks
   waitRefused : {n : ℕ} (minutes : ℕ) → n ≡ waitNumber d minutes → eqb n 0 ≡ false → HostMade d (unchanged (waitRefusalOn d minutes)) (refusedBy n) d
 
@@ -78,6 +85,8 @@ module _ (m : Model) (v : Valid m) where
       rw (unchanged-refuses m (listRefusal blocksOf (view (read (mirror (store m)))) (length lent))) (refl, ap (λ (x : Shown). refusedBy (x .refusal)) (w .answers))
   made-is (earliestAsked ticket q) =
       rw (unchanged-refuses m (earliestStart (view (read (mirror (store m)))) ticket .refusal)) (refl, ap (λ (x : Earliest). refusedBy (x .refusal)) q)
+  made-is (longestAsked q e) =
+      rw (unchanged-refuses m (longestOf (view (read (mirror (store m)))) (askedBy q) .refusal)) (refl, ap (λ (x : Longest). refusedBy (x .refusal)) e)
   made-is (waitRefused {n} minutes e q) = rw (unchanged-refuses m (waitRefusalOn (mirror (store m)) minutes)) (refl, ap refusedBy e)
 
 -- From the desk that an opening hands back, a refused one too: desk and answers are those of the list of calls, and the book of the calls

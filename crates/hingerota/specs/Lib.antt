@@ -6,4 +6,5 @@ pub mod ProfileContract
 pub mod IndexContract
 pub mod Waits
 pub mod EarliestContract
+pub mod LongestContract
 pub mod Chain

@@ -14,6 +14,7 @@ ghost use Rattle.hingerota.specs.ListContract.{mirrorShown};
 ghost use Rattle.hingerota.specs.ProfileContract.{mirrorPoint, pointsIn, pointAt, HostShowsPoints};
 ghost use Rattle.hingerota.specs.IndexContract.{mirrorBlock, blocksIn, blockAt, HostShowsBlocks};
 ghost use Rattle.hingerota.specs.EarliestContract.{earliestOn};
+ghost use Rattle.hingerota.specs.LongestContract.{longestOn};
 ghost use Rattle.hingerota.specs.Waits.{waitNumber};
 use scheduler::Job;
 use scheduler::Kind;
@@ -128,6 +129,21 @@ pub struct Shown {
 pub struct Earliest {
     pub refusal: u32,
     pub minute: u32,
+}
+
+// How long may a job of so many nodes be, submitted now by the tenant of this letter, to start by this minute?
+#[repr(C)]
+pub struct Inquiry {
+    pub nodes: u32,
+    pub tenant: u32,
+    pub minute: u32,
+}
+
+// The largest estimate with which it would, 0 where there is none; the refusal is document 02's number, and the estimate is then 0.
+#[repr(C)]
+pub struct Longest {
+    pub refusal: u32,
+    pub estimate: u32,
 }
 
 pub struct ProfileOutcome {
@@ -441,6 +457,23 @@ fn earliest_start(d: Desk, ticket: u32) -> Earliest
     }
 }
 
+fn longest_estimate(d: Desk, inquiry: Inquiry) -> Longest
+    requires { ⌜ Handed d ⌝ }
+    ensures { λ r. ⌜ r ≡ longestOn d inquiry ⌝ }
+{
+    let q = scheduler::Inquiry {
+        nodes: inquiry.nodes,
+        tenant: Tenant::of_letter(inquiry.tenant),
+        minute: inquiry.minute,
+    };
+    let l = calls::longest_estimate(read(d), q);
+    let refusal = l.refusal;
+    Longest {
+        refusal: refusal.code(),
+        estimate: l.estimate,
+    }
+}
+
 fn wait_refusal(d: Desk, minutes: u32) -> u32
     requires { ⌜ Handed d ⌝ }
     ensures { λ r. ⌜ r ≡ waitNumber d minutes ⌝ }
@@ -568,6 +601,16 @@ pub extern "C" fn hingerota_earliest_start(d: &Desk, ticket: u32) -> Earliest
     ensures { λ r. ⌜ r ≡ earliestOn (now (d .entry)) ticket ⌝ }
 {
     earliest_start(*d, ticket)
+}
+
+// The largest estimate with which a submission now would be promised the wanted minute or an earlier one; of the Promise Desk alone. The desk
+// is only read.
+#[no_mangle]
+pub extern "C" fn hingerota_longest_estimate(d: &Desk, inquiry: Inquiry) -> Longest
+    requires { ⌜ Handed (now d) ⌝ }
+    ensures { λ r. ⌜ r ≡ longestOn (now (d .entry)) inquiry ⌝ }
+{
+    longest_estimate(*d, inquiry)
 }
 
 // Why a wait of `minutes` is refused, by number, or 0: it is then that number of ticks. The desk is only read.

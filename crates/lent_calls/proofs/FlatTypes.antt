@@ -21,6 +21,10 @@ use Rattle.scheduler.proofs.Submission.Laws as X′
 use Rattle.scheduler.proofs.Outcome as S
 use Rattle.scheduler.proofs.Earliest as E
 use Rattle.scheduler.proofs.Earliest.Laws as E′
+use Rattle.scheduler.proofs.Inquiry as J
+use Rattle.scheduler.proofs.Inquiry.Laws as J′
+use Rattle.scheduler.proofs.Longest as L
+use Rattle.scheduler.proofs.Longest.Laws as L′
 
 abbrev pub answer : Flat
 answer = struct-flat N.the-type N′.the-laws
@@ -43,6 +47,18 @@ earliest = struct-flat E.the-type E′.the-laws
 
 pub earliest-laws : FlatLaws earliest
 earliest-laws = struct-laws E.the-type E′.the-laws E′.the-plain
+
+abbrev pub inquiry : Flat
+inquiry = struct-flat J.the-type J′.the-laws
+
+pub inquiry-laws : FlatLaws inquiry
+inquiry-laws = struct-laws J.the-type J′.the-laws J′.the-plain
+
+abbrev pub longest : Flat
+longest = struct-flat L.the-type L′.the-laws
+
+pub longest-laws : FlatLaws longest
+longest-laws = struct-laws L.the-type L′.the-laws L′.the-plain
 
 abbrev pub shown : Flat
 shown = struct-flat W.the-type W′.the-laws

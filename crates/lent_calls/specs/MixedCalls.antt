@@ -32,6 +32,9 @@ use Rattle.calls.specs.IndexCall.{indexOutcome}
 use Rattle.spans.specs.declared.Block.{Block}
 use Rattle.scheduler.specs.declared.Earliest.{Earliest}
 use Rattle.easy_rules.specs.EarliestStart.{earliestStart}
+use Rattle.scheduler.specs.declared.Inquiry.{Inquiry}
+use Rattle.scheduler.specs.declared.Longest.{Longest}
+use Rattle.calls.specs.LongestCall.{longestOf}
 use Rattle.lent_calls.specs.CallContract.{Leaves}
 use Rattle.lent_calls.specs.ProfileContract.{ShowsPoints}
 use Rattle.lent_calls.specs.IndexContract.{ShowsBlocks}
@@ -50,6 +53,8 @@ pub data Made (d : Scheduler) : Call → Answer → Scheduler → Type 0 where
   indexOnLent : {lent after : List Block} {s : Shown} → ShowsBlocks d lent s after → Made d (unchanged (s .refusal)) (refusedAnswer (s .refusal)) d
   -- and the question for an earliest start, by value or on what is lent
   earliestAsked : {e : Earliest} (ticket : ℕ) → e ≡ earliestStart (view d) ticket → Made d (unchanged (e .refusal)) (refusedAnswer (e .refusal)) d
+  -- and that for a longest estimate
+  longestAsked : {l : Longest} (q : Inquiry) → l ≡ longestOf (view d) q → Made d (unchanged (l .refusal)) (refusedAnswer (l .refusal)) d
   -- and a wait which is refused; one that is not is as many ticks
   waitRefused : {r : Refusal} (minutes : ℕ) → r ≡ waitRefusal (view d) minutes → accepts r ≡ false → Made d (unchanged r) (refusedAnswer r) d
 
@@ -71,6 +76,7 @@ module _ (m : Model) (v : Valid m) where
   made-is (indexByValue room {p} e) = unchanged-is (p .answer .refusal)
   made-is (indexOnLent {lent} {after} {s} w) = unchanged-is (s .refusal)
   made-is (earliestAsked {e} ticket q) = unchanged-is (e .refusal)
+  made-is (longestAsked {l} q e) = unchanged-is (l .refusal)
   made-is (waitRefused {r} minutes e n) = unchanged-is r
 
 -- From the scheduler that an opening hands back, a refused one too: scheduler and answers are those of the list of calls, and the book of

@@ -5,12 +5,15 @@ ghost use Rattle.scheduler.specs.Model.{view};
 ghost use Rattle.history.specs.Calls as calls;
 ghost use Rattle.easy_rules.specs.EarliestStart.{earliestStart};
 ghost use Rattle.guarantees.specs.Premise.{Premise};
+ghost use Rattle.calls.specs.LongestCall.{longestOf};
 ghost use Rattle.lent_calls.specs.CallContract.{Leaves};
 ghost use Rattle.lent_calls.specs.ProfileContract.{ShowsPoints};
 ghost use Rattle.lent_calls.specs.IndexContract.{ShowsBlocks};
 use calls::Shown;
 use scheduler::Answer;
 use scheduler::Earliest;
+use scheduler::Inquiry;
+use scheduler::Longest;
 use scheduler::Scheduler;
 use scheduler::Submission;
 use spans::Block;
@@ -58,6 +61,14 @@ pub fn earliest_start(d: &Scheduler, ticket: u32) -> Earliest
     ensures { λ r. ⌜ r ≡ earliestStart (view (now (d .entry))) ticket ⌝ }
 {
     calls::earliest_start(*d, ticket)
+}
+
+// The largest estimate with which a submission now would be promised the wanted minute or an earlier one. The scheduler is only read.
+pub fn longest_estimate(d: &Scheduler, q: Inquiry) -> Longest
+    requires { ⌜ Premise (now d) ⌝ }
+    ensures { λ r. ⌜ r ≡ longestOf (view (now (d .entry))) q ⌝ }
+{
+    calls::longest_estimate(*d, q)
 }
 
 // The free nodes from now on, into the list lent. A profile leaves the scheduler as it is, so that `&` serves.
