@@ -9,6 +9,7 @@ ghost use Rattle.lent_calls.specs.IndexContract.{ShowsBlocks};
 use calls::Shown;
 use libc::STDOUT_FILENO;
 use scheduler::Answer;
+use scheduler::Inquiry;
 use scheduler::Kind;
 use scheduler::Opened;
 use scheduler::Opening;
@@ -261,6 +262,22 @@ fn earliest(d: Scheduler, ticket: u32)
     io::write_all(STDOUT_FILENO, b"\n");
 }
 
+// The refusal, and the largest estimate that would start by the minute.
+fn longest(d: Scheduler, nodes: u32, tenant: Tenant, minute: u32)
+    requires { ⌜ Premise d ⌝ }
+{
+    let q = Inquiry {
+        nodes: nodes,
+        tenant: tenant,
+        minute: minute,
+    };
+    let l = calls::longest_estimate(d, q);
+    let why = l.refusal;
+    print(why.code());
+    print(l.estimate);
+    io::write_all(STDOUT_FILENO, b"\n");
+}
+
 fn print_kind(kind: Kind) {
     match kind {
         Kind::Conservative => io::write_all(STDOUT_FILENO, b"conservative "),
@@ -318,6 +335,12 @@ fn main() {
     index(d3);
     earliest(d3, 3);
     earliest(d3, 1);
+    // up to the second job; from the third on any; none; refused by 14 and by 1
+    longest(d3, 4, Tenant::A, 29);
+    longest(d3, 4, Tenant::B, 30);
+    longest(d3, 5, Tenant::A, 29);
+    longest(d3, 11, Tenant::Nobody, 0);
+    longest(d3, 11, Tenant::A, 0);
     let d4 = submit(d3, 1, 5, Tenant::A);
     show(d4);
     let d5 = submit(d4, 11, 5, Tenant::A);
@@ -325,6 +348,10 @@ fn main() {
     let d7 = complete(d6, 1);
     let d8 = tick(d7);
     show(d8);
+    // none starts now, any does, and the minute has passed
+    longest(d8, 2, Tenant::A, 1);
+    longest(d8, 1, Tenant::A, 1);
+    longest(d8, 11, Tenant::Nobody, 0);
     // one that runs cannot be withdrawn, one that waits can
     let d9 = cancel(d8, 2);
     let d10 = cancel(d9, 3);
@@ -340,6 +367,7 @@ fn main() {
     index(e5);
     earliest(e5, 3);
     earliest(e5, 6);
+    longest(e5, 11, Tenant::Nobody, 0);
     let e6 = complete(e5, 1);
     let e7 = complete(e6, 1);
     let e8 = tick(e7);
@@ -351,6 +379,7 @@ fn main() {
     let f = open(Kind::Conservative, 10, 1000000, 0, 63);
     let f1 = tick(f);
     show(f1);
+    longest(f1, 1, Tenant::A, 1000000);
     // a refused opening hands back an empty scheduler of its kind, which takes jobs
     let g = open(Kind::Conservative, 0, 5, 7, 63);
     let g1 = submit(g, 1, 5, Tenant::A);
@@ -364,6 +393,9 @@ fn main() {
     let k2 = complete(k1, 1);
     show(k2);
     let k3 = complete(k2, 1);
+    // of 27 minutes 7 are for the cleanup
+    let k4 = submit(k1, 10, 10, Tenant::A);
+    longest(k4, 4, Tenant::A, 0);
     // B has one place, and its job in cleanup takes it; a tenant that is neither has none
     let l = open(Kind::Easy, 10, 0, 7, 63);
     let l1 = submit(l, 1, 5, Tenant::B);
