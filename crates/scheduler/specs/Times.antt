@@ -104,9 +104,9 @@ pub record LongestWithin (S : Settings) (minutes e : ℕ) : Type 0 where
 
 module _ (S : Settings) (minutes : ℕ) where
   -- the wall time is within what the cleanup leaves
-  pub longest-after : {e : ℕ} → cleanup S ≤ minutes → wall.LongestWithin (minutes - cleanup S) e → LongestWithin S minutes e
+  pub longest-after : {x e : ℕ} → x + cleanup S ≡ minutes → wall.LongestWithin x e → LongestWithin S minutes e
   unfolding holdTime runTime
-  longest-after h w = record {
+  longest-after q w = record {
     to = w .to;
     within = λ p. omega (arith, w .within);
     most = λ d p l b. w .most d l (omega arith);

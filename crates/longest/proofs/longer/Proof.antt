@@ -8,7 +8,9 @@ use Rattle.longest.proofs.longer.Statement.{statement}
 use Rattle.longest.proofs.longer.Tie as tie
 
 returns : tie.Need-returns
-returns c = longer-late _ _ _ _ (c .if1 .taken)
+returns c =
+    let a = c .before .args in
+    longer-late (a .longest) (a .since) (a .end) (a .by) (omega (arith, c .if1 .taken))
 
 returns-2 : tie.Need-returns-2
 returns-2 c =

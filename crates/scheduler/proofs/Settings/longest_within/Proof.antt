@@ -15,7 +15,7 @@ returns-2 : tie.Need-returns-2
 returns-2 c =
     let k = c .before .before in
     let a = k .before .args in
-    longest-after (a .self) (a .minutes) (omega (arith, k .cleanup .ensures, c .before .if1 .left)) (rw (k .cleanup .ensures) at (c .longest-within .ensures))
+    longest-after (a .self) (a .minutes) (omega (arith, k .cleanup .ensures, c .before .if1 .left)) (c .longest-within .ensures)
 
 pub longest-within-spec : {M : Type 1} → statement M
 longest-within-spec = tie.close (tie.spec (λ c κs. search needs) returns (λ c κs. search needs) returns-2)
