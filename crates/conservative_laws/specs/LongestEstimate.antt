@@ -4,14 +4,14 @@
 use Prim.Native.Nat.{ℕ, _+_, _≤_, _<_}
 use native.Mathlib.Omega.{arith}
 use mathlib.Core.Path.{_≡_, refl, sym, ap, _∙_}
-use mathlib.Core.Bool.{Bool, true, false}
+use mathlib.Core.Bool.{true, false}
 use mathlib.Core.List.{[], _∷_}
 use mathlib.Core.Logic.{_⊎_, inl, inr}
 use lib.Dec.{leb, ltb}
 use borrow.Author.Tests.{leb-true, le-leb, ltb-false, lt-ltb, le-ltb}
 use Rattle.lists.specs.Tests.{case, true-false, both, le-or}
-use Rattle.lists.specs.Greatest.{greatest, greatest-to, greatest-holds, greatest-max, greatest-is}
-use Rattle.spans.specs.Spans.{free, earliest}
+use Rattle.lists.specs.Greatest.{greatest-holds, greatest-max, greatest-is}
+use Rattle.spans.specs.Spans.{free}
 use Rattle.spans.specs.EarliestStart.{earliest-mono, Room, room-start, start-room}
 use Rattle.scheduler.specs.declared.Inquiry.{Inquiry}
 use Rattle.scheduler.specs.declared.Refusal.{Refusal}
@@ -80,15 +80,15 @@ module _ (m : Model) (q : Inquiry) where
 
   -- ## "Longer estimates never get earlier starts"
 
-  start-mono : (d e : ℕ) → q .nodes ≤ S .nodes → d ≤ e → start d ≤ start e
+  pub longer-later : (d e : ℕ) → q .nodes ≤ S .nodes → d ≤ e → start d ≤ start e
   unfolding planned
-  start-mono d e a l = earliest-mono (S .nodes) (spans S (m .jobs)) (m .clock) (q .nodes) (hold d) (hold e) a (hold-mono S d e l)
+  longer-later d e a l = earliest-mono (S .nodes) (spans S (m .jobs)) (m .clock) (q .nodes) (hold d) (hold e) a (hold-mono S d e l)
 
   -- where an estimate would be taken, every shorter one would be, and be promised no later minute
   pub shorter-taken : (d e : ℕ) → 1 ≤ d → d ≤ e → taken e → taken d × (replyTo m q d .promise ≤ replyTo m q e .promise)
   shorter-taken d e a l t =
       let f = taken-fits e t in
-      let s = start-mono d e (f .0 .nodes-to) l in
+      let s = longer-later d e (f .0 .nodes-to) l in
       let u = fits-taken d (fit-other e d (f .0) a (omega (arith, f .0 .estimate-to))) (omega (arith, f .1, hold-mono S d e l)) in
       (u, omega (arith, promise-is d u, promise-is e t))
 

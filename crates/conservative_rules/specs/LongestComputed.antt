@@ -1,7 +1,6 @@
 -- Document 02, No. 9, computed from the definitions: which estimates are taken and promised in time, and what the question is refused for.
 -- Assumes nothing.
 use mathlib.Core.Path.{_≡_, refl}
-use mathlib.Core.Bool.{true, false}
 use mathlib.Core.List.{[], _∷_}
 use Prim.Native.Nat.{ℕ}
 use lib.ListN.{replicate}
@@ -11,7 +10,7 @@ use Rattle.scheduler.specs.declared.Inquiry.{Inquiry}
 use Rattle.scheduler.specs.declared.Refusal.{Refusal}
 use Rattle.scheduler.specs.declared.Refusal.the-variants as refusal
 use Rattle.scheduler.specs.declared.Tenant.{Tenant}
-use Rattle.scheduler.specs.declared.Tenant.the-variants.{Nobody, A, B}
+use Rattle.scheduler.specs.declared.Tenant.the-variants.{Nobody, A}
 use Rattle.scheduler.specs.Model.{Model}
 use Rattle.scheduler.specs.Answers.{verdict}
 use Rattle.scheduler.specs.Settings as times

@@ -34,7 +34,7 @@ use Rattle.scheduler.specs.Refusals.{departRefusal, tickRefusal}
 use Rattle.jobs.specs.Judgement.{judged-by, judged-accepted, judged-refusal, judged-refused}
 use Rattle.jobs.specs.Order.{Asc, asc-one, elem-job}
 use Rattle.jobs.specs.Departing.{cancel-judged, departs-alone}
-use Rattle.jobs.specs.Soundness.{Sound, Fit, running-holds, cleaning-holds, running-clean}
+use Rattle.jobs.specs.Soundness.{Sound, Fit, fit-passes, running-holds, cleaning-holds, running-clean}
 use Rattle.history.specs.Calls.{Call, submit, depart, complete, cancel, tick, unchanged}
 use Rattle.history.specs.News.{Newcomer, News, newsOf}
 use Rattle.history.specs.Tickets.{nextAfter}
@@ -338,17 +338,8 @@ submit-because m o =
 pub submit-accepts : (m : Model) (o : Submission) → Fit m o → latestEnd m (o .estimate) ≤ horizon (m .settings) → submitRefusal m o ≡ refusal.None
 unfolding submitRefusal verdict
 submit-accepts m o f l =
-    rw (
-      f .tenant-is,
-      le-ltb (o .nodes) 1 (f .nodes-from),
-      le-ltb (m .settings .nodes) (o .nodes) (f .nodes-to),
-      le-ltb (o .estimate) 1 (f .estimate-from),
-      le-ltb (longest (m .settings)) (o .estimate) (f .estimate-to),
-      le-ltb (o .estimate) (o .least) (f .least-to),
-      lt-leb (quota (m .settings) (o .tenant)) (liveOf (o .tenant) (m .jobs)) (f .share),
-      le-ltb lastTicket (m .next) (f .ticket-left),
-      le-ltb (horizon (m .settings)) (latestEnd m (o .estimate)) l,
-    )
+    fit-passes m o ((ltb (horizon (m .settings)) (latestEnd m (o .estimate)), refusal.PastHorizon) ∷ []) f
+    ∙ rw (le-ltb (horizon (m .settings)) (latestEnd m (o .estimate)) l)
 
 -- 7: "the ended ticket is not running: waiting, over or never given"; 20, document 02, No. 7: "an end before the least, after 7"
 pub complete-because : (m : Model) (t : ℕ) → departRefusal m Complete t ≡ cond

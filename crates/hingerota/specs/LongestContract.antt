@@ -1,7 +1,6 @@
 -- The longest estimate that would start by a wanted minute, on a host's desk (document 02, No. 9).
 -- Assumes nothing.
 use mathlib.Core.Path.{_≡_, ap, _∙_}
-use Prim.Native.Nat.{ℕ}
 use Rattle.scheduler.specs.declared.Inquiry as scheduler-inquiry
 use Rattle.scheduler.specs.declared.Longest as scheduler
 use Rattle.scheduler.specs.declared.Scheduler.{Scheduler}

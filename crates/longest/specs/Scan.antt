@@ -2,13 +2,13 @@
 -- Assumes nothing.
 use Prim.Native.Nat.{ℕ, zero, suc, _+_, _-_, max, _≤_, _<_}
 use native.Mathlib.Omega.{arith}
-use mathlib.Core.Path.{_≡_, refl, ap, sym, _∙_}
-use mathlib.Core.Bool.{true, false, cond}
+use mathlib.Core.Path.{_≡_}
+use mathlib.Core.Bool.{cond}
 use mathlib.Core.List.{List}
 use mathlib.Core.Logic.{_⊎_, inl, inr, ⊎-elim}
 use lib.Dec.{ltb}
 use lib.ListN.{getD}
-use borrow.Author.Tests.{ltb-true, ltb-false, lt-ltb, le-ltb}
+use borrow.Author.Tests.{ltb-false, lt-ltb, le-ltb}
 use Rattle.lists.specs.Tests.{case, le-or}
 use Rattle.scheduler.specs.Limits.{horizon}
 use Rattle.spans.specs.declared.Span.{Span}
@@ -163,9 +163,6 @@ module _ {ms fs : List ℕ} {n nodes by : ℕ} (s : Scans ms fs n nodes by) wher
       most = λ r h a b c g. most r h a b c g (le-or since r);
     }
       where
-        end : ℕ
-        end = edge ms n (i + 1)
-
         clear : (t : ℕ) → since ≤ t → t < edge ms n (i + 1) → nodes ≤ f t
         clear t a b = go (le-or (edge ms n i) t)
           where

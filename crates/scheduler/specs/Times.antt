@@ -1,7 +1,7 @@
 -- What callers use of the times that jobs run and hold their nodes. Nobody else looks into `cleanup`, `runTime`, `holdTime`, `unit`,
 -- `endOf` and `until`.
 -- Assumes nothing.
-use Prim.Native.Nat.{ℕ, _+_, _-_, _*_, _≤_, _<_}
+use Prim.Native.Nat.{ℕ, _+_, _*_, _≤_, _<_}
 use native.Mathlib.Omega.{arith}
 use native.Mathlib.Nat.{mul-le-mul}
 use mathlib.Core.Path.{_≡_, refl}

@@ -1,6 +1,5 @@
 -- `longest::longer` meets its contract.
 -- Assumes nothing.
-use mathlib.Core.Path.{_∙_}
 use native.Mathlib.Omega.{arith}
 use borrow.Author.Needs.{needs}
 use Rattle.longest.specs.Scan.{longer-late, longer-max}
