@@ -25,7 +25,8 @@
  * than the machine has; and of each tenant these and those that wait are never more than its quota. A promise, a bound and a forecast bind
  * until the job is withdrawn: that was before any of these minutes. A job that is withdrawn never starts. After any call no waiting job of
  * a Promise Desk could begin earlier than planned with all others where they are. A job never starts before a minute that
- * hingerota_earliest_start gave of it, whatever calls followed. The index agrees with the profile after every call, and the minute found
+ * hingerota_earliest_start gave of it, whatever calls followed. On a Promise Desk a longer estimate never gets an earlier minute, so that a
+ * job is promised the minute asked for, or an earlier one, exactly up to the estimate that hingerota_longest_estimate gives. The index agrees with the profile after every call, and the minute found
  * by it is that of the search through every point. Minutes depend on the jobs of both tenants, and are kept for both.
  */
 #ifndef HINGEROTA_H
@@ -68,7 +69,8 @@ enum {
     HINGEROTA_UNKNOWN_TENANT = 14,       /* a job of neither tenant */
     HINGEROTA_QUOTA_FULL = 15,           /* the tenant has as many live jobs as its quota */
     HINGEROTA_LEAST_ABOVE_MOST = 19,     /* a job whose least is above its estimate */
-    HINGEROTA_BEFORE_LEAST = 20          /* a running job that would be over before its start + its least */
+    HINGEROTA_BEFORE_LEAST = 20,         /* a running job that would be over before its start + its least */
+    HINGEROTA_WANTED_MINUTE_PAST = 21    /* an inquiry whose minute is before the clock */
 };
 
 enum { HINGEROTA_PROMISE = 0, HINGEROTA_LOOSE = 1 };                                                /* of a desk */
@@ -92,6 +94,13 @@ typedef struct {
     uint32_t tenant;
     uint32_t least;    /* the least that it runs, at most the estimate */
 } hingerota_order; /* 16 bytes */
+
+/* What is asked of a job before it is submitted: how long may it be to start by this minute? */
+typedef struct {
+    uint32_t nodes;
+    uint32_t tenant;
+    uint32_t minute; /* the one wanted */
+} hingerota_inquiry; /* 12 bytes */
 
 /* A live job, or an unused place, which is all 0. `start` is that of a job that has started, and the planned one of a job that waits on a
  * Promise Desk. On a Loose Desk `promise`, and the start of a job that waits, are 0. A job in cleanup has ended and is still live; `end` is
@@ -165,6 +174,11 @@ typedef struct {
     uint32_t minute; /* 0 where it is refused */
 } hingerota_earliest; /* 8 bytes */
 
+typedef struct {
+    uint32_t refusal;
+    uint32_t estimate; /* 1 to 10,080; 0 where there is none and where it is refused, and on a Loose Desk */
+} hingerota_longest; /* 8 bytes */
+
 /* An empty desk, as the opening says. Refused by 1, 3, 12 or 13, the first that applies; the desk is then of its kind, with 1 node,
  * minute 0, ticket 1, cleanup 0 and quotas of 63 and 1.
  * Promise: conservative backfilling. Loose: EASY backfilling. */
@@ -209,6 +223,13 @@ uint32_t hingerota_wait_refusal(const hingerota_desk *d, uint32_t minutes);
  * were over at its start + its least, or now where that is past, its nodes free again after the cleanup, and no other job waited. The job
  * never starts before that minute, whatever calls follow. Refused by 11. The desk, of either kind, is only read. */
 hingerota_earliest hingerota_earliest_start(const hingerota_desk *d, uint32_t ticket);
+
+/* How long may a job be and still start by then? The largest estimate with which a submission of these nodes, of this tenant, would now be
+ * promised the minute wanted or an earlier one on a Promise Desk; 0 where there is none: every estimate that would be taken gets a later
+ * minute. So a job of that estimate or a shorter one is promised no later minute, and a longer one is promised a later minute or refused.
+ * Refused by 21, and then by what refuses a submission of estimate 1: 14, 1, 15, 5 or 6, the first of these that applies. A Loose Desk
+ * promises nothing: nothing is refused, and the estimate is 0. The desk is only read. */
+hingerota_longest hingerota_longest_estimate(const hingerota_desk *d, hingerota_inquiry inquiry);
 
 #ifdef __cplusplus
 }

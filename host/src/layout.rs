@@ -1,6 +1,6 @@
 //! The structs of `raw.rs` have the sizes and offsets of those in `include/hingerota.h`, as a C compiler lays them out.
 
-use crate::raw::{Answer, Block, Desk, Earliest, Opened, Opening, Order, Point, Record, Shown, Tickets};
+use crate::raw::{Answer, Block, Desk, Earliest, Inquiry, Longest, Opened, Opening, Order, Point, Record, Shown, Tickets};
 use std::mem::{offset_of, size_of};
 use std::path::Path;
 use std::process::Command;
@@ -27,6 +27,7 @@ fn layouts_are_those_of_the_header() {
     let (lines, numbers) = layouts! {
         "hingerota_opening" Opening { nodes minute ticket cleanup quota_a quota_b }
         "hingerota_order" Order { nodes estimate tenant least }
+        "hingerota_inquiry" Inquiry { nodes tenant minute }
         "hingerota_record" Record { ticket nodes estimate state tenant least start promise end }
         "hingerota_desk" Desk { kind nodes cleanup quota_a quota_b clock next jobs }
         "hingerota_tickets" Tickets { count list }
@@ -36,6 +37,7 @@ fn layouts_are_those_of_the_header() {
         "hingerota_block" Block { fewest most }
         "hingerota_shown" Shown { refusal count }
         "hingerota_earliest" Earliest { refusal minute }
+        "hingerota_longest" Longest { refusal estimate }
     };
     let root = Path::new(env!("CARGO_MANIFEST_DIR"));
     let folder = root.join("target/layout");
@@ -60,6 +62,7 @@ fn sizes_are_as_stated() {
     for (name, size) in [
         ("hingerota_opening", size_of::<Opening>()),
         ("hingerota_order", size_of::<Order>()),
+        ("hingerota_inquiry", size_of::<Inquiry>()),
         ("hingerota_record", size_of::<Record>()),
         ("hingerota_desk", size_of::<Desk>()),
         ("hingerota_tickets", size_of::<Tickets>()),
@@ -69,6 +72,7 @@ fn sizes_are_as_stated() {
         ("hingerota_block", size_of::<Block>()),
         ("hingerota_shown", size_of::<Shown>()),
         ("hingerota_earliest", size_of::<Earliest>()),
+        ("hingerota_longest", size_of::<Longest>()),
     ] {
         let line = header.lines().find(|l| l.starts_with(&format!("}} {name};"))).expect(name);
         let stated: String = line.chars().skip_while(|c| *c != '*').filter(char::is_ascii_digit).collect();

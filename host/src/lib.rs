@@ -7,7 +7,7 @@
 mod layout;
 mod raw;
 
-pub use raw::{Answer, Block, Earliest, Opening, Order, Point, Record, Shown, Tickets};
+pub use raw::{Answer, Block, Earliest, Inquiry, Longest, Opening, Order, Point, Record, Shown, Tickets};
 
 /// The list of points that always suffices.
 pub const MOST_POINTS: usize = 129;
@@ -105,6 +105,13 @@ impl Desk {
         unsafe { raw::hingerota_earliest_start(&self.raw, ticket) }
     }
 
+    /// The largest estimate with which a submission of these nodes, of this tenant, would now be promised the minute wanted or an earlier
+    /// one, 0 where there is none; refused by 21, 14, 1, 15, 5 or 6. Of a Promise Desk alone: on a Loose Desk it is 0, and nothing is
+    /// refused.
+    pub fn longest_estimate(&self, inquiry: Inquiry) -> Longest {
+        unsafe { raw::hingerota_longest_estimate(&self.raw, inquiry) }
+    }
+
     pub fn kind(&self) -> Kind {
         match self.raw.kind {
             0 => Kind::Promise,
@@ -184,6 +191,7 @@ pub fn reason(refusal: u32) -> &'static str {
         15 => "the house's places are all live",
         19 => "the least is above the most",
         20 => "the end is before the least",
+        21 => "the minute asked for is past",
         _ => "no such refusal",
     }
 }

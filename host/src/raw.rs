@@ -30,6 +30,17 @@ pub struct Order {
     pub least: u32,
 }
 
+/// What is asked of a job before it is submitted: how long may it be to start by this minute?
+#[repr(C)]
+#[derive(Clone, Copy, PartialEq, Eq, Debug)]
+pub struct Inquiry {
+    pub nodes: u32,
+    /// `TENANT_A` or `TENANT_B`.
+    pub tenant: u32,
+    /// The one wanted.
+    pub minute: u32,
+}
+
 #[repr(C)]
 #[derive(Clone, Copy, PartialEq, Eq, Debug)]
 pub struct Record {
@@ -120,6 +131,15 @@ pub struct Earliest {
     pub minute: u32,
 }
 
+#[repr(C)]
+#[derive(Clone, Copy, PartialEq, Eq, Debug)]
+#[must_use = "a call may be refused"]
+pub struct Longest {
+    pub refusal: u32,
+    /// 0 where there is none, where it is refused, and on a Loose Desk.
+    pub estimate: u32,
+}
+
 extern "C" {
     pub fn hingerota_open_promise(opening: Opening) -> Opened;
     pub fn hingerota_open_loose(opening: Opening) -> Opened;
@@ -131,4 +151,5 @@ extern "C" {
     pub fn hingerota_index(d: *const Desk, blocks: *mut Block, room: usize) -> Shown;
     pub fn hingerota_wait_refusal(d: *const Desk, minutes: u32) -> u32;
     pub fn hingerota_earliest_start(d: *const Desk, ticket: u32) -> Earliest;
+    pub fn hingerota_longest_estimate(d: *const Desk, inquiry: Inquiry) -> Longest;
 }

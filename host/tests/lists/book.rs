@@ -1,7 +1,7 @@
 //! The guarantees of a list of calls, watched by the calls and their answers alone: nothing here looks into a desk.
 
 use crate::model::{held, BLOCK_POINTS, HOUSES, LONGEST_ESTIMATE};
-use hingerota_host::{Answer, Block, Earliest, Kind, Order, Point, Tickets};
+use hingerota_host::{Answer, Block, Earliest, Inquiry, Kind, Longest, Order, Point, Tickets};
 use std::collections::BTreeMap;
 
 /// What has become of a job taken in.
@@ -48,6 +48,8 @@ pub struct Book {
     clock: u32,
     /// By ticket.
     entries: BTreeMap<u32, Entry>,
+    /// How long a job may be, as it was asked last and answered, where no call has been taken since.
+    longest: Option<(Inquiry, Longest)>,
     pub tried: Tried,
 }
 
@@ -55,7 +57,9 @@ pub struct Book {
 /// often nodes of jobs that had ended stood in the sum, and how often it was all of the machine's by them; how often a house had all of its
 /// places live, and how often by jobs that had ended; of early ends of jobs with a least, and of these, in the first minute in which it is
 /// reached; of earliest starts given, and of these, larger ones than before; of jobs that started and had been given one, and of these, in
-/// that very minute, given before it came; of submissions that read points; of indexes beside a profile, and of the blocks of these.
+/// that very minute, given before it came; of submissions that read points; of indexes beside a profile, and of the blocks of these; of
+/// submissions of what was asked for before them: of those no longer than the estimate given, of longer ones, and of those refused as the
+/// question was.
 #[derive(Default, Clone, Copy)]
 pub struct Tried {
     pub promises: u64,
@@ -77,6 +81,9 @@ pub struct Tried {
     pub reads: u64,
     pub indexes: u64,
     pub blocks: u64,
+    pub within_longest: u64,
+    pub above_longest: u64,
+    pub refused_alike: u64,
 }
 
 impl Tried {
@@ -100,6 +107,9 @@ impl Tried {
         self.reads += other.reads;
         self.indexes += other.indexes;
         self.blocks += other.blocks;
+        self.within_longest += other.within_longest;
+        self.above_longest += other.above_longest;
+        self.refused_alike += other.refused_alike;
     }
 }
 
@@ -121,7 +131,7 @@ macro_rules! claim {
 impl Book {
     /// Of the desk that an opening hands back.
     pub fn new(kind: Kind, nodes: u32, cleanup: u32, places: [u32; 2], clock: u32) -> Book {
-        Book { kind, nodes, cleanup, places, clock, entries: BTreeMap::new(), tried: Tried::default() }
+        Book { kind, nodes, cleanup, places, clock, entries: BTreeMap::new(), longest: None, tried: Tried::default() }
     }
 
     fn waiting(&self) -> impl Iterator<Item = (&u32, &Entry)> {
@@ -130,6 +140,9 @@ impl Book {
 
     pub fn enter(&mut self, call: &Call, answer: &Answer) -> Result<(), String> {
         let (ended, started) = (answer.ended.as_slice(), answer.started.as_slice());
+        if let Call::Submit(order) = call {
+            self.as_asked(order, answer)?;
+        }
         if !answer.is_taken() {
             claim!(
                 ended.is_empty() && started.is_empty() && answer.ticket == 0 && answer.head == 0 && answer.reads == 0,
@@ -137,6 +150,7 @@ impl Book {
             );
             return Ok(());
         }
+        self.longest = None;
         self.reads(call, answer)?;
         match *call {
             Call::Submit(Order { nodes, estimate, tenant: house, least }) => {
@@ -258,6 +272,46 @@ impl Book {
             entry.earliest = Some((minute, self.clock));
         }
         self.tried.earliest_given += 1;
+        Ok(())
+    }
+
+    /// How long may a job be: of a Promise Desk an estimate that can be asked for, or none; "21, the wanted minute is before the clock".
+    pub fn longest_estimate(&mut self, asked: Inquiry, answer: Longest) -> Result<(), String> {
+        let Longest { refusal, estimate } = answer;
+        if self.kind == Kind::Loose {
+            claim!(refusal == 0 && estimate == 0, "a Loose Desk says how long a job may be");
+            return Ok(());
+        }
+        claim!(refusal == 0 || estimate == 0, "a refusal gives more than its number");
+        let past = asked.minute < self.clock;
+        claim!(past == (refusal == 21), "asked for {} at {}, refused by {refusal}", asked.minute, self.clock);
+        claim!(estimate <= LONGEST_ESTIMATE, "a job may be {estimate} minutes long");
+        self.longest = Some((asked, answer));
+        Ok(())
+    }
+
+    /// A submission of the nodes and the house that were asked for, with nothing changed since: it is promised that minute or an earlier one
+    /// up to the estimate given and not above it, and where the question was refused, it is refused by that number.
+    fn as_asked(&mut self, order: &Order, answer: &Answer) -> Result<(), String> {
+        let Order { nodes, estimate, tenant, least } = *order;
+        let judged = (1..=LONGEST_ESTIMATE).contains(&estimate) && least <= estimate;
+        match self.longest {
+            Some((asked, longest)) if judged && (asked.nodes, asked.tenant) == (nodes, tenant) => match longest.refusal {
+                0 => {
+                    let (by_then, within) = (answer.is_taken() && answer.promise <= asked.minute, estimate <= longest.estimate);
+                    claim!(by_then || !within, "{estimate} minutes do not start by {}, and {} may", asked.minute, longest.estimate);
+                    claim!(within || !by_then, "{estimate} minutes start by {}, and {} was the longest", asked.minute, longest.estimate);
+                    self.tried.within_longest += u64::from(within);
+                    self.tried.above_longest += u64::from(!within);
+                }
+                21 => {}
+                refusal => {
+                    claim!(answer.refusal == refusal, "{estimate} minutes: {}, and the question was refused by {refusal}", answer.refusal);
+                    self.tried.refused_alike += 1;
+                }
+            },
+            _ => {}
+        }
         Ok(())
     }
 
@@ -498,6 +552,52 @@ pub fn finds_broken_claims() {
     }
     finds(waiting(Kind::Promise).earliest_start(1, given(10)), "the earliest start 10 of 1 is after its promise 9");
     finds(waiting(Kind::Loose).earliest_start(1, given(10)), "the earliest start 10 of 1 is after its forecast 9");
+
+    // Job 2 is submitted after it was asked how long it may be and still start by minute 5. At 6 or later it does not.
+    let asked = |minute| Inquiry { nodes: order.nodes, tenant: order.tenant, minute };
+    let may = |estimate| Longest { refusal: 0, estimate };
+    let not = |refusal| Longest { refusal, estimate: 0 };
+    let next = |estimate, least, promise| (Call::Submit(Order { estimate, least, ..order }), answer(2, promise, &[], (0, 0)));
+    let turned_away = |estimate, refusal| (Call::Submit(Order { estimate, ..order }), Answer { refusal, ..answer(0, 0, &[], (0, 0)) });
+    let after = |longest, calls: Vec<(Call, Answer)>| {
+        let mut book = waiting(Kind::Promise);
+        book.longest_estimate(asked(5), longest).unwrap();
+        calls.iter().try_for_each(|(call, answer)| book.enter(call, answer)).map(|()| book.tried)
+    };
+    let found = |longest, calls, claim: &str| finds(after(longest, calls).map(|_| ()), claim);
+    assert_eq!(after(may(20), vec![next(20, 0, 5)]).unwrap().within_longest, 1);
+    assert_eq!(after(may(20), vec![next(1, 1, 3)]).unwrap().within_longest, 1);
+    assert_eq!(after(may(20), vec![next(21, 0, 6)]).unwrap().above_longest, 1);
+    assert_eq!(after(may(20), vec![turned_away(21, 6)]).unwrap().above_longest, 1);
+    assert_eq!(after(may(0), vec![next(1, 0, 6)]).unwrap().above_longest, 1);
+    assert_eq!(after(not(15), vec![turned_away(1, 15)]).unwrap().refused_alike, 1);
+    found(may(20), vec![next(20, 0, 6)], "20 minutes do not start by 5, and 20 may");
+    found(may(20), vec![next(1, 0, 6)], "1 minutes do not start by 5, and 20 may");
+    found(may(20), vec![turned_away(20, 6)], "20 minutes do not start by 5, and 20 may");
+    found(may(20), vec![next(21, 0, 5)], "21 minutes start by 5, and 20 was the longest");
+    found(may(0), vec![next(1, 0, 5)], "1 minutes start by 5, and 0 was the longest");
+    found(not(15), vec![next(1, 0, 5)], "1 minutes: 0, and the question was refused by 15");
+    found(not(15), vec![turned_away(1, 5)], "1 minutes: 5, and the question was refused by 15");
+    // Refused calls change nothing; once one is taken, or of other nodes or another house, nothing is said.
+    found(may(20), vec![turned_away(0, 2), turned_away(20, 6)], "20 minutes do not start by 5, and 20 may");
+    assert_eq!(after(may(20), vec![nothing(), turned_away(20, 6)]).unwrap().within_longest, 0);
+    for other in [Order { nodes: 5, ..order }, Order { tenant: HOUSES[1], ..order }, Order { least: 21, ..order }] {
+        let (call, refused) = (Call::Submit(other), turned_away(20, 6).1);
+        assert_eq!(after(may(20), vec![(call, refused)]).unwrap().within_longest, 0);
+    }
+    finds(waiting(Kind::Promise).longest_estimate(asked(5), may(10_081)), "a job may be 10081 minutes long");
+    finds(waiting(Kind::Promise).longest_estimate(asked(5), Longest { refusal: 1, estimate: 5 }), "a refusal gives more than its number");
+    finds(waiting(Kind::Promise).longest_estimate(asked(0), not(21)), "asked for 0 at 0, refused by 21");
+    let mut book = waiting(Kind::Promise);
+    let (call, passed) = nothing();
+    book.enter(&call, &passed).unwrap();
+    finds(book.longest_estimate(asked(0), may(5)), "asked for 0 at 1, refused by 0");
+    finds(book.longest_estimate(asked(0), not(14)), "asked for 0 at 1, refused by 14");
+    book.longest_estimate(asked(0), not(21)).unwrap();
+    for wrong in [may(5), not(21), not(1)] {
+        finds(waiting(Kind::Loose).longest_estimate(asked(5), wrong), "a Loose Desk says how long a job may be");
+    }
+    waiting(Kind::Loose).longest_estimate(asked(5), may(0)).unwrap();
 
     // With job 1 waiting there are at most three points: job 2 reads one more than there can be, and as many.
     let reading = |reads, answer: Answer| Answer { reads, ..answer };

@@ -1,7 +1,7 @@
 //! Random lists of calls, on the library and on a model written from document 01's words: after every call the answers, every field of
-//! the desk and of its 64 records, the points, the blocks and an earliest start are compared, the guarantees are watched by the calls and
-//! their answers, and the rule on gaps by the records and the points. The lists are the same in every run; LISTS says how many, and LIST
-//! plays one alone.
+//! the desk and of its 64 records, the points, the blocks and an earliest start are compared, and now and then how long a job may be; the
+//! guarantees are watched by the calls and their answers, and the rule on gaps by the records and the points. The lists are the same in
+//! every run; LISTS says how many, and LIST plays one alone.
 
 mod book;
 mod gaps;
@@ -9,8 +9,10 @@ mod model;
 mod random;
 
 use book::{Book, Call, Tried};
-use hingerota_host::{Answer, Block, Desk, Earliest, Kind, Opening, Order, Point, Record, Shown, MOST_BLOCKS, MOST_POINTS};
-use model::{Job, Model, Search, State};
+use hingerota_host::{
+    Answer, Block, Desk, Earliest, Inquiry, Kind, Longest, Opening, Order, Point, Record, Shown, MOST_BLOCKS, MOST_POINTS,
+};
+use model::{Job, Model, Scan, Search, State};
 use random::Random;
 use std::io::IsTerminal;
 use std::sync::atomic::{AtomicU64, Ordering};
@@ -18,6 +20,9 @@ use std::sync::Mutex;
 use std::time::Instant;
 
 const LISTS: u64 = 40_000;
+
+/// After so many of a hundred steps it is asked how long a job may be.
+const QUESTIONS: u32 = 5;
 
 /// How long the jobs of a list are.
 #[derive(Clone, Copy, PartialEq)]
@@ -150,6 +155,12 @@ struct Count {
     earliest_starts: u64,
     /// Of these, those of jobs that wait and cannot start before a later minute than now.
     earliest_starts_later: u64,
+    longest_estimates: u64,
+    /// Of these, those of a Promise Desk that gave an estimate below 10,080, and those that gave none; and those for which the model asked
+    /// its intake for every estimate.
+    longest_estimates_below: u64,
+    longest_estimates_none: u64,
+    longest_estimates_by_intake: u64,
     most_live: usize,
     most_points: usize,
     most_blocks: usize,
@@ -160,7 +171,7 @@ struct Count {
     /// Waiting jobs of which it was watched that they could not begin earlier.
     no_gaps: u64,
     /// By number, of openings and of calls.
-    refusals: [u64; 21],
+    refusals: [u64; 22],
     tried: Tried,
 }
 
@@ -183,6 +194,10 @@ impl Count {
         self.waits += other.waits;
         self.earliest_starts += other.earliest_starts;
         self.earliest_starts_later += other.earliest_starts_later;
+        self.longest_estimates += other.longest_estimates;
+        self.longest_estimates_below += other.longest_estimates_below;
+        self.longest_estimates_none += other.longest_estimates_none;
+        self.longest_estimates_by_intake += other.longest_estimates_by_intake;
         self.most_live = self.most_live.max(other.most_live);
         self.most_points = self.most_points.max(other.most_points);
         self.most_blocks = self.most_blocks.max(other.most_blocks);
@@ -450,6 +465,29 @@ impl Played {
         self.same_desk()?;
         self.book.earliest_start(ticket, library)
     }
+
+    /// What was answered.
+    fn longest_estimate(&mut self, asked: Inquiry, scan: Scan) -> Result<Longest, String> {
+        let Inquiry { nodes, tenant, minute } = asked;
+        self.done.push(format!("longest {nodes} {tenant} {minute}"));
+        self.count.longest_estimates += 1;
+        self.count.calls += 1;
+        let (refusal, estimate) = match self.model.longest_estimate(asked, scan) {
+            Ok(longest) => (0, longest.unwrap_or(0)),
+            Err(refusal) => (refusal, 0),
+        };
+        self.count.refusals[refusal as usize] += 1;
+        if refusal == 0 && self.model.kind == Kind::Promise {
+            self.count.longest_estimates_below += u64::from(0 < estimate && estimate < model::LONGEST_ESTIMATE);
+            self.count.longest_estimates_none += u64::from(estimate == 0);
+            self.count.longest_estimates_by_intake += u64::from(scan == Scan::Intake);
+        }
+        let library = self.desk.longest_estimate(asked);
+        same("longest estimate", library, Longest { refusal, estimate })?;
+        self.same_desk()?;
+        self.book.longest_estimate(asked, library)?;
+        Ok(library)
+    }
 }
 
 /// The ticket of a call: mostly of a job in this state, of those that run often of one that has started just now, or that is at its least
@@ -476,6 +514,63 @@ fn some_ticket(played: &Played, state: State, random: &mut Random) -> u32 {
     }
 }
 
+/// Mostly a house that has places left, so that both fill up.
+fn some_house(played: &Played, random: &mut Random) -> u32 {
+    let [a, b] = model::HOUSES;
+    let left = |house: u32, places: u32| places - played.model.live(house);
+    match random.below(20) {
+        0 => random.one_of(&[0, 1, 64, 67, 97, 255, 65 + (1 << 8), 65 + (1 << 16), u32::MAX]),
+        1..=6 => random.one_of(&[a, b]),
+        _ if left(a, played.model.places[0]) >= left(b, played.model.places[1]) => a,
+        _ => b,
+    }
+}
+
+/// Asks how long a job may be, mostly of nodes that are free at a point and not at a later one, by the minute of that point, or by one for
+/// which an order of the list would be planned, or one minute beside these. Then, often, such a job is submitted: of the estimate given, of
+/// one minute more, or of another.
+fn ask_longest(plan: &Plan, played: &mut Played, random: &mut Random) -> Result<(), String> {
+    let (machine, clock, house) = (played.model.nodes, played.model.clock, some_house(played, random));
+    let points = match played.model.kind {
+        Kind::Promise => played.model.profile(),
+        Kind::Loose => vec![(clock, machine)],
+    };
+    let at = random.below(points.len() as u32) as usize;
+    let ((from, free), (_, later)) = (points[at], random.one_of(&points[at..]));
+    let nodes = match random.below(12) {
+        0 => random.one_of(&[0, machine + 1, u32::MAX]),
+        1 => machine,
+        2..=8 if later < free => random.one_of(&[later + 1, free]),
+        _ => random.between(1, machine),
+    };
+    let planned = {
+        let estimate = plan.estimates.pick(random);
+        played.model.clone().submit(Order { nodes, estimate, tenant: house, least: 0 }).promise
+    };
+    let minute = match random.below(12) {
+        0 => random.one_of(&[clock.saturating_sub(1), 0, model::LAST_MINUTE, u32::MAX]),
+        1 => clock,
+        2..=4 if planned > 0 => planned - random.below(2),
+        5..=9 => (from + random.below(3)).saturating_sub(1),
+        _ => from + random.below(200),
+    };
+    // Asking the model's intake for every estimate takes long where many jobs are live.
+    let scan = if random.below(if plan.calls <= 25 { 3 } else { 500 }) == 0 { Scan::Intake } else { Scan::Changes };
+    let Longest { estimate, .. } = played.longest_estimate(Inquiry { nodes, tenant: house, minute }, scan)?;
+    let estimate = match random.below(6) {
+        0 => estimate,
+        1 => estimate + 1,
+        2 => random.between(1, estimate.max(1)),
+        3 => plan.estimates.pick(random),
+        _ => return Ok(()),
+    };
+    // Minute by minute, long jobs take long.
+    if played.model.search == Search::EveryMinute && estimate > 60 {
+        return Ok(());
+    }
+    played.submit(Order { nodes, estimate, tenant: house, least: 0 })
+}
+
 /// The next call of a list.
 fn step(plan: &Plan, played: &mut Played, random: &mut Random) -> Result<(), String> {
     let roll = random.below(100);
@@ -498,15 +593,7 @@ fn step(plan: &Plan, played: &mut Played, random: &mut Random) -> Result<(), Str
             5 | 6 => random.between(0, estimate.min(10_080)),
             _ => 0,
         };
-        // Mostly of a house that has places left, so that both fill up.
-        let [a, b] = model::HOUSES;
-        let left = |house: u32, places: u32| places - played.model.live(house);
-        let tenant = match random.below(20) {
-            0 => random.one_of(&[0, 1, 64, 67, 97, 255, 65 + (1 << 8), 65 + (1 << 16), u32::MAX]),
-            1..=6 => random.one_of(&[a, b]),
-            _ if left(a, played.model.places[0]) >= left(b, played.model.places[1]) => a,
-            _ => b,
-        };
+        let tenant = some_house(played, random);
         played.submit(Order { nodes, estimate, tenant, least })
     } else if roll < plan.submissions + plan.completions {
         let ticket = some_ticket(played, State::Running, random);
@@ -562,7 +649,8 @@ fn play(list: u64) -> Result<Count, String> {
     for _ in 0..plan.calls {
         let done = step(&plan, &mut played, random)
             .and_then(|()| played.index(random))
-            .and_then(|()| played.earliest_start(some_ticket(&played, State::Waiting, random)));
+            .and_then(|()| played.earliest_start(some_ticket(&played, State::Waiting, random)))
+            .and_then(|()| if random.percent(QUESTIONS) { ask_longest(&plan, &mut played, random) } else { Ok(()) });
         done.map_err(|e| format!("list {list}: {}\n{e}", played.done.join(", ")))?;
     }
     played.count.tried = played.book.tried;
@@ -626,6 +714,11 @@ fn main() {
         "and {} indexes with {} blocks, at most {}; {reads} submissions read points, {} of these not all, and at most {}",
         all.indexes, all.blocks, all.most_blocks, all.submissions_reading_some, all.most_reads
     );
+    let Tried { within_longest, above_longest, refused_alike, .. } = all.tried;
+    println!(
+        "and {} longest estimates asked for: {} below 10,080, {} none; {} by the answers of the model's intake to every estimate",
+        all.longest_estimates, all.longest_estimates_below, all.longest_estimates_none, all.longest_estimates_by_intake
+    );
     println!(
         "{} completions in the minute of the start, {} of jobs in cleanup, refused",
         all.completions_at_start, all.completions_in_cleanup
@@ -646,6 +739,10 @@ fn main() {
         "{earliest_kept} jobs started no earlier than given, {starts_at_the_earliest} of these in the minute given, which was to come"
     );
     println!("{indexes} times the index agreed with the profile, by {blocks} blocks");
+    println!(
+        "{within_longest} jobs no longer than the longest estimate were promised the minute asked for, {above_longest} longer ones were not, \
+         {refused_alike} were refused as the question was"
+    );
     println!(
         "{} waiting jobs could not begin earlier; after {} early ends and withdrawals a second pass moved jobs, and there were up to {} passes",
         all.no_gaps, all.passes_repeated, all.most_passes

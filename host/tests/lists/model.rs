@@ -1,7 +1,7 @@
 //! Document 01's two desks, with what document 02 adds, written from their words and as plainly as they allow, to be compared with: a list
 //! of live jobs, everything worked out anew in each call. Their words are quoted where they are followed.
 
-use hingerota_host::{Kind, Order};
+use hingerota_host::{Inquiry, Kind, Order};
 
 pub const MOST_NODES: u32 = 1_024;
 pub const LAST_MINUTE: u32 = 1_000_000;
@@ -59,6 +59,16 @@ pub enum Search {
     Changes,
 }
 
+/// How the largest estimate is looked for, from the longest down.
+#[derive(Clone, Copy, PartialEq, Eq, Debug)]
+pub enum Scan {
+    /// By what intake would answer to each.
+    Intake,
+    /// By the minutes in which free nodes change, worked out once, for the largest estimate of each held time: for the others it is the same.
+    Changes,
+}
+
+#[derive(Clone)]
 pub struct Model {
     pub kind: Kind,
     pub nodes: u32,
@@ -114,6 +124,13 @@ impl Job {
 fn fewest_and_most(block: &[(u32, u32)]) -> (u32, u32) {
     let free = || block.iter().map(|(_, free)| *free);
     (free().min().unwrap(), free().max().unwrap())
+}
+
+/// The first minute from which so many nodes are free for so long, of the minutes in which free nodes change: if it fits from a minute on and
+/// not from the one before, it is one of these.
+fn first_fit(free: &[(u32, u32)], nodes: u32, hold: u32) -> u32 {
+    let fits = |s: usize| free[s..].iter().take_while(|(m, _)| *m < free[s].0 + hold).all(|(_, f)| *f >= nodes);
+    free[(0..free.len()).find(|s| fits(*s)).expect("all nodes are free in the end")].0
 }
 
 /// What is written into a list of so many places, or 10 if it does not fit.
@@ -322,6 +339,39 @@ impl Model {
         Ok(minute)
     }
 
+    /// Document 02, No. 9: "Given nodes, a house and a wanted minute, give the largest estimate for which the Promise Desk would promise that
+    /// minute or an earlier one, or say there is none. [...] Conditions that would refuse an estimate of 1 refuse the question." By what
+    /// intake would answer, from the longest estimate down; of the Loose Desk, which promises nothing, there is none and no refusal.
+    pub fn longest_estimate(&self, asked: Inquiry, scan: Scan) -> Result<Option<u32>, u32> {
+        if self.kind == Kind::Loose {
+            return Ok(None);
+        }
+        // 21: "the wanted minute is before the clock, ahead of all others"
+        if asked.minute < self.clock {
+            return Err(21);
+        }
+        let copy = || Model { search: Search::Changes, ..self.clone() };
+        let intake = |estimate| copy().submit(Order { nodes: asked.nodes, estimate, tenant: asked.tenant, least: 0 });
+        let refusal = intake(1).refusal;
+        if refusal != 0 {
+            return Err(refusal);
+        }
+        let mut estimates = (1..=self.longest).rev();
+        Ok(match scan {
+            Scan::Intake => estimates.find(|e| {
+                let answer = intake(*e);
+                answer.refusal == 0 && answer.promise <= asked.minute
+            }),
+            Scan::Changes => {
+                let free = self.free_at_changes();
+                estimates.filter(|e| *e == self.longest || held(*e) == *e).find(|e| {
+                    let (hold, start) = (self.hold(*e), first_fit(&free, asked.nodes, self.hold(*e)));
+                    start <= asked.minute && start + hold <= LAST_MINUTE
+                })
+            }
+        })
+    }
+
     // The Promise Desk.
 
     /// "Free nodes at minute t are the rack's, less those of running stacks whose end is after t, less those of waiting stacks with
@@ -345,6 +395,10 @@ impl Model {
         minutes
     }
 
+    fn free_at_changes(&self) -> Vec<(u32, u32)> {
+        self.changes().into_iter().map(|m| (m, self.free(m))).collect()
+    }
+
     /// "The planned start is the smallest minute, now or later, such that the stack's nodes are free in every minute of its held time."
     fn planned(&self, nodes: u32, hold: u32) -> u32 {
         match self.search {
@@ -355,12 +409,7 @@ impl Model {
                 }
                 start
             }
-            // If it fits from a minute on and not from the one before, then free nodes change in that minute.
-            Search::Changes => {
-                let free: Vec<(u32, u32)> = self.changes().into_iter().map(|m| (m, self.free(m))).collect();
-                let fits = |s: usize| free[s..].iter().take_while(|(m, _)| *m < free[s].0 + hold).all(|(_, f)| *f >= nodes);
-                free[(0..free.len()).find(|s| fits(*s)).expect("all nodes are free in the end")].0
-            }
+            Search::Changes => first_fit(&self.free_at_changes(), nodes, hold),
         }
     }
 

@@ -135,6 +135,7 @@ fn arguments() {
         "index",
         "reads",
         "soonest TICKET",
+        "longest NODES HOUSE MINUTE",
     ] {
         assert!(help.output.contains(word), "{word}");
     }

@@ -1,6 +1,6 @@
 //! What a line prints.
 
-use hingerota_host::{Answer, Block, Desk, Earliest, Kind, Point};
+use hingerota_host::{Answer, Block, Desk, Earliest, Kind, Longest, Point};
 
 /// Why a line is refused, by its number.
 #[derive(Clone, Copy, PartialEq, Eq, Debug)]
@@ -79,6 +79,17 @@ impl Page {
     pub fn earliest_start(&mut self, ticket: u32, earliest: &Earliest) -> Done {
         taken(earliest.refusal)?;
         self.row("soonest", ticket, earliest.minute);
+        Ok(())
+    }
+
+    /// A Loose Desk promises no minute, and prints nothing.
+    pub fn longest_estimate(&mut self, desk: &Desk, longest: &Longest) -> Done {
+        taken(longest.refusal)?;
+        match (desk.kind(), longest.estimate) {
+            (Kind::Loose, _) => {}
+            (Kind::Promise, 0) => self.text += "longest\t-\n",
+            (Kind::Promise, estimate) => self.text += &format!("longest\t{estimate}\n"),
+        }
         Ok(())
     }
 }

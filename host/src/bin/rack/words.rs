@@ -1,9 +1,9 @@
 //! The words of later lines. A word is an entry of `WORDS`, and stands nowhere else.
 
-use crate::fields::{letter, numbers};
+use crate::fields::{letter, number, numbers};
 use crate::page::{taken, Done, Page, Refusal, LACKS_THE_FORM};
 use crate::script::Rack;
-use hingerota_host::{Block, Order, Point, MOST_BLOCKS, MOST_POINTS};
+use hingerota_host::{Block, Inquiry, Order, Point, MOST_BLOCKS, MOST_POINTS};
 
 struct Word {
     /// The word, and the fields after it as the usage shows them.
@@ -96,6 +96,17 @@ const WORDS: &[Word] = &[
         play: |rack, fields, page| {
             let [ticket] = numbers(fields)?;
             page.earliest_start(ticket, &rack.desk.earliest_start(ticket))
+        },
+    },
+    Word {
+        form: "longest NODES HOUSE MINUTE",
+        does: "of a Promise Desk: prints longest ESTIMATE, up to which a job starts by then (- if none)",
+        play: |rack, fields, page| {
+            let [nodes, house, minute] = fields else {
+                return Err(LACKS_THE_FORM);
+            };
+            let inquiry = Inquiry { nodes: number(nodes)?, tenant: letter(house)?, minute: number(minute)? };
+            page.longest_estimate(&rack.desk, &rack.desk.longest_estimate(inquiry))
         },
     },
 ];
