@@ -1,7 +1,7 @@
 -- What a call for the index gives, by the kind of the scheduler. Document 02, No. 5: "for each block of 16 points, the fewest and the most
 -- free nodes".
 -- Assumes nothing.
-use mathlib.Core.Path.{_≡_, sym}
+use mathlib.Core.Path.{_≡_}
 use mathlib.Core.Bool.{cond}
 use mathlib.Core.List.{List, []}
 use Prim.Native.Nat.{ℕ, _≤_, _<_}

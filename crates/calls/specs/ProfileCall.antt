@@ -1,7 +1,7 @@
 -- What a profile call gives, by the kind of the scheduler. Document 01: "The first is now; then every later minute whose free nodes differ
 -- from those of the minute before".
 -- Assumes nothing.
-use mathlib.Core.Path.{_≡_, sym}
+use mathlib.Core.Path.{_≡_}
 use mathlib.Core.Bool.{cond}
 use mathlib.Core.List.{List, []}
 use Prim.Native.Nat.{ℕ, _≤_, _<_}

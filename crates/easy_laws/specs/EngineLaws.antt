@@ -25,7 +25,6 @@ use Rattle.scheduler.specs.Table.{withJobs}
 use Rattle.scheduler.specs.Model.{Model, store, withModelJobs}
 use Rattle.scheduler.specs.TableLaws.{put-stored}
 use Rattle.jobs.specs.Order.{Asc, asc-in}
-use Rattle.jobs.specs.Soundness.{Sound}
 use Rattle.lists.specs.FirstLaws.{first-keep, head-keep}
 use Rattle.easy_rules.specs.Easy.{queue, head, free, freed, overBy, avail, shadow, qualifies, pick, choice, begun, mark, begin, settle, settled}
 use Rattle.easy_laws.specs.Settling.{shadow-from, shadow-min, Releasing, shadow-suffices, ended-by, not-ended, avail-rises, chosen, mark-same, mark-begun, one-fewer}
