@@ -356,7 +356,7 @@ impl Model {
         if refusal != 0 {
             return Err(refusal);
         }
-        let mut estimates = (1..=self.longest).rev();
+        let mut estimates = (1..=LONGEST_ESTIMATE).rev();
         Ok(match scan {
             Scan::Intake => estimates.find(|e| {
                 let answer = intake(*e);
@@ -364,7 +364,7 @@ impl Model {
             }),
             Scan::Changes => {
                 let free = self.free_at_changes();
-                estimates.filter(|e| *e == self.longest || held(*e) == *e).find(|e| {
+                estimates.filter(|e| *e == LONGEST_ESTIMATE || held(*e) == *e).find(|e| {
                     let (hold, start) = (self.hold(*e), first_fit(&free, asked.nodes, self.hold(*e)));
                     start <= asked.minute && start + hold <= LAST_MINUTE
                 })
