@@ -1,4 +1,4 @@
-//! What a call gives: refusals by number, and the events of calls that are taken, written as they happen.
+//! What a call gives: refusals by number, and the events of calls that are taken, told as they happen.
 
 #[derive(Clone, Copy, PartialEq, Eq, Debug)]
 pub enum Refusal {
@@ -14,8 +14,19 @@ pub enum Refusal {
     Quotas = 13,
     Tenant = 14,
     Full = 15,
+    LongestEstimate = 16,
+    Arrival = 17,
+    RunLength = 18,
     LeastAboveMost = 19,
     BeforeLeast = 20,
+}
+
+/// Who hears of what happens in a call.
+pub trait Events {
+    fn took(&mut self, ticket: u32, promise: Option<u32>);
+    fn over(&mut self, ticket: u32, minute: u32);
+    fn start(&mut self, ticket: u32, minute: u32);
+    fn head(&mut self, ticket: u32, forecast: u32);
 }
 
 /// The printout.
@@ -28,34 +39,18 @@ impl Printout {
         Printout { bytes: Vec::with_capacity(1 << 16) }
     }
 
-    pub fn took(&mut self, ticket: u32, promise: Option<u32>) {
-        self.word(b"took\t");
-        self.number(ticket);
-        match promise {
-            Some(minute) => {
-                self.bytes.push(b'\t');
-                self.number(minute);
-            }
-            None => self.word(b"\t-"),
-        }
-        self.bytes.push(b'\n');
-    }
-
-    pub fn over(&mut self, ticket: u32, minute: u32) {
-        self.line(b"over\t", ticket, minute);
-    }
-
-    pub fn start(&mut self, ticket: u32, minute: u32) {
-        self.line(b"start\t", ticket, minute);
-    }
-
-    pub fn head(&mut self, ticket: u32, forecast: u32) {
-        self.line(b"head\t", ticket, forecast);
-    }
-
     pub fn no(&mut self, refusal: Refusal) {
         self.word(b"no\t");
         self.number(refusal as u32);
+        self.bytes.push(b'\n');
+    }
+
+    pub fn numbers(&mut self, first: u32, others: &[u32]) {
+        self.number(first);
+        for &n in others {
+            self.bytes.push(b'\t');
+            self.number(n);
+        }
         self.bytes.push(b'\n');
     }
 
@@ -83,5 +78,33 @@ impl Printout {
             }
         }
         self.bytes.extend_from_slice(&digits[at..]);
+    }
+}
+
+/// A sheet prints every event.
+impl Events for Printout {
+    fn took(&mut self, ticket: u32, promise: Option<u32>) {
+        self.word(b"took\t");
+        self.number(ticket);
+        match promise {
+            Some(minute) => {
+                self.bytes.push(b'\t');
+                self.number(minute);
+            }
+            None => self.word(b"\t-"),
+        }
+        self.bytes.push(b'\n');
+    }
+
+    fn over(&mut self, ticket: u32, minute: u32) {
+        self.line(b"over\t", ticket, minute);
+    }
+
+    fn start(&mut self, ticket: u32, minute: u32) {
+        self.line(b"start\t", ticket, minute);
+    }
+
+    fn head(&mut self, ticket: u32, forecast: u32) {
+        self.line(b"head\t", ticket, forecast);
     }
 }

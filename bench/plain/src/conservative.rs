@@ -1,8 +1,9 @@
 //! Conservative backfilling: every job gets a planned start when it is submitted, its promise.
 
-use crate::answer::{Printout, Refusal};
+use crate::answer::{Events, Refusal};
 use crate::limits::*;
 use crate::order::Order;
+use crate::settings::Settings;
 use crate::tenants::{Quotas, Tenant};
 
 #[derive(Clone, Copy, PartialEq, Eq)]
@@ -130,8 +131,7 @@ impl Profile {
 }
 
 pub struct Conservative {
-    nodes: u32,
-    cleanup: u32,
+    settings: Settings,
     now: u32,
     next: u32,
     quotas: Quotas,
@@ -143,17 +143,17 @@ pub struct Conservative {
 }
 
 impl Conservative {
-    pub fn open(nodes: u32, now: u32, ticket: u32, cleanup: u32, quotas: Quotas) -> Self {
-        let (jobs, profile, started) = (Vec::with_capacity(MAX_LIVE), Profile::new(now, nodes), Vec::with_capacity(MAX_LIVE));
-        Conservative { nodes, cleanup, now, next: ticket, quotas, jobs, profile, started }
+    pub fn open(settings: Settings, now: u32, ticket: u32, quotas: Quotas) -> Self {
+        let (jobs, profile, started) = (Vec::with_capacity(MAX_LIVE), Profile::new(now, settings.nodes), Vec::with_capacity(MAX_LIVE));
+        Conservative { settings, now, next: ticket, quotas, jobs, profile, started }
     }
 
     pub fn now(&self) -> u32 {
         self.now
     }
 
-    pub fn submit(&mut self, order: Order, out: &mut Printout) -> Result<(), Refusal> {
-        order.check(self.nodes)?;
+    pub fn submit(&mut self, order: Order, out: &mut impl Events) -> Result<(), Refusal> {
+        order.check(&self.settings)?;
         let Order { nodes, least, estimate, tenant } = order;
         if self.quotas.are_used_up(tenant) {
             return Err(Refusal::Full);
@@ -161,7 +161,7 @@ impl Conservative {
         if self.next > MAX_TICKET {
             return Err(Refusal::Tickets);
         }
-        let hold = wall_time(estimate) + self.cleanup;
+        let hold = self.settings.hold(estimate);
         let start = self.profile.earliest(nodes, hold);
         let until = start + hold;
         if until > HORIZON {
@@ -174,14 +174,14 @@ impl Conservative {
         out.took(ticket, Some(start));
         let mut job = Job { ticket, tenant, nodes, least, start, until, due: start, state: State::Waiting };
         if start == self.now {
-            job.start(self.cleanup);
+            job.start(self.settings.cleanup);
             out.start(ticket, start);
         }
         self.jobs.push(job);
         Ok(())
     }
 
-    pub fn complete(&mut self, ticket: u32, out: &mut Printout) -> Result<(), Refusal> {
+    pub fn complete(&mut self, ticket: u32, out: &mut impl Events) -> Result<(), Refusal> {
         let at = self.jobs.binary_search_by_key(&ticket, |j| j.ticket).map_err(|_| Refusal::NotRunning)?;
         if self.jobs[at].state != State::Running {
             return Err(Refusal::NotRunning);
@@ -189,9 +189,9 @@ impl Conservative {
         if self.now < self.jobs[at].start + self.jobs[at].least {
             return Err(Refusal::BeforeLeast);
         }
-        let until = self.now + self.cleanup;
+        let until = self.now + self.settings.cleanup;
         self.profile.release(until, self.jobs[at].until, self.jobs[at].nodes);
-        if self.cleanup == 0 {
+        if self.settings.cleanup == 0 {
             self.quotas.give_back(self.jobs.remove(at).tenant);
         } else {
             let job = &mut self.jobs[at];
@@ -202,7 +202,7 @@ impl Conservative {
         Ok(())
     }
 
-    pub fn cancel(&mut self, ticket: u32, out: &mut Printout) -> Result<(), Refusal> {
+    pub fn cancel(&mut self, ticket: u32, out: &mut impl Events) -> Result<(), Refusal> {
         let at = self.jobs.binary_search_by_key(&ticket, |j| j.ticket).map_err(|_| Refusal::NotWaiting)?;
         if self.jobs[at].state != State::Waiting {
             return Err(Refusal::NotWaiting);
@@ -214,27 +214,31 @@ impl Conservative {
         Ok(())
     }
 
+    /// Whoever waits moves up, and those who come to now are told of in ticket order: one that a later pass starts may have a lower one.
+    fn replan(&mut self, out: &mut impl Events) {
+        self.compress();
+        self.started.sort_unstable();
+        for ticket in self.started.drain(..) {
+            out.start(ticket, self.now);
+        }
+    }
+
     /// Passes over the waiting jobs in ticket order, each put at its smallest minute, the others staying where they are, until a whole
     /// pass moves nobody. That is so once the turn comes to the last one moved: all others have had a turn since.
-    fn replan(&mut self, out: &mut Printout) {
+    fn compress(&mut self) {
         let mut last = None;
-        'passes: loop {
+        loop {
             for at in 0..self.jobs.len() {
                 if last == Some(at) {
-                    break 'passes;
+                    return;
                 }
                 if self.moves_up(at) {
                     last = Some(at);
                 }
             }
             if last.is_none() {
-                break;
+                return;
             }
-        }
-        // One that a later pass starts may have a lower ticket.
-        self.started.sort_unstable();
-        for ticket in self.started.drain(..) {
-            out.start(ticket, self.now);
         }
     }
 
@@ -254,17 +258,22 @@ impl Conservative {
         self.profile.release(until.max(job.start), job.until, job.nodes);
         (job.start, job.until, job.due) = (start, until, start);
         if start == self.now {
-            job.start(self.cleanup);
+            job.start(self.settings.cleanup);
             self.started.push(job.ticket);
         }
         true
     }
 
-    /// As many ticks. Minutes in which nothing ends, starts or is free again are passed over.
-    pub fn advance(&mut self, minutes: u32, out: &mut Printout) {
+    /// The next minute in which something ends, starts or is free again.
+    pub fn due(&self) -> Option<u32> {
+        self.jobs.iter().map(|j| j.due).min()
+    }
+
+    /// As many ticks. Minutes in which nothing is due are passed over.
+    pub fn advance(&mut self, minutes: u32, out: &mut impl Events) {
         let target = self.now + minutes;
         loop {
-            match self.jobs.iter().map(|j| j.due).min() {
+            match self.due() {
                 Some(minute) if minute <= target => self.now = minute,
                 _ => break,
             }
@@ -283,7 +292,7 @@ impl Conservative {
                 j.until > now
             });
             for job in self.jobs.iter_mut().filter(|j| j.due == now) {
-                job.start(self.cleanup);
+                job.start(self.settings.cleanup);
                 out.start(job.ticket, now);
             }
         }

@@ -1,8 +1,9 @@
 //! EASY backfilling: only the first waiting job, the head, gets a forecast; later ones pass it where that does not delay it.
 
-use crate::answer::{Printout, Refusal};
+use crate::answer::{Events, Refusal};
 use crate::limits::*;
 use crate::order::Order;
+use crate::settings::Settings;
 use crate::tenants::{Quotas, Tenant};
 
 #[derive(Clone, Copy)]
@@ -27,8 +28,7 @@ struct Holding {
 }
 
 pub struct Easy {
-    nodes: u32,
-    cleanup: u32,
+    settings: Settings,
     now: u32,
     next: u32,
     quotas: Quotas,
@@ -44,14 +44,13 @@ pub struct Easy {
 }
 
 impl Easy {
-    pub fn open(nodes: u32, now: u32, ticket: u32, cleanup: u32, quotas: Quotas) -> Self {
+    pub fn open(settings: Settings, now: u32, ticket: u32, quotas: Quotas) -> Self {
         Easy {
-            nodes,
-            cleanup,
+            settings,
             now,
             next: ticket,
             quotas,
-            free: nodes,
+            free: settings.nodes,
             queue: Vec::with_capacity(MAX_LIVE),
             running: Vec::with_capacity(MAX_LIVE),
             ended: Vec::with_capacity(MAX_LIVE),
@@ -63,8 +62,8 @@ impl Easy {
         self.now
     }
 
-    pub fn submit(&mut self, order: Order, out: &mut Printout) -> Result<(), Refusal> {
-        order.check(self.nodes)?;
+    pub fn submit(&mut self, order: Order, out: &mut impl Events) -> Result<(), Refusal> {
+        order.check(&self.settings)?;
         let Order { nodes, least, estimate, tenant } = order;
         if self.quotas.are_used_up(tenant) {
             return Err(Refusal::Full);
@@ -72,9 +71,9 @@ impl Easy {
         if self.next > MAX_TICKET {
             return Err(Refusal::Tickets);
         }
-        let hold = wall_time(estimate) + self.cleanup;
+        let hold = self.settings.hold(estimate);
         let rank = self.queue.len() as u32 + 1;
-        if self.now + rank * (MAX_ESTIMATE + self.cleanup) + hold > HORIZON {
+        if self.now + rank * self.settings.longest_hold() + hold > HORIZON {
             return Err(Refusal::Horizon);
         }
         let ticket = self.next;
@@ -86,37 +85,49 @@ impl Easy {
         Ok(())
     }
 
-    pub fn complete(&mut self, ticket: u32, out: &mut Printout) -> Result<(), Refusal> {
+    pub fn complete(&mut self, ticket: u32, out: &mut impl Events) -> Result<(), Refusal> {
         let at = self.running.iter().position(|j| j.ticket == ticket).ok_or(Refusal::NotRunning)?;
         if self.now < self.running[at].endable {
             return Err(Refusal::BeforeLeast);
         }
         let ended = self.running.remove(at);
         out.over(ticket, self.now);
-        if self.cleanup == 0 {
+        if self.settings.cleanup == 0 {
             self.free += ended.nodes;
             self.quotas.give_back(ended.tenant);
         } else {
-            self.ended.push(Holding { until: self.now + self.cleanup, ..ended });
+            self.ended.push(Holding { until: self.now + self.settings.cleanup, ..ended });
         }
         self.settle(out);
         Ok(())
     }
 
-    pub fn cancel(&mut self, ticket: u32, out: &mut Printout) -> Result<(), Refusal> {
+    pub fn cancel(&mut self, ticket: u32, out: &mut impl Events) -> Result<(), Refusal> {
         let at = self.queue.binary_search_by_key(&ticket, |j| j.ticket).map_err(|_| Refusal::NotWaiting)?;
         self.quotas.give_back(self.queue.remove(at).tenant);
         self.settle(out);
         Ok(())
     }
 
+    /// The next minutes in which a run ends, and in which nodes come free after one.
+    fn ends(&self) -> (u32, u32) {
+        let end = self.running.first().map_or(u32::MAX, |j| j.until - self.settings.cleanup);
+        let freed = self.ended.first().map_or(u32::MAX, |j| j.until);
+        (end, freed)
+    }
+
+    /// The next minute in which something is due: nobody starts in another.
+    pub fn due(&self) -> Option<u32> {
+        let (end, freed) = self.ends();
+        Some(end.min(freed)).filter(|minute| *minute < u32::MAX)
+    }
+
     /// As many ticks. A tick by which no nodes come free starts nothing: free nodes and the shadow are as before, and there is less room
     /// before the shadow. Those at which nothing ends either are passed over.
-    pub fn advance(&mut self, minutes: u32, out: &mut Printout) {
+    pub fn advance(&mut self, minutes: u32, out: &mut impl Events) {
         let target = self.now + minutes;
         loop {
-            let end = self.running.first().map_or(u32::MAX, |j| j.until - self.cleanup);
-            let freed = self.ended.first().map_or(u32::MAX, |j| j.until);
+            let (end, freed) = self.ends();
             if end.min(freed) > target {
                 break;
             }
@@ -129,10 +140,10 @@ impl Easy {
                 }
             }
             if end == self.now {
-                let over = self.running.partition_point(|j| j.until == self.now + self.cleanup);
+                let over = self.running.partition_point(|j| j.until == self.now + self.settings.cleanup);
                 for job in self.running.drain(..over) {
                     out.over(job.ticket, self.now);
-                    if self.cleanup == 0 {
+                    if self.settings.cleanup == 0 {
                         self.free += job.nodes;
                         self.quotas.give_back(job.tenant);
                     } else {
@@ -145,7 +156,7 @@ impl Easy {
         self.now = target;
     }
 
-    fn settle(&mut self, out: &mut Printout) {
+    fn settle(&mut self, out: &mut impl Events) {
         let mut fit = 0;
         while let Some(&head) = self.queue.get(fit) {
             if head.nodes > self.free {
@@ -199,7 +210,7 @@ impl Easy {
         (shadow, free - nodes)
     }
 
-    fn start(&mut self, job: Waiting, out: &mut Printout) {
+    fn start(&mut self, job: Waiting, out: &mut impl Events) {
         let Waiting { ticket, tenant, nodes, least, hold } = job;
         let until = self.now + hold;
         self.free -= nodes;

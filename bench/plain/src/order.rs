@@ -1,7 +1,7 @@
 //! What is asked for a job, and the refusals that it alone decides.
 
 use crate::answer::Refusal;
-use crate::limits::*;
+use crate::settings::Settings;
 use crate::tenants::Tenant;
 
 #[derive(Clone, Copy)]
@@ -15,12 +15,12 @@ pub struct Order {
 }
 
 impl Order {
-    /// On a machine of so many nodes.
-    pub fn check(&self, machine: u32) -> Result<(), Refusal> {
-        if self.nodes == 0 || self.nodes > machine {
+    /// Under these settings.
+    pub fn check(&self, settings: &Settings) -> Result<(), Refusal> {
+        if self.nodes == 0 || self.nodes > settings.nodes {
             return Err(Refusal::Nodes);
         }
-        if self.estimate == 0 || self.estimate > MAX_ESTIMATE {
+        if self.estimate == 0 || self.estimate > settings.longest {
             return Err(Refusal::Minutes);
         }
         if self.least > self.estimate {
