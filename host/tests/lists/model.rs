@@ -75,6 +75,8 @@ pub struct Model {
     pub cleanup: u32,
     /// "the 64 places are divided between them": A's and B's.
     pub places: [u32; 2],
+    /// "longest estimate (elsewhere 10,080)": a season says another.
+    pub longest: u32,
     pub clock: u32,
     pub next: u32,
     /// In the order of tickets.
@@ -151,8 +153,8 @@ impl Model {
     /// at opening"; 13: "the places do not sum to 64 or one is 0, last at opening".
     pub fn open(kind: Kind, nodes: u32, minute: u32, ticket: u32, cleanup: u32, places: [u32; 2]) -> (u32, Model) {
         let empty = |nodes, clock, next, cleanup, places| {
-            let (jobs, search, passes) = (Vec::new(), Search::Changes, 0);
-            Model { kind, nodes, cleanup, places, clock, next, jobs, search, passes }
+            let (longest, jobs, search, passes) = (LONGEST_ESTIMATE, Vec::new(), Search::Changes, 0);
+            Model { kind, nodes, cleanup, places, longest, clock, next, jobs, search, passes }
         };
         let refused = |number| (number, empty(1, 0, 1, 0, [63, 1]));
         if nodes < 1 || nodes > MOST_NODES {
@@ -211,7 +213,8 @@ impl Model {
         if nodes == 0 || nodes > self.nodes {
             return refused(1);
         }
-        if estimate < 1 || estimate > LONGEST_ESTIMATE {
+        // "The limit on estimates reads the setting"
+        if estimate < 1 || estimate > self.longest {
             return refused(2);
         }
         if least > estimate {
@@ -524,10 +527,11 @@ impl Model {
         }
     }
 
-    /// "The Loose Desk's bound and its last-minute rule become r × (10,080 + clearing)."
+    /// "The Loose Desk's bound and its last-minute rule become r × (10,080 + clearing)."; by No. 6 "the bound and last-minute rule of the
+    /// Loose Desk read [the longest estimate's] held time".
     fn submit_loose(&mut self, job: Job) -> Answer {
         let r = self.jobs.iter().filter(|j| j.waits()).count() as u32 + 1;
-        if self.clock + r * (LONGEST_ESTIMATE + self.cleanup) + self.hold(job.estimate) > LAST_MINUTE {
+        if self.clock + r * self.hold(self.longest) + self.hold(job.estimate) > LAST_MINUTE {
             return refused(6);
         }
         let head = self.head();
