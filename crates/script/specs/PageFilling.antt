@@ -9,7 +9,7 @@ use lib.ListN.{length, take, drop, length-append}
 use lib.Seq.{sets-eq, take-at, length-take-le}
 use Rattle.lists.specs.Tests.{true-false}
 use Rattle.script_writing.specs.AnswerText.{pageBytes}
-use Rattle.script_writing.specs.WrittenBytes.{Wrote, same-size}
+use Rattle.text.specs.WrittenBytes.{Wrote, same-size}
 use Rattle.script_rules.specs.Printout.{printout}
 use Rattle.script_play.specs.declared.Play.{Play}
 use Rattle.script_play.specs.declared.Stage.{Stage}

@@ -31,7 +31,7 @@ use Rattle.script_rules.specs.Reading.{openingIn, commandIn}
 use Rattle.script_rules.specs.Writing.{noRow}
 use Rattle.script_rules.specs.Printout.{malformed, longestScript}
 use Rattle.script_writing.specs.AnswerText.{pageBytes, answerText, answer-text}
-use Rattle.script_writing.specs.WrittenBytes.{Wrote, wrote-none}
+use Rattle.text.specs.WrittenBytes.{Wrote, wrote-none}
 use Rattle.script_reading.specs.declared.FirstLine.{FirstLine}
 use Rattle.script_reading.specs.declared.FirstLine.the-variants as first
 use Rattle.script_reading.specs.declared.Asked.{Asked}

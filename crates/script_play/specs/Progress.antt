@@ -25,7 +25,7 @@ use Rattle.history.specs.Calls.{Command, ask, wait, tick}
 use Rattle.guarantees.specs.Premise.{Premise, call-premise, opened-premise}
 use Rattle.script_rules.specs.Lines.{linesOf}
 use Rattle.script_rules.specs.Reading.{openingOf, commandOf}
-use Rattle.script_rules.specs.Printout.{malformed, fromFirst, longestScript, printout}
+use Rattle.script_rules.specs.Printout.{malformed, played, fromFirst, longestScript, printout}
 use Rattle.script_play.specs.declared.Play.{Play}
 use Rattle.script_play.specs.declared.Stage.the-variants.{First, Playing, Over}
 use Rattle.script_play.specs.declared.Stage.{Stage}
@@ -169,4 +169,4 @@ module _ (s : List ℕ) where
   pieces-whole n p r e z h =
       pieces-left n p r h
       ∙ ap (λ (g : Stage). leftBy g s p) e
-      ∙ ap (λ (k : ℕ). cond (ltb longestScript (length s)) malformed (fromFirst (linesOf (drop k s)))) z
+      ∙ ap (λ (k : ℕ). cond (ltb longestScript (length s)) malformed (fromFirst openingOf played (linesOf (drop k s)))) z

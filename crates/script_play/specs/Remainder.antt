@@ -39,7 +39,7 @@ abbrev pub fromHere : List ℕ → ℕ → ℕ → Model → List ℕ
 fromHere s at steps m = printedAll m (replicate steps tick) ++ played (after call m (replicate steps tick)) (linesOf (drop at s))
 
 abbrev pub leftBy : Stage → List ℕ → Play → List ℕ
-leftBy First s p = cond (ltb longestScript (length s)) malformed (fromFirst (linesOf (drop (p .at) s)))
+leftBy First s p = cond (ltb longestScript (length s)) malformed (fromFirst openingOf played (linesOf (drop (p .at) s)))
 leftBy Playing s p = fromHere s (p .at) (p .steps) (view (p .scheduler))
 leftBy Over s p = []
 
@@ -112,7 +112,7 @@ module _ (s : List ℕ) where
         rw e (ap (λ t. t ++ played (call m (unchanged w) .model) ls) (append-nil (printed m (unchanged w)) ∙ refusal-text m w e)
         ∙ ap (λ (r : Result). noRow (code w) ++ played (r .model) ls) (unchanged-refuses m w)))
 
-  by-opening : (p : Play) (at : ℕ) (q : Option Opening) → openedBy q (linesOf (drop at s)) ≡ openingPiece p at q .text ++ left s (openingPiece p at q .play)
+  by-opening : (p : Play) (at : ℕ) (q : Option Opening) → openedBy played q (linesOf (drop at s)) ≡ openingPiece p at q .text ++ left s (openingPiece p at q .play)
   unfolding
       opened
       printedAll
@@ -128,8 +128,8 @@ module _ (s : List ℕ) where
       case (ltb longestScript (length s))
       (λ e. rw e (sym (append-nil malformed)))
       (λ e. rw e (case (leb (length s) (p .at))
-      (λ q. rw q (ap fromFirst (lines-done s (p .at) (leb-true (length s) (p .at) q))))
-      (λ q. rw q (ap fromFirst (lines-from s (p .at) (leb-false (length s) (p .at) q)) ∙ by-opening p (past s (p .at)) (openingOf (lineOf s (p .at)))))))
+      (λ q. rw q (ap (fromFirst openingOf played) (lines-done s (p .at) (leb-true (length s) (p .at) q))))
+      (λ q. rw q (ap (fromFirst openingOf played) (lines-from s (p .at) (leb-false (length s) (p .at) q)) ∙ by-opening p (past s (p .at)) (openingOf (lineOf s (p .at)))))))
 
   by-steps : (n : ℕ) (p : Play) → Premise (p .scheduler) → fromHere s (p .at) n (view (p .scheduler)) ≡ laterBy n s p .text ++ left s (laterBy n s p .play)
   unfolding

@@ -42,19 +42,24 @@ unfoldable pub played : Model → List Line → List ℕ
 played m [] = []
 played m (l ∷ ls) = printedBy m (commandOf l) ++ played (after call m (calledBy m (commandOf l))) ls
 
--- "A refused first line prints `no` and its number and stops"
-abbrev pub openedBy : Option Opening → List Line → List ℕ
-openedBy none ls = malformed
-openedBy (some o) ls = cond (accepts (openingRefusal o)) (played (opening o) ls) (noRow (code (openingRefusal o)))
+-- ## Texts whose first line opens a scheduler, which plays the later ones
 
-abbrev pub fromFirst : List Line → List ℕ
-fromFirst [] = []
-fromFirst (l ∷ ls) = openedBy (openingOf l) ls
+-- "A refused first line prints `no` and its number and stops"
+abbrev pub openedBy : (plays : Model → List Line → List ℕ) → Option Opening → List Line → List ℕ
+openedBy plays none ls = malformed
+openedBy plays (some o) ls = cond (accepts (openingRefusal o)) (plays (opening o) ls) (noRow (code (openingRefusal o)))
+
+abbrev pub fromFirst : (opens : Line → Option Opening) (plays : Model → List Line → List ℕ) → List Line → List ℕ
+fromFirst opens plays [] = []
+fromFirst opens plays (l ∷ ls) = openedBy plays (opens l) ls
+
+-- of at most so many bytes: "a longer one prints only `no 9`, an empty one nothing"
+abbrev pub printoutBy : (longest : ℕ) (opens : Line → Option Opening) (plays : Model → List Line → List ℕ) → List ℕ → List ℕ
+printoutBy longest opens plays s = cond (ltb longest (length s)) malformed (fromFirst opens plays (linesOf s))
 
 -- "A sheet has at most 65,536 bytes"
 abbrev pub longestScript : ℕ
 longestScript = 65536
 
--- "a longer one prints only `no 9`, an empty one nothing"
 unfoldable pub printout : List ℕ → List ℕ
-printout s = cond (ltb longestScript (length s)) malformed (fromFirst (linesOf s))
+printout s = printoutBy longestScript openingOf played s

@@ -1,3 +1,2 @@
 pub mod AnswerText
-pub mod WrittenBytes
 pub mod RowLaws

@@ -7,7 +7,7 @@ ghost use Rattle.text.specs.Numbers.{decimalOf};
 ghost use Rattle.scheduler.specs.Answers.{code};
 ghost use Rattle.script_rules.specs.Writing.{andField, row, noRow, rowsOf, promiseField};
 ghost use Rattle.script_writing.specs.AnswerText.{pageBytes, promises, tookText, headText, takenText, answerText};
-ghost use Rattle.script_writing.specs.WrittenBytes.{Wrote};
+ghost use Rattle.text.specs.WrittenBytes.{Wrote};
 use scheduler::Answer;
 use scheduler::Kind;
 use scheduler::Refusal;

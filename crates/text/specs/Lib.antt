@@ -5,6 +5,7 @@ pub mod Numbers
 pub mod NumberLaws
 pub mod LeadingLaws
 pub mod WriterLaws
+pub mod WrittenBytes
 pub mod Letters
 pub mod Words
 pub mod WordLaws

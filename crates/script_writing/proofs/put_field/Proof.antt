@@ -4,7 +4,7 @@ use mathlib.Core.List.{[], _∷_}
 use native.Mathlib.Omega.{arith}
 use Rattle.text.specs.Numbers.{decimalOf}
 use Rattle.text.specs.NumberLaws.{decimal-ten}
-use Rattle.script_writing.specs.WrittenBytes.{wrote, and-then}
+use Rattle.text.specs.WrittenBytes.{wrote, and-then}
 use borrow.Author.Needs.{needs}
 use Rattle.script_writing.proofs.put_field.Statement.{statement}
 use Rattle.script_writing.proofs.put_field.Tie as tie

@@ -2,7 +2,7 @@
 -- Assumes nothing.
 use borrow.Author.Tests.{eq-eqb, ne-eqb}
 use Rattle.script_writing.specs.AnswerText.{headText}
-use Rattle.script_writing.specs.WrittenBytes.{wrote-none}
+use Rattle.text.specs.WrittenBytes.{wrote-none}
 use borrow.Author.Needs.{needs}
 use Rattle.script_writing.proofs.put_head.Statement.{statement}
 use Rattle.script_writing.proofs.put_head.Tie as tie

@@ -2,7 +2,7 @@
 -- Assumes nothing.
 use mathlib.Core.List.{[], _∷_}
 use native.Mathlib.Omega.{arith}
-use Rattle.script_writing.specs.WrittenBytes.{wrote, and-then}
+use Rattle.text.specs.WrittenBytes.{wrote, and-then}
 use borrow.Author.Needs.{needs}
 use Rattle.script_writing.proofs.put_last.Statement.{statement}
 use Rattle.script_writing.proofs.put_last.Tie as tie

@@ -4,7 +4,7 @@ use mathlib.Core.Path.{sym, _∙_}
 use mathlib.Core.List.{[], _∷_}
 use native.Mathlib.Omega.{arith}
 use Rattle.script_writing.specs.AnswerText.{promised, unpromised}
-use Rattle.script_writing.specs.WrittenBytes.{wrote}
+use Rattle.text.specs.WrittenBytes.{wrote}
 use borrow.Author.Needs.{needs}
 use Rattle.script_writing.proofs.put_promise.Statement.{statement}
 use Rattle.script_writing.proofs.put_promise.Tie as tie

@@ -2,7 +2,7 @@
 -- Assumes nothing.
 use native.Mathlib.Omega.{arith}
 use Rattle.script_rules.specs.Writing.{noWord, noRow}
-use Rattle.script_writing.specs.WrittenBytes.{wrote, with-room, and-then}
+use Rattle.text.specs.WrittenBytes.{wrote, with-room, and-then}
 use borrow.Author.Needs.{needs}
 use Rattle.script_writing.proofs.put_refusal.Statement.{statement}
 use Rattle.script_writing.proofs.put_refusal.Tie as tie

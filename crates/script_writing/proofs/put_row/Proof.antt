@@ -3,7 +3,7 @@
 use native.Mathlib.Omega.{arith}
 use lib.ListN.{length}
 use Rattle.script_rules.specs.Writing.{row}
-use Rattle.script_writing.specs.WrittenBytes.{wrote, and-then}
+use Rattle.text.specs.WrittenBytes.{wrote, and-then}
 use borrow.Author.Needs.{needs}
 use Rattle.script_writing.proofs.put_row.Statement.{statement}
 use Rattle.script_writing.proofs.put_row.Tie as tie

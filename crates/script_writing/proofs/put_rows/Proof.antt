@@ -6,7 +6,7 @@ use Prim.Native.Nat.{ℕ, _+_, _*_, _-_, _≤_}
 use native.Mathlib.Omega.{arith}
 use lib.ListN.{length, take}
 use Rattle.script_rules.specs.Writing.{rowsOf}
-use Rattle.script_writing.specs.WrittenBytes.{Wrote, wrote-none, same-size, with-room, and-then}
+use Rattle.text.specs.WrittenBytes.{Wrote, wrote-none, same-size, with-room, and-then}
 use Rattle.script_writing.specs.RowLaws.{rows-none, rows-more, one-row}
 use borrow.Author.Needs.{needs}
 use Rattle.script_writing.proofs.put_rows.Statement.{statement}

@@ -3,7 +3,7 @@
 use native.Mathlib.Omega.{arith}
 use borrow.Author.Needs.{needs}
 use Rattle.script_writing.specs.AnswerText.{takenText}
-use Rattle.script_writing.specs.WrittenBytes.{with-room, and-then}
+use Rattle.text.specs.WrittenBytes.{with-room, and-then}
 use Rattle.script_writing.proofs.Lengths.{ended-whole, started-whole}
 use Rattle.script_writing.proofs.put_taken.Statement.{statement}
 use Rattle.script_writing.proofs.put_taken.Tie as tie

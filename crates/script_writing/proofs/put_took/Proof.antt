@@ -4,7 +4,7 @@ use native.Mathlib.Omega.{arith}
 use borrow.Author.Tests.{eq-eqb, ne-eqb}
 use Rattle.script_rules.specs.Writing.{tookWord, row}
 use Rattle.script_writing.specs.AnswerText.{tookText}
-use Rattle.script_writing.specs.WrittenBytes.{wrote, wrote-none, and-then}
+use Rattle.text.specs.WrittenBytes.{wrote, wrote-none, and-then}
 use borrow.Author.Needs.{needs}
 use Rattle.script_writing.proofs.put_took.Statement.{statement}
 use Rattle.script_writing.proofs.put_took.Tie as tie
