@@ -15,7 +15,7 @@ use Rattle.scheduler.specs.declared.Scheduler.{Scheduler}
 use Rattle.scheduler.specs.Table.{tickets}
 use Rattle.scheduler.specs.Model.{Model, store}
 
--- the documents' number of each refusal; 0 where nothing is refused. 4 and 8 are given no longer
+-- the documents' number of each refusal; 0 where nothing is refused. 4 and 8 are given no longer; 17 and 18 are of a season's lines alone
 abbrev pub code : Refusal → ℕ
 code refusal.None = 0
 code refusal.NodesOutOfRange = 1
@@ -31,6 +31,9 @@ code refusal.CleanupOutOfRange = 12
 code refusal.QuotasOutOfRange = 13
 code refusal.UnknownTenant = 14
 code refusal.QuotaFull = 15
+code refusal.LongestOutOfRange = 16
+code refusal.ArrivalFalls = 17
+code refusal.NoRunLength = 18
 code refusal.LeastAboveMost = 19
 code refusal.BeforeLeast = 20
 code refusal.WantedMinutePast = 21

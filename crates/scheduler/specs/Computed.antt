@@ -1,5 +1,5 @@
--- Document 02, computed from the definitions. No. 4: how the places are divided, and who is refused for lack of them. No. 7: a least above the
--- most, and an end before the least.
+-- Document 02, computed from the definitions. No. 4: how the places are divided, and who is refused for lack of them. No. 6: the longest
+-- estimate, as an opening fixes it. No. 7: a least above the most, and an end before the least.
 -- Assumes nothing.
 use mathlib.Core.Path.{_≡_, refl}
 use mathlib.Core.Bool.{true, false}
@@ -8,17 +8,20 @@ use Prim.Native.Nat.{ℕ}
 use Rattle.scheduler.specs.declared.Kind.the-variants.{Easy}
 use Rattle.scheduler.specs.declared.State.the-variants.{Waiting, Running}
 use Rattle.scheduler.specs.declared.Job.{Job}
+use Rattle.scheduler.specs.declared.Settings.{Settings}
 use Rattle.scheduler.specs.declared.Submission.{Submission}
 use Rattle.scheduler.specs.declared.Tenant.{Tenant}
 use Rattle.scheduler.specs.declared.Tenant.the-variants.{Nobody, A, B}
 use Rattle.scheduler.specs.declared.Refusal.{Refusal}
 use Rattle.scheduler.specs.declared.Refusal.the-variants as refusal
 use Rattle.scheduler.specs.Limits.{misdivided}
+use Rattle.scheduler.specs.Settings.{longest, cleanup, runTime, holdTime, unit}
 use Rattle.scheduler.specs.Jobs.{fresh, cleaning}
 use Rattle.scheduler.specs.Model.{Model}
 use Rattle.scheduler.specs.Answers.{verdict}
 use Rattle.scheduler.specs.declared.Departure.the-variants.{Complete}
 use Rattle.scheduler.specs.Refusals.{submitTests, departRefusal}
+use Rattle.scheduler.specs.Opening.{openingRefusal}
 
 abbrev asks : Tenant → (nodes : ℕ) → Submission
 asks t n = record { nodes = n; estimate = 5; tenant = t; least = 0 }
@@ -26,7 +29,7 @@ asks t n = record { nodes = n; estimate = 5; tenant = t; least = 0 }
 -- 10 nodes, two places for A and 62 for B; these jobs are live
 abbrev with-jobs : List Job → Model
 with-jobs js = record {
-  settings = record { kind = Easy; nodes = 10; cleanup = 7; «quota_a» = 2; «quota_b» = 62 };
+  settings = record { kind = Easy; nodes = 10; cleanup = 7; «quota_a» = 2; «quota_b» = 62; longest = 60 };
   clock = 9;
   next = 9;
   jobs = js;
@@ -55,7 +58,7 @@ pub examples : (misdivided 63 1 ≡ false)
     × (judged (cleaning 8 (runs A 1) ∷ waits A 2 ∷ []) (asks A 1) ≡ refusal.QuotaFull)
     × (judged (runs A 1 ∷ waits A 2 ∷ []) (asks B 1) ≡ refusal.None)
     × (judged (runs A 1 ∷ waits B 2 ∷ runs B 3 ∷ []) (asks A 1) ≡ refusal.None)
-unfolding verdict
+unfolding verdict longest
 examples = (refl, refl, refl, refl, refl, refl, refl, refl, refl, refl, refl, refl)
 
 -- run lengths from a least to 5 minutes
@@ -79,5 +82,34 @@ pub least-examples : (judged [] (between 5 A 1) ≡ refusal.None)
     × (leaves-at 7 (fresh 1 (between 3 A 1) Running 5 0) ≡ refusal.BeforeLeast)
     × (leaves-at 8 (fresh 1 (between 3 A 1) Running 5 0) ≡ refusal.None)
     × (leaves-at 7 (fresh 1 (between 3 A 1) Waiting 5 0) ≡ refusal.NotRunning)
-unfolding departRefusal verdict
+unfolding departRefusal verdict longest
 least-examples = (refl, refl, refl, refl, refl, refl, refl)
+
+-- 10 nodes that are cleared for 7 minutes, and this longest estimate
+abbrev up-to : ℕ → Settings
+up-to l = record { kind = Easy; nodes = 10; cleanup = 7; «quota_a» = 2; «quota_b» = 62; longest = l }
+
+abbrev opens-with : Settings → Refusal
+opens-with S = openingRefusal (record { settings = S; minute = 0; ticket = 1 })
+
+abbrev lasts : ℕ → Submission
+lasts e = record { nodes = 1; estimate = e; tenant = A; least = 0 }
+
+abbrev judged-by : Settings → Submission → Refusal
+judged-by S o = verdict (submitTests (record { settings = S; clock = 9; next = 9; jobs = [] }) o [])
+
+abbrev nothing-fits : Settings
+nothing-fits = record { kind = Easy; nodes = 0; cleanup = 31; «quota_a» = 0; «quota_b» = 0; longest = 10081 }
+
+pub longest-examples : (opens-with (up-to 0) ≡ refusal.LongestOutOfRange)
+    × (opens-with (up-to 1) ≡ refusal.None)
+    × (opens-with (up-to 10080) ≡ refusal.None)
+    × (opens-with (up-to 10081) ≡ refusal.LongestOutOfRange)
+    -- ahead of 1, 3, 12 and 13
+    × (openingRefusal (record { settings = nothing-fits; minute = 1000001; ticket = 0 }) ≡ refusal.LongestOutOfRange)
+    -- 2 reads the setting; the bound reads its wall time, which is greater, and the cleanup
+    × (judged-by (up-to 481) (lasts 481) ≡ refusal.None)
+    × (judged-by (up-to 481) (lasts 482) ≡ refusal.MinutesOutOfRange)
+    × (unit (up-to 481) ≡ 517)
+unfolding openingRefusal verdict longest cleanup runTime holdTime unit
+longest-examples = (refl, refl, refl, refl, refl, refl, refl, refl)

@@ -18,7 +18,7 @@ horizon = 1000000
 abbrev pub slots : ℕ
 slots = 64
 
--- "Estimate of a stack: 1 to 10,080 minutes."
+-- "Estimate of a stack: 1 to 10,080 minutes.", whatever the settings
 abbrev pub longestEstimate : ℕ
 longestEstimate = wall.longest
 

@@ -11,9 +11,10 @@ use Rattle.scheduler.specs.declared.Tenant.the-variants.{Nobody, A, B}
 use Rattle.scheduler.specs.Limits as limit
 use Rattle.scheduler.specs.States.{cleaning?}
 
--- "A refused opening hands back an empty desk of its kind with 1 node"; nodes that are not cleared, and 63 places and 1
+-- "A refused opening hands back an empty desk of its kind with 1 node"; nodes that are not cleared, 63 places and 1, and the longest estimate
+-- there is
 abbrev pub refusedSettings : Kind → Settings
-refusedSettings k = record { kind = k; nodes = 1; cleanup = 0; «quota_a» = 63; «quota_b» = 1 }
+refusedSettings k = record { kind = k; nodes = 1; cleanup = 0; «quota_a» = 63; «quota_b» = 1; longest = limit.longestEstimate }
 
 -- "Minutes of the clock: 0 to 1,000,000, the last minute."
 abbrev pub horizon : Settings → ℕ
@@ -29,9 +30,10 @@ quota S Nobody = 0
 quota S A = S .«quota_a»
 quota S B = S .«quota_b»
 
--- "Estimate of a stack: 1 to 10,080 minutes."
-abbrev pub longest : Settings → ℕ
-longest S = limit.longestEstimate
+-- document 02, No. 6: "longest estimate (elsewhere 10,080)". An opening with more is refused, so that in every scheduler it is the setting
+-- (`longest-is`)
+unfoldable pub longest : Settings → ℕ
+longest S = min (S .longest) limit.longestEstimate
 
 -- document 02, No. 3: "From now on nodes stay taken for clearing minutes, 0 to 30, fixed at opening, after a planned or an early end
 -- alike". An opening with more is refused, so that in every scheduler it is the setting (`cleanup-is`)
@@ -46,7 +48,8 @@ runTime S e = wallTime e
 unfoldable pub holdTime : Settings → ℕ → ℕ
 holdTime S e = runTime S e + cleanup S
 
--- the longest of these: the unit of the bound, "r × (10,080 + clearing)"
+-- the longest of these: the unit of the bound, "r × (10,080 + clearing)"; document 02, No. 6: "The limit on estimates reads the setting; the
+-- bound and last-minute rule of the Loose Desk read its held time, which may be greater."
 unfoldable pub unit : Settings → ℕ
 unit S = holdTime S (longest S)
 

@@ -1,7 +1,7 @@
--- What callers use of the times that jobs run and hold their nodes. Nobody else looks into `cleanup`, `runTime`, `holdTime`, `unit`,
--- `endOf` and `until`.
+-- What callers use of the times that jobs run and hold their nodes. Nobody else looks into `longest`, `cleanup`, `runTime`, `holdTime`,
+-- `unit`, `endOf` and `until`.
 -- Assumes nothing.
-use Prim.Native.Nat.{ℕ, _+_, _*_, _≤_, _<_}
+use Prim.Native.Nat.{ℕ, _+_, _*_, _≤_, _<_, min}
 use native.Mathlib.Omega.{arith}
 use native.Mathlib.Nat.{mul-le-mul}
 use mathlib.Core.Path.{_≡_, refl}
@@ -12,12 +12,21 @@ use Rattle.scheduler.specs.declared.Settings.{Settings}
 use Rattle.scheduler.specs.declared.Submission.{Submission}
 use Rattle.scheduler.specs.declared.State.{State}
 use Rattle.scheduler.specs.declared.Job.{Job}
-use Rattle.scheduler.specs.Limits.{longestCleanup, longestHold}
+use Rattle.scheduler.specs.Limits.{longestEstimate, longestCleanup, longestHold}
 use Rattle.scheduler.specs.States.{cleaning?}
 use Rattle.scheduler.specs.Settings.{longest, cleanup, runTime, holdTime, unit, endOf, until}
 use Rattle.scheduler.specs.Jobs.{fresh, jobAt, cleaning, isCleaning}
 
 module _ (S : Settings) where
+  pub longest-le : longest S ≤ longestEstimate
+  unfolding longest
+  longest-le = omega arith
+
+  -- of settings that an opening takes it is the setting
+  pub longest-is : S .longest ≤ longestEstimate → longest S ≡ S .longest
+  unfolding longest
+  longest-is l = omega arith
+
   pub cleanup-le : cleanup S ≤ longestCleanup
   unfolding cleanup
   cleanup-le = omega arith
@@ -34,7 +43,7 @@ module _ (S : Settings) where
   -- no run is planned for less than its estimate
   pub run-from : (e : ℕ) → e ≤ longest S → e ≤ runTime S e
   unfolding runTime
-  run-from e l = le-wallTime e l
+  run-from e l = le-wallTime e (omega (arith, longest-le))
 
   pub hold-is : (e : ℕ) → holdTime S e ≡ runTime S e + cleanup S
   unfolding holdTime
@@ -104,12 +113,12 @@ pub record LongestWithin (S : Settings) (minutes e : ℕ) : Type 0 where
 
 module _ (S : Settings) (minutes : ℕ) where
   -- the wall time is within what the cleanup leaves
-  pub longest-after : {x e : ℕ} → x + cleanup S ≡ minutes → wall.LongestWithin x e → LongestWithin S minutes e
+  pub longest-after : {x e : ℕ} → x + cleanup S ≡ minutes → wall.LongestWithin x e → LongestWithin S minutes (min e (longest S))
   unfolding holdTime runTime
-  longest-after q w = record {
-    to = w .to;
-    within = λ p. omega (arith, w .within);
-    most = λ d p l b. w .most d l (omega arith);
+  longest-after {x} {e} q w = record {
+    to = omega arith;
+    within = λ p. omega (arith, w .within, wallTime-mono (min e (longest S)) e (omega arith));
+    most = λ d p l b. let k : d ≤ e = w .most d (omega (arith, longest-le S)) (omega arith) in omega arith;
   }
 
   pub longest-none : minutes < cleanup S → LongestWithin S minutes 0

@@ -4,7 +4,7 @@ ghost use Prim.Native.Nat.{_≤_};
 ghost use Rattle.scheduler.specs.Limits.{maxNodes, longestEstimate, limits, outside, misdivided};
 ghost use Rattle.scheduler.specs.Jobs.{unused, fresh, jobAt, cleaning, isRunning, isCleaning, isHolding, tooEarly, releasedAt, picks};
 ghost use Rattle.scheduler.specs.Tenants.{known, number, sameTenant, tenantOf, letterOf};
-ghost use Rattle.scheduler.specs.Settings.{refusedSettings, quota, cleanup, runTime, holdTime, unit};
+ghost use Rattle.scheduler.specs.Settings.{refusedSettings, quota, longest, cleanup, runTime, holdTime, unit};
 ghost use Rattle.scheduler.specs.Times.{LongestWithin};
 ghost use Rattle.scheduler.specs.Table.{tickets, oneIf};
 ghost use Rattle.scheduler.specs.Model.{store, empty};
@@ -46,14 +46,15 @@ pub struct Job {
     pub end: u32,
 }
 
-// What an opening fixes: the rules, the machine's nodes, for how many minutes nodes stay taken after a run ("clearing"), and how many live
-// jobs each tenant may have ("places").
+// What an opening fixes: the rules, the machine's nodes, for how many minutes nodes stay taken after a run ("clearing"), how many live jobs
+// each tenant may have ("places"), and the longest estimate that a submission may have.
 pub struct Settings {
     pub kind: Kind,
     pub nodes: u32,
     pub cleanup: u32,
     pub quota_a: u32,
     pub quota_b: u32,
+    pub longest: u32,
 }
 
 // The live jobs stand first, in ticket order; the slots after them are unused.
@@ -91,6 +92,9 @@ pub enum Refusal {
     QuotasOutOfRange,
     UnknownTenant,
     QuotaFull,
+    LongestOutOfRange,
+    ArrivalFalls,
+    NoRunLength,
     LeastAboveMost,
     BeforeLeast,
     WantedMinutePast,
@@ -217,6 +221,9 @@ impl Refusal {
             Refusal::QuotasOutOfRange => 13,
             Refusal::UnknownTenant => 14,
             Refusal::QuotaFull => 15,
+            Refusal::LongestOutOfRange => 16,
+            Refusal::ArrivalFalls => 17,
+            Refusal::NoRunLength => 18,
             Refusal::LeastAboveMost => 19,
             Refusal::BeforeLeast => 20,
             Refusal::WantedMinutePast => 21,
@@ -551,6 +558,16 @@ impl Settings {
         Scheduler::LONGEST_CLEANUP
     }
 
+    // The longest estimate that a submission may have. (An opening refuses more than the longest of all.)
+    pub fn longest(self) -> u32
+        ensures { λ r. ⌜ r ≡ longest self ⌝ }
+    {
+        if self.longest <= Scheduler::LONGEST_ESTIMATE {
+            return self.longest;
+        }
+        Scheduler::LONGEST_ESTIMATE
+    }
+
     // For how many minutes a job of this estimate runs.
     pub fn run_time(self, estimate: u32) -> u32
         ensures { λ r. ⌜ r ≡ runTime self estimate ⌝ }
@@ -569,7 +586,7 @@ impl Settings {
     pub fn unit(self) -> u32
         ensures { λ r. ⌜ r ≡ unit self ⌝ }
     {
-        self.hold_time(Scheduler::LONGEST_ESTIMATE)
+        self.hold_time(self.longest())
     }
 
     // The largest estimate with which a job holds its nodes for no longer than so many minutes; 0 if there is none.
@@ -580,7 +597,12 @@ impl Settings {
         if minutes < cleanup {
             return 0;
         }
-        walltime::longest_within(minutes - cleanup)
+        let most = walltime::longest_within(minutes - cleanup);
+        let longest = self.longest();
+        if most <= longest {
+            return most;
+        }
+        longest
     }
 
     // What a refused opening hands back.
@@ -593,15 +615,19 @@ impl Settings {
             cleanup: 0,
             quota_a: 63,
             quota_b: 1,
+            longest: Scheduler::LONGEST_ESTIMATE,
         }
     }
 }
 
 impl Opening {
-    // Why it is refused, in this order: 1, 3, 12, 13.
+    // Why it is refused, in this order: 16, 1, 3, 12, 13.
     fn refusal(self) -> Refusal
         ensures { λ r. ⌜ r ≡ openingRefusal self ⌝ }
     {
+        if outside_range(self.settings.longest, 1, Scheduler::LONGEST_ESTIMATE) {
+            return Refusal::LongestOutOfRange;
+        }
         if outside_range(self.settings.nodes, 1, Scheduler::NODES) {
             return Refusal::NodesOutOfRange;
         }
@@ -629,6 +655,7 @@ impl Scheduler {
 
     pub const LIVE: usize = 64;
 
+    // No estimate is longer, whatever the settings.
     pub const LONGEST_ESTIMATE: u32 = 10_080;
 
     pub const LONGEST_WAIT: u32 = 10_080;

@@ -1,5 +1,5 @@
 use borrow.Author.Tests.{lt-ltb, le-ltb}
-use Rattle.scheduler.specs.Limits.{outside, misdivided, maxNodes, lastTicket}
+use Rattle.scheduler.specs.Limits.{outside, misdivided, maxNodes, longestEstimate, lastTicket}
 use mathlib.Core.Bool.{true, false}
 use mathlib.Core.Path.{_≡_, sym, _∙_}
 use Rattle.scheduler.specs.Answers.{verdict}
@@ -11,68 +11,75 @@ use Rattle.scheduler.proofs.Opening.refusal.Tie as tie
 returns : tie.Need-returns
 unfolding openingRefusal verdict
 returns c =
-    let t : outside 1 maxNodes (c .before .before .args .self .settings .nodes) ≡ true = sym (c .before .outside-range .ensures) ∙ c .if1 .taken in
+    let t : outside 1 longestEstimate (c .before .before .args .self .settings .longest) ≡ true = sym (c .before .outside-range .ensures) ∙ c .if1 .taken in
     rw t
+
+-- what each test leaves
+longest-passes : (c : tie.Else1) → outside 1 longestEstimate (c .before .before .args .self .settings .longest) ≡ false
+longest-passes c = sym (c .before .outside-range .ensures) ∙ c .if1 .left
+
+module _ (c : tie.Else2) where
+  abbrev one : tie.Else1
+  one = c .before .before
+
+  abbrev start : tie.Start
+  start = one .before .before
+
+  nodes-pass : outside 1 maxNodes (start .args .self .settings .nodes) ≡ false
+  nodes-pass = sym (c .before .outside-range2 .ensures) ∙ c .if2 .left
+
+module _ (c : tie.Else4) where
+  abbrev three : tie.Else3
+  three = c .before .before
+
+  abbrev two : tie.Else2
+  two = three .before .before
+
+  ticket-passes : outside 1 lastTicket (start two .args .self .ticket) ≡ false
+  ticket-passes = sym (c .before .outside-range3 .ensures) ∙ c .if4 .left
 
 returns-2 : tie.Need-returns-2
 unfolding openingRefusal verdict
 returns-2 c =
     let e = c .before .before in
-    let t : outside 1 maxNodes (e .before .before .args .self .settings .nodes) ≡ false = sym (e .before .outside-range .ensures) ∙ e .if1 .left in
-    rw (t, lt-ltb _ _ (c .if2 .taken))
+    let t : outside 1 maxNodes (e .before .before .args .self .settings .nodes) ≡ true = sym (c .before .outside-range2 .ensures) ∙ c .if2 .taken in
+    rw (longest-passes e, t)
 
 returns-3 : tie.Need-returns-3
 unfolding openingRefusal verdict
-returns-3 c =
-    let e = c .before .before .before .before in
-    let s = e .before .before in
-    let t : outside 1 maxNodes (s .args .self .settings .nodes) ≡ false = sym (e .before .outside-range .ensures) ∙ e .if1 .left in
-    let u : outside 1 lastTicket (s .args .self .ticket) ≡ true = sym (c .before .outside-range2 .ensures) ∙ c .if3 .taken in
-    rw (t, le-ltb _ _ (c .before .before .if2 .left), u)
+returns-3 c = let e = c .before .before in rw (longest-passes (one e), nodes-pass e, lt-ltb _ _ (c .if3 .taken))
 
 returns-4 : tie.Need-returns-4
 unfolding openingRefusal verdict
 returns-4 c =
     let d = c .before .before in
-    let e = d .before .before .before .before in
-    let s = e .before .before in
-    let t : outside 1 maxNodes (s .args .self .settings .nodes) ≡ false = sym (e .before .outside-range .ensures) ∙ e .if1 .left in
-    let u : outside 1 lastTicket (s .args .self .ticket) ≡ false = sym (d .before .outside-range2 .ensures) ∙ d .if3 .left in
-    rw (t, le-ltb _ _ (d .before .before .if2 .left), u, lt-ltb _ _ (c .if4 .taken))
-
--- what the tests before the last leave
-module _ (c : tie.After-quotas-out-of-range) where
-  abbrev d : tie.Else3
-  d = c .before .before .before
-
-  abbrev e : tie.Else1
-  e = d .before .before .before .before
-
-  abbrev s : tie.Start
-  s = e .before .before
-
-  nodes-pass : outside 1 maxNodes (s .args .self .settings .nodes) ≡ false
-  nodes-pass = sym (e .before .outside-range .ensures) ∙ e .if1 .left
-
-  ticket-passes : outside 1 lastTicket (s .args .self .ticket) ≡ false
-  ticket-passes = sym (d .before .outside-range2 .ensures) ∙ d .if3 .left
+    let e = d .before .before in
+    let t : outside 1 lastTicket (start e .args .self .ticket) ≡ true = sym (c .before .outside-range3 .ensures) ∙ c .if4 .taken in
+    rw (longest-passes (one e), nodes-pass e, le-ltb _ _ (d .if3 .left), t)
 
 returns-5 : tie.Need-returns-5
 unfolding openingRefusal verdict
 returns-5 c =
-    let q = c .before in
-    let t : misdivided (s q .args .self .settings .«quota_a») (s q .args .self .settings .«quota_b») ≡ true =
-    sym (q .quotas-out-of-range .ensures) ∙ c .if5 .taken in
-    rw (nodes-pass q, le-ltb _ _ (d q .before .before .if2 .left), ticket-passes q, le-ltb _ _ (q .before .if4 .left), t)
+    let d = c .before .before in
+    rw (longest-passes (one (two d)), nodes-pass (two d), le-ltb _ _ (three d .if3 .left), ticket-passes d, lt-ltb _ _ (c .if5 .taken))
 
 returns-6 : tie.Need-returns-6
 unfolding openingRefusal verdict
 returns-6 c =
-    let q = c .before in
-    let t : misdivided (s q .args .self .settings .«quota_a») (s q .args .self .settings .«quota_b») ≡ false =
-    sym (q .quotas-out-of-range .ensures) ∙ c .if5 .left in
-    rw (nodes-pass q, le-ltb _ _ (d q .before .before .if2 .left), ticket-passes q, le-ltb _ _ (q .before .if4 .left), t)
+    let d = c .before .before .before .before in
+    let s = start (two d) .args .self .settings in
+    let t : misdivided (s .«quota_a») (s .«quota_b») ≡ true = sym (c .before .quotas-out-of-range .ensures) ∙ c .if6 .taken in
+    rw (longest-passes (one (two d)), nodes-pass (two d), le-ltb _ _ (three d .if3 .left), ticket-passes d, le-ltb _ _ (c .before .before .if5 .left), t)
+
+returns-7 : tie.Need-returns-7
+unfolding openingRefusal verdict
+returns-7 c =
+    let d = c .before .before .before .before in
+    let s = start (two d) .args .self .settings in
+    let t : misdivided (s .«quota_a») (s .«quota_b») ≡ false = sym (c .before .quotas-out-of-range .ensures) ∙ c .if6 .left in
+    rw (longest-passes (one (two d)), nodes-pass (two d), le-ltb _ _ (three d .if3 .left), ticket-passes d, le-ltb _ _ (c .before .before .if5 .left), t)
 
 pub refusal-spec : {M : Type 1} → statement M
 refusal-spec =
-    tie.close (tie.spec (λ c κs. search needs) returns returns-2 (λ c κs. search needs) returns-3 returns-4 (λ c κs. search needs) returns-5 returns-6)
+    tie.close (tie.spec (λ c κs. search needs) returns (λ c κs. search needs) returns-2 returns-3 (λ c κs. search needs) returns-4 returns-5
+    (λ c κs. search needs) returns-6 returns-7)

@@ -5,7 +5,7 @@ use Rattle.scheduler.proofs.Settings.unit.Tie as tie
 
 returns : tie.Need-returns
 unfolding unit
-returns c = c .hold-time .ensures
+returns c = rw (c .hold-time .ensures, c .before .longest .ensures)
 
 pub unit-spec : {M : Type 1} → statement M
-unit-spec = tie.close (tie.spec (λ c κs. search needs) returns)
+unit-spec = tie.close (tie.spec (λ c κs. search needs) (λ c κs. search needs) returns)
