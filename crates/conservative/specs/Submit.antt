@@ -16,7 +16,7 @@ use Rattle.scheduler.specs.declared.Outcome.{Outcome}
 use Rattle.scheduler.specs.Limits.{maxNodes, longestEstimate, lastTicket}
 use Rattle.scheduler.specs.Jobs.{fresh}
 use Rattle.scheduler.specs.Settings.{horizon, slots, quota, holdTime}
-use Rattle.scheduler.specs.Times.{hold-pos, hold-le}
+use Rattle.scheduler.specs.Times.{longest-le, hold-pos, hold-le}
 use Rattle.scheduler.specs.Table.{withJobs, liveOf, tickets, oneIf}
 use Rattle.scheduler.specs.Model.{Model, view}
 use Rattle.scheduler.specs.Answers.{answer, outcome, refuse, verdict, accepts, refusedOutcome}
@@ -109,7 +109,7 @@ module _ (d : Scheduler) (o : Submission) (h : Holds Valid d) where
       omega (arith, room),
       fit-held .ticket-left,
       omega (arith, fit-held .nodes-to, h .holds .sound .nodes-to),
-      fit-held .estimate-to,
+      omega (arith, fit-held .estimate-to, longest-le (m .settings)),
       fit-held .least-to,
     )
 

@@ -31,7 +31,7 @@ use Rattle.scheduler.specs.Tenants.{known}
 use Rattle.scheduler.specs.States.{live?, waiting?, running?, cleaning?, holding?}
 use Rattle.scheduler.specs.Jobs.{fresh, jobAt, cleaning, isWaiting, isRunning, isCleaning, departsAs}
 use Rattle.scheduler.specs.declared.Settings.{Settings}
-use Rattle.scheduler.specs.Settings.{horizon, quota, cleanup, runTime, holdTime, until}
+use Rattle.scheduler.specs.Settings.{horizon, quota, longest, cleanup, runTime, holdTime, until}
 use Rattle.scheduler.specs.Times.{cleanup-is, hold-is, end-is, until-is, until-cleaning}
 use Rattle.scheduler.specs.Table as table
 use Rattle.scheduler.specs.Table.{liveOf, ticketOf, ticketsOf, ends, staying, ceased, remaining}
@@ -491,12 +491,12 @@ refused-is m tick = judged-refused m (tickRefusal m) (ticked m) refl
 refused-is m (unchanged w) = λ a. refl
 
 -- Each refusal, with its conditions in the documents' order and no others. 14: "a house other than A or B"; 1: "stack nodes 0 or above the
--- rack's"; 2: "estimate .. outside 1 to 10,080"; 19: "least above most"; 15: "the house's places are all live"; 5: "ticket 999,999 has been
--- given"; 6: "start + held above 1,000,000", and the clearing
+-- rack's"; 2: "estimate .. outside 1 to 10,080", by document 02, No. 6, to the longest; 19: "least above most"; 15: "the house's places are all
+-- live"; 5: "ticket 999,999 has been given"; 6: "start + held above 1,000,000", and the clearing
 pub submit-refusal : (m : Model) (o : Submission) → Valid m → call m (submit o) .reply .refusal ≡ verdict
     ((not (known (o .tenant)), refusal.UnknownTenant)
     ∷ (ltb (o .nodes) 1 || ltb (m .settings .nodes) (o .nodes), refusal.NodesOutOfRange)
-    ∷ (ltb (o .estimate) 1 || ltb 10080 (o .estimate), refusal.MinutesOutOfRange)
+    ∷ (ltb (o .estimate) 1 || ltb (longest (m .settings)) (o .estimate), refusal.MinutesOutOfRange)
     ∷ (ltb (o .estimate) (o .least), refusal.LeastAboveMost)
     ∷ (leb (quota (m .settings) (o .tenant)) (liveOf (o .tenant) (m .jobs)), refusal.QuotaFull)
     ∷ (ltb 999999 (m .next), refusal.NoTicketLeft)

@@ -37,9 +37,12 @@ stateOf j = j .state
 abbrev endOf : Job → ℕ
 endOf j = j .end
 
--- a machine of 2 nodes, whose nodes are cleared for so many minutes
+-- a machine of 2 nodes, whose nodes are cleared for so many minutes, with a longest estimate
+abbrev pub limited : (longest cleanup : ℕ) → Settings
+limited l k = record { kind = Conservative; nodes = 2; cleanup = k; «quota_a» = 63; «quota_b» = 1; longest = l }
+
 abbrev pub machine : ℕ → Settings
-machine k = record { kind = Conservative; nodes = 2; cleanup = k; «quota_a» = 63; «quota_b» = 1 }
+machine k = limited 10080 k
 
 abbrev cleared : ℕ → ℕ → Model
 cleared k minute = opening (record { settings = machine k; minute = minute; ticket = 1 })
@@ -67,6 +70,10 @@ alone minute n e = call (fresh minute) (submit (order n e)) .reply .refusal
 
 abbrev alone-cleared : ℕ → ℕ → ℕ → Refusal
 alone-cleared minute n e = call (cleared 30 minute) (submit (order n e)) .reply .refusal
+
+-- the answer to the first job of a machine with that longest estimate
+abbrev alone-limited : (longest estimate : ℕ) → Refusal
+alone-limited l e = call (opening (record { settings = limited l 0; minute = 0; ticket = 1 })) (submit (order 1 e)) .reply .refusal
 
 -- two jobs on both nodes, one after another, with 7 minutes of clearing: at 0, at 5 and at 12, where the second starts; and the first ended
 -- in the minute of its start
@@ -155,10 +162,14 @@ pub examples : (ticketsOf (figure2 .jobs) ≡ 1 ∷ 2 ∷ 3 ∷ 4 ∷ [])
     × (map endOf (at-once .jobs) ≡ 0 ∷ 0 ∷ [])
     × (map startOf (at-once .jobs) ≡ 0 ∷ 7 ∷ [])
     × (call over (complete 1) .reply .refusal ≡ refusal.NotRunning)
+    -- document 02, No. 6: "The limit on estimates reads the setting", not its held time, which is 510
+    × (alone-limited 481 481 ≡ refusal.None)
+    × (alone-limited 481 482 ≡ refusal.MinutesOutOfRange)
 unfolding
     opening
     openingRefusal
     verdict
+    times.longest
     times.cleanup
     times.runTime
     times.holdTime
@@ -184,4 +195,4 @@ unfolding
     ticked
     call
     replan
-examples = (refl, refl, refl, refl, refl, refl, refl, refl, refl, refl, refl, refl, refl, refl, refl, refl, refl, refl, refl, refl, refl, refl, refl, refl, refl, refl, refl, refl, refl, refl, refl, refl, refl, refl, refl, refl)
+examples = (refl, refl, refl, refl, refl, refl, refl, refl, refl, refl, refl, refl, refl, refl, refl, refl, refl, refl, refl, refl, refl, refl, refl, refl, refl, refl, refl, refl, refl, refl, refl, refl, refl, refl, refl, refl, refl, refl)

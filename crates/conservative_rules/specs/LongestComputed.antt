@@ -18,8 +18,8 @@ use Rattle.scheduler.specs.Refusals as refusals
 use Rattle.scheduler.specs.Opening.{openingRefusal, opening}
 use Rattle.history.specs.Calls.{submit, order, tick, after}
 use Rattle.conservative_rules.specs.Conservative.{planned, submitRefusal, submitted, advanced, ticked, call}
-use Rattle.conservative_rules.specs.Computed.{machine}
-use Rattle.conservative_rules.specs.LongestEstimate.{inTime, inquiryRefusal}
+use Rattle.conservative_rules.specs.Computed.{limited, machine}
+use Rattle.conservative_rules.specs.LongestEstimate.{inTime, longestFor, inquiryRefusal}
 
 -- two nodes, cleared for so many minutes; one runs until 10, and both are promised from then on, or once they are cleared
 abbrev two : (cleanup minute : ℕ) → Model
@@ -39,6 +39,10 @@ by t n w = record { nodes = n; tenant = t; minute = w }
 abbrev upTo40 : Model → (nodes minute : ℕ) → ℕ
 upTo40 m n w = greatest (inTime m (by A n w)) 40
 
+-- the largest of all, where the longest estimate is 12
+abbrev upTo12 : ℕ → ℕ
+upTo12 minute = longestFor (opening (record { settings = limited 12 0; minute = minute; ticket = 1 })) (by A 1 minute)
+
 pub examples : (upTo40 (busy 0) 1 0 ≡ 10)
     -- an estimate, not a held time: 7 minutes are free, and an estimate of 6 holds 10
     × (upTo40 later 1 3 ≡ 5)
@@ -53,6 +57,10 @@ pub examples : (upTo40 (busy 0) 1 0 ≡ 10)
     × (upTo40 (two 0 999990) 1 999990 ≡ 10)
     × (upTo40 (two 0 999990) 1 1000001 ≡ 10)
     × (upTo40 (two 5 999988) 1 999988 ≡ 5)
+    -- "An estimate, not a held time": 12 is held for 15 minutes
+    × (upTo12 0 ≡ 12)
+    × (upTo12 999985 ≡ 12)
+    × (upTo12 999986 ≡ 10)
     -- 21 comes ahead of 14, 14 of 1, and 6 is that of an estimate of 1
     × (inquiryRefusal later (by Nobody 3 2) ≡ refusal.WantedMinutePast)
     × (inquiryRefusal later (by Nobody 3 3) ≡ refusal.UnknownTenant)
@@ -60,5 +68,5 @@ pub examples : (upTo40 (busy 0) 1 0 ≡ 10)
     × (inquiryRefusal later (by A 2 3) ≡ refusal.None)
     × (inquiryRefusal (two 0 999995) (by A 1 999995) ≡ refusal.None)
     × (inquiryRefusal (two 0 999996) (by A 1 999996) ≡ refusal.PastHorizon)
-unfolding greatest verdict openingRefusal opening planned submitRefusal submitted advanced ticked call inTime inquiryRefusal times.cleanup times.runTime times.holdTime times.endOf times.until refusals.tickRefusal spans.takes spans.lastEnd spans.fits spans.earliest spans.changes spans.points spans.profile
-examples = (refl, refl, refl, refl, refl, refl, refl, refl, refl, refl, refl, refl, refl, refl, refl, refl)
+unfolding greatest verdict openingRefusal opening planned submitRefusal submitted advanced ticked call inTime longestFor inquiryRefusal times.longest times.cleanup times.runTime times.holdTime times.endOf times.until refusals.tickRefusal spans.takes spans.lastEnd spans.fits spans.earliest spans.changes spans.points spans.profile
+examples = (refl, refl, refl, refl, refl, refl, refl, refl, refl, refl, refl, refl, refl, refl, refl, refl, refl, refl, refl)

@@ -256,17 +256,20 @@ refused-same m tick a = judged-refused m (tickRefusal m) (advanced m (suc (m .cl
 refused-same m (unchanged r) a = refl
 
 -- Each refusal of a submission, with its conditions in the documents' order and no others. 14: "a house other than A or B"; 1: "stack nodes
--- 0 or above the rack's"; 2: "estimate .. outside 1 to 10,080"; 19: "least above most"; 15: "the house's places are all live"; 5: "ticket
--- 999,999 has been given"; 6: "now + r × 10,080 + held above it, r being the number waiting before plus one", and by document 02, No. 3, with the clearing in both
+-- 0 or above the rack's"; 2: "estimate .. outside 1 to 10,080", by document 02, No. 6, to the longest; 19: "least above most"; 15: "the house's
+-- places are all live"; 5: "ticket 999,999 has been given"; 6: "now + r × 10,080 + held above it, r being the number waiting before plus one",
+-- by document 02, No. 3, with the clearing in both, and by No. 6 with the longest estimate's held time
 pub submit-refusal : (m : Model) (o : Submission) → call m (submit o) .reply .refusal ≡ verdict
     ((not (known (o .tenant)), refusal.UnknownTenant)
     ∷ (ltb (o .nodes) 1 || ltb (m .settings .nodes) (o .nodes), refusal.NodesOutOfRange)
-    ∷ (ltb (o .estimate) 1 || ltb 10080 (o .estimate), refusal.MinutesOutOfRange)
+    ∷ (ltb (o .estimate) 1 || ltb (longest (m .settings)) (o .estimate), refusal.MinutesOutOfRange)
     ∷ (ltb (o .estimate) (o .least), refusal.LeastAboveMost)
     ∷ (leb (quota (m .settings) (o .tenant)) (liveOf (o .tenant) (m .jobs)), refusal.QuotaFull)
     ∷ (ltb 999999 (m .next), refusal.NoTicketLeft)
     ∷ (
-      ltb 1000000 (m .clock + suc (length (keep isWaiting (m .jobs))) * (10080 + cleanup (m .settings)) + (wallTime (o .estimate) + cleanup (m .settings))),
+      ltb 1000000
+          (m .clock + suc (length (keep isWaiting (m .jobs))) * (wallTime (longest (m .settings)) + cleanup (m .settings))
+          + (wallTime (o .estimate) + cleanup (m .settings))),
       refusal.PastHorizon,
     )
     ∷ [])
@@ -289,6 +292,9 @@ Because m o refusal.CleanupOutOfRange = ⊥
 Because m o refusal.QuotasOutOfRange = ⊥
 Because m o refusal.UnknownTenant = known (o .tenant) ≡ false
 Because m o refusal.QuotaFull = quota (m .settings) (o .tenant) ≤ liveOf (o .tenant) (m .jobs)
+Because m o refusal.LongestOutOfRange = ⊥
+Because m o refusal.ArrivalFalls = ⊥
+Because m o refusal.NoRunLength = ⊥
 Because m o refusal.LeastAboveMost = o .estimate < o .least
 Because m o refusal.BeforeLeast = ⊥
 Because m o refusal.WantedMinutePast = ⊥

@@ -229,6 +229,8 @@ pub sound-begin : (m : Model) (j : Job) → Sound m → Chosen m j → m .clock 
 sound-begin m j s c room = record {
   nodes-from = s .nodes-from;
   nodes-to = s .nodes-to;
+  longest-from = s .longest-from;
+  longest-to = s .longest-to;
   cleanup-to = s .cleanup-to;
   quotas = s .quotas;
   clock-to = s .clock-to;

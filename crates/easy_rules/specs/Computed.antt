@@ -1,5 +1,5 @@
--- Document 01's slips of the Loose Desk, one where two jobs might pass the head in one call, and document 02's clearing, houses and soonest
--- minute, computed from the definitions.
+-- Document 01's slips of the Loose Desk, one where two jobs might pass the head in one call, and document 02's clearing, houses, longest
+-- estimate and soonest minute, computed from the definitions.
 -- Assumes nothing.
 use mathlib.Core.Path.{_≡_, refl}
 use mathlib.Core.List.{List, [], _∷_, map}
@@ -22,13 +22,16 @@ use Rattle.easy_rules.specs.EarliestStart.{earliestStart}
 use Rattle.easy_rules.specs.Easy.{rank, shadow, extra, qualifies, pick, settle, forecast, finished, submitRefusal, advanced, call}
 
 -- 63 places are A's and one is B's
-abbrev cleared : (cleanup nodes minute : ℕ) → Model
-cleared cleanup nodes minute =
+abbrev limited : (longest cleanup nodes minute : ℕ) → Model
+limited longest cleanup nodes minute =
     opening (record {
-      settings = record { kind = Easy; nodes = nodes; cleanup = cleanup; «quota_a» = 63; «quota_b» = 1 };
+      settings = record { kind = Easy; nodes = nodes; cleanup = cleanup; «quota_a» = 63; «quota_b» = 1; longest = longest };
       minute = minute;
       ticket = 1;
     })
+
+abbrev cleared : (cleanup nodes minute : ℕ) → Model
+cleared cleanup nodes minute = limited 10080 cleanup nodes minute
 
 abbrev fresh : ℕ → ℕ → Model
 fresh nodes minute = cleared 0 nodes minute
@@ -75,6 +78,10 @@ over-at-1 = after call short (tick ∷ complete 1 ∷ [])
 -- the answer to a job of the longest estimate on a machine of 1 node that is cleared for 30 minutes
 abbrev longest : ℕ → Refusal
 longest minute = call (cleared 30 1 minute) (submit (order 1 10080)) .reply .refusal
+
+-- document 02, No. 6: the answer to the first job of a machine of 4 nodes whose longest estimate is 481, held for 510 minutes
+abbrev alone-limited : ℕ → ℕ → Refusal
+alone-limited minute e = call (limited 481 0 4 minute) (submit (order 1 e)) .reply .refusal
 
 -- the answer to a submission
 abbrev asking : Model → Submission → Refusal
@@ -153,6 +160,13 @@ pub examples : (call (call (fresh 10 0) (submit (order 6 20)) .model) (submit (o
     -- the last minute: now + r × (10,080 + clearing) + held + clearing. At 979,810 the sum without the last summand is 1,000,000
     × (longest 979780 ≡ refusal.None)
     × (longest 979810 ≡ refusal.PastHorizon)
+    -- document 02, No. 6: "the bound and last-minute rule of the Loose Desk read its held time, which may be greater"; 2 reads the setting, and
+    -- comes before 6
+    × (alone-limited 999470 20 ≡ refusal.None)
+    × (alone-limited 999470 21 ≡ refusal.PastHorizon)
+    × (alone-limited 998980 481 ≡ refusal.None)
+    × (alone-limited 998981 481 ≡ refusal.PastHorizon)
+    × (alone-limited 998981 482 ≡ refusal.MinutesOutOfRange)
     -- document 02, No. 4: "only its share and its live stacks' number decide a lack of places", running, waiting or in cleanup
     × (asking crowded (order 1 5) ≡ refusal.QuotaFull)
     × (asking crowded (orderOf B 1 5) ≡ refusal.None)
@@ -179,6 +193,7 @@ unfolding
     opening
     openingRefusal
     verdict
+    times.longest
     times.cleanup
     times.runTime
     times.holdTime
@@ -199,6 +214,11 @@ unfolding
     call
     earliestStart
 examples = (
+  refl,
+  refl,
+  refl,
+  refl,
+  refl,
   refl,
   refl,
   refl,

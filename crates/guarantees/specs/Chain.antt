@@ -11,6 +11,7 @@ use Rattle.scheduler.specs.declared.Opening.{Opening}
 use Rattle.scheduler.specs.declared.Outcome.{Outcome}
 use Rattle.scheduler.specs.declared.Refusal.{Refusal}
 use Rattle.scheduler.specs.declared.Scheduler.{Scheduler}
+use Rattle.scheduler.specs.declared.Settings.{Settings}
 use Rattle.scheduler.specs.Model.{Model, store, view}
 use Rattle.scheduler.specs.Answers.{Reply, answer, outcome, refuse}
 use Rattle.scheduler.specs.Opening.{opening}
@@ -22,6 +23,7 @@ use Rattle.guarantees.specs.Rules.{rulesOf, call}
 use Rattle.guarantees.specs.Premise.{Valid, Premise, call-premise, opening-valid, valid-view, call-valid}
 use Rattle.guarantees.specs.Statement.{bookOf}
 use Rattle.guarantees.specs.Proof.{demand3}
+use Rattle.guarantees.specs.Cleanup.{settings-stay}
 
 -- what a call's contract says that it gives
 abbrev pub gives : Scheduler → Call → Outcome
@@ -60,24 +62,25 @@ unchanged-refuses m r = by (m .settings .kind)
     by Easy = refl
 
 -- A way to make calls: `desk m` stands there for a model m, `answered r` for a reply r, and an answer says the reply `said`. Each call on
--- a valid model leaves and answers what its definition gives (`is`), and what is said is that reply (`back`).
-module _ {D A : Type 0} (Made : D → Call → A → D → Type 0) (desk : Model → D) (answered : Reply → A) (said : A → Reply)
-    (is : (m : Model) (c : Call) (a : A) (e : D) → Valid m → Made (desk m) c a e → (e ≡ desk (call m c .model)) × (a ≡ answered (call m c .reply)))
+-- a valid model with these settings leaves and answers what its definition gives (`is`), and what is said is that reply (`back`).
+module _ {D A : Type 0} (Made : D → Call → A → D → Type 0) (desk : Model → D) (answered : Reply → A) (said : A → Reply) (S : Settings)
+    (is : (m : Model) (c : Call) (a : A) (e : D) → Valid m → m .settings ≡ S → Made (desk m) c a e
+    → (e ≡ desk (call m c .model)) × (a ≡ answered (call m c .reply)))
     (back : (m : Model) (c : Call) → Valid m → said (answered (call m c .reply)) ≡ call m c .reply) where
   -- from a valid model on, what is left, the answers, and the events as the caller has them are those of the list of calls
-  pub made-all-is : (m : Model) {d : D} {cs : List Call} {xs : List A} {e : D} → Valid m → d ≡ desk m → MadeAll Made d cs xs e
+  pub made-all-is : (m : Model) {d : D} {cs : List Call} {xs : List A} {e : D} → Valid m → m .settings ≡ S → d ≡ desk m → MadeAll Made d cs xs e
       → (e ≡ desk (after call m cs)) × (xs ≡ map (λ (x : Event). answered (x .reply)) (events call m cs)) × (eventsOf cs (map said xs) ≡ events call m cs)
-  made-all-is m v q none = (q, refl, refl)
-  made-all-is m v q (next {e = e} {c = c} {a = a} one rest) =
-      let r = is m c a e v (subst (λ (x : D). Made x c a e) q one) in
-      let s = made-all-is (call m c .model) (call-valid m c v) (r .0) rest in
+  made-all-is m v w q none = (q, refl, refl)
+  made-all-is m v w q (next {e = e} {c = c} {a = a} one rest) =
+      let r = is m c a e v w (subst (λ (x : D). Made x c a e) q one) in
+      let s = made-all-is (call m c .model) (call-valid m c v) (settings-stay m (c ∷ []) v ∙ w) (r .0) rest in
       let t : said a ≡ call m c .reply = ap said (r .1) ∙ back m c v in
       (s .0, λ i. r .1 i ∷ s .1 i, λ i. record { call = c; reply = t i } ∷ s .2 i)
 
   -- from an opening on, the book of the calls made and the answers received has the guarantees (document 01: "demand 3")
-  pub made-keeps : (o : Opening) {cs : List Call} {xs : List A} {e : D} → MadeAll Made (desk (opening o)) cs xs e
+  pub made-keeps : (o : Opening) {cs : List Call} {xs : List A} {e : D} → opening o .settings ≡ S → MadeAll Made (desk (opening o)) cs xs e
       → (e ≡ desk (after call (opening o) cs)) × (xs ≡ map (λ (x : Event). answered (x .reply)) (events call (opening o) cs))
       × Guarantee (o .settings .kind) (opening o .settings) (bookOf (opening o) (eventsOf cs (map said xs)))
-  made-keeps o {cs} l =
-      let r = made-all-is (opening o) (opening-valid o) refl l in
+  made-keeps o {cs} w l =
+      let r = made-all-is (opening o) (opening-valid o) w refl l in
       (r .0, r .1, rw (r .2) (demand3 o cs))

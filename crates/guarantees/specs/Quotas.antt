@@ -13,7 +13,7 @@ use Rattle.scheduler.specs.declared.Submission.{Submission}
 use Rattle.scheduler.specs.declared.Refusal.{Refusal}
 use Rattle.scheduler.specs.declared.Refusal.the-variants as refusal
 use Rattle.scheduler.specs.Tenants.{known}
-use Rattle.scheduler.specs.Settings.{quota}
+use Rattle.scheduler.specs.Settings.{quota, longest}
 use Rattle.scheduler.specs.Table.{liveOf}
 use Rattle.scheduler.specs.Model.{Model}
 use Rattle.scheduler.specs.Answers.{code, verdict}
@@ -27,7 +27,7 @@ use Rattle.guarantees.specs.Premise.{ValidBy, Valid}
 pub record PassesBefore (m : Model) (o : Submission) : Type 0 where
   pub tenant : known (o .tenant) ≡ true
   pub nodes : (ltb (o .nodes) 1 || ltb (m .settings .nodes) (o .nodes)) ≡ false
-  pub estimate : (ltb (o .estimate) 1 || ltb 10080 (o .estimate)) ≡ false
+  pub estimate : (ltb (o .estimate) 1 || ltb (longest (m .settings)) (o .estimate)) ≡ false
   pub least : ltb (o .estimate) (o .least) ≡ false
 
 abbrev pub refusedBy15 : Model → Submission → Bool

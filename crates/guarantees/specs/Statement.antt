@@ -1,17 +1,17 @@
 -- The guarantees of both kinds of scheduler (document 01: "demand 3", "a single claim about the whole list"): the statement, and
 -- from what a kind owes of each call, its proof.
 -- Assumes nothing.
-use mathlib.Core.Path.{_≡_, refl, ap, subst}
+use mathlib.Core.Path.{_≡_, refl, ap, subst, _∙_}
 use mathlib.Core.List.{List, [], _∷_}
 use Prim.Native.Nat.{ℕ, _+_}
-use native.Mathlib.Omega.{arith}
 use lib.ListN.{take}
 use Rattle.lists.specs.Lists.{in-nil}
+use Rattle.walltime.specs.WallTime.{wallTime}
 use Rattle.scheduler.specs.declared.Kind.{Kind}
 use Rattle.scheduler.specs.declared.Opening.{Opening}
 use Rattle.scheduler.specs.declared.Settings.{Settings}
 use Rattle.scheduler.specs.Settings.{longest, cleanup, runTime, unit}
-use Rattle.scheduler.specs.Times.{cleanup-is, hold-is}
+use Rattle.scheduler.specs.Times.{longest-is, cleanup-is, hold-is}
 use Rattle.scheduler.specs.Model.{Model}
 use Rattle.scheduler.specs.Opening.{opening}
 use Rattle.jobs.specs.Soundness.{opening-sound}
@@ -33,12 +33,26 @@ bookFrom m b es = enterAll (unit (m .settings)) (cleanup (m .settings)) b es
 abbrev pub bookOf : Model → List Event → Book
 bookOf m es = bookFrom m (blank m) es
 
--- "Its bound is the clock at intake + r × 10,080": with clearing, "r × (10,080 + clearing)"; and nodes stay taken for clearing minutes after
--- the end of a run. Of every opening, since one with more than 30 minutes of clearing is refused
-pub unit-is : (o : Opening) → unit (opening o .settings) ≡ 10080 + opening o .settings .cleanup
+-- "Its bound is the clock at intake + r × 10,080": with clearing, "r × (10,080 + clearing)"; and by document 02, No. 6, "the bound and
+-- last-minute rule of the Loose Desk read its held time", that of the longest estimate. Of every opening, since one with more than 30 minutes of
+-- clearing is refused, and one with a longest estimate above 10,080
+pub unit-is : (o : Opening) → unit (opening o .settings) ≡ wallTime (opening o .settings .longest) + opening o .settings .cleanup
 unfolding unit runTime
-unit-is o = let S = opening o .settings in omega (arith, hold-is S (longest S), cleanup-is S (opening-sound o .cleanup-to))
+unit-is o =
+    let S = opening o .settings in
+    let s = opening-sound o in
+    hold-is S (longest S)
+    ∙ ap (λ (e : ℕ). wallTime e + cleanup S) (longest-is S (s .longest-to))
+    ∙ ap (λ (k : ℕ). wallTime (S .longest) + k) (cleanup-is S (s .cleanup-to))
 
+-- and where it is 10,080, as "elsewhere"
+pub unit-elsewhere : (o : Opening) → opening o .settings .longest ≡ 10080 → unit (opening o .settings) ≡ 10080 + opening o .settings .cleanup
+unit-elsewhere o e = unit-is o ∙ ap (λ (l : ℕ). wallTime l + opening o .settings .cleanup) e
+
+pub longest-is-set : (o : Opening) → longest (opening o .settings) ≡ opening o .settings .longest
+longest-is-set o = longest-is (opening o .settings) (opening-sound o .longest-to)
+
+-- nodes stay taken for clearing minutes after the end of a run
 pub cleanup-is-set : (o : Opening) → cleanup (opening o .settings) ≡ opening o .settings .cleanup
 cleanup-is-set o = cleanup-is (opening o .settings) (opening-sound o .cleanup-to)
 

@@ -9,6 +9,8 @@ use Prim.Native.Nat.{ℕ}
 use lib.Dec.{eqb}
 use lib.ListN.{length}
 use Rattle.scheduler.specs.declared.Opening.{Opening}
+use Rattle.scheduler.specs.declared.Settings.{Settings}
+use Rattle.scheduler.specs.Limits.{longestEstimate}
 use Rattle.scheduler.specs.Model.{Model, store, view}
 use Rattle.scheduler.specs.Answers.{Reply, answer, replyOf, noTickets}
 use Rattle.scheduler.specs.Opening.{opening, opened}
@@ -33,7 +35,7 @@ use Rattle.hingerota.specs.declared.Inquiry.{Inquiry}
 use Rattle.hingerota.specs.declared.Longest.{Longest}
 use Rattle.hingerota.specs.declared.Shown.{Shown}
 use Rattle.hingerota.specs.Mirror.{mirror, mirrorTickets, mirrorAnswer, read, read-mirror, readAnswer, read-answer}
-use Rattle.hingerota.specs.DeskPremise.{opens}
+use Rattle.hingerota.specs.DeskPremise.{opens, opening-longest}
 use Rattle.hingerota.specs.CallContract.{HostLeaves}
 use Rattle.hingerota.specs.ProfileContract.{HostShowsPoints}
 use Rattle.hingerota.specs.IndexContract.{HostShowsBlocks}
@@ -68,9 +70,10 @@ pub data HostMade (d : Desk) : Call → Answer → Desk → Type 0 where
   waitRefused : {n : ℕ} (minutes : ℕ) → n ≡ waitNumber d minutes → eqb n 0 ≡ false → HostMade d (unchanged (waitRefusalOn d minutes)) (refusedBy n) d
 
 -- where d mirrors a valid model, stored: what each leaves and answers is that of its definition
-module _ (m : Model) (v : Valid m) where
+module _ (m : Model) (v : Valid m) (w : m .settings .longest ≡ longestEstimate) where
   desk-view : view (read (mirror (store m))) ≡ m
-  desk-view = ap view (read-mirror (store m)) ∙ valid-view m v
+  unfolding store
+  desk-view = ap view (read-mirror (store m) w) ∙ valid-view m v
 
   made-is : {c : Call} {a : Answer} {e : Desk} → HostMade (mirror (store m)) c a e
       → (e ≡ mirror (store (call m c .model))) × (a ≡ mirrorAnswer (answer (call m c .reply)))
@@ -90,11 +93,13 @@ module _ (m : Model) (v : Valid m) where
   made-is (waitRefused {n} minutes e q) = rw (unchanged-refuses m (waitRefusalOn (mirror (store m)) minutes)) (refl, ap refusedBy e)
 
 -- From the desk that an opening hands back, a refused one too: desk and answers are those of the list of calls, and the book of the calls
--- made and the answers received has the guarantees (document 01: "demand 3").
-pub host-keeps : (o : Opening) (cs : List Call) (xs : List Answer) (e : Desk) → MadeAll HostMade (opens o .desk) cs xs e
+-- made and the answers received has the guarantees (document 01: "demand 3"). Of openings with the longest estimate that hosts have.
+pub host-keeps : (o : Opening) (cs : List Call) (xs : List Answer) (e : Desk) → o .settings .longest ≡ longestEstimate
+    → MadeAll HostMade (opens o .desk) cs xs e
     → (e ≡ mirror (store (after call (opening o) cs))) × (xs ≡ map (λ (x : Event). mirrorAnswer (answerOf x)) (events call (opening o) cs))
     × Guarantee (o .settings .kind) (opening o .settings) (bookOf (opening o) (eventsOf cs (map hostReply xs)))
 unfolding opened
-host-keeps o cs xs e l =
-    made-keeps HostMade (λ m. mirror (store m)) (λ r. mirrorAnswer (answer r)) hostReply (λ m c a d v. made-is m v)
-    (λ m c v. ap replyOf (read-answer (answer (call m c .reply))) ∙ reply-back m c v) o l
+host-keeps o cs xs e h l =
+    made-keeps HostMade (λ m. mirror (store m)) (λ r. mirrorAnswer (answer r)) hostReply (opening o .settings)
+    (λ m c a d v w. made-is m v (ap (λ (S : Settings). S .longest) w ∙ opening-longest o h))
+    (λ m c v. ap replyOf (read-answer (answer (call m c .reply))) ∙ reply-back m c v) o refl l

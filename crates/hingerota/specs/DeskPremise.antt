@@ -5,6 +5,7 @@ use mathlib.Core.Path.{_≡_, sym, ap, subst, _∙_}
 use mathlib.Core.List.{List, [], _∷_, map}
 use Prim.Native.Nat.{_≤_}
 use native.Mathlib.Omega.{arith}
+use Rattle.lists.specs.Tests.{case}
 use Rattle.lists.specs.Lists.{All}
 use Rattle.scheduler.specs.declared.Kind.{Kind}
 use Rattle.scheduler.specs.declared.Kind.the-variants.{Conservative, Easy}
@@ -14,12 +15,15 @@ use Rattle.scheduler.specs.declared.Job.{Job}
 use Rattle.scheduler.specs.declared.Opening.{Opening}
 use Rattle.scheduler.specs.declared.Scheduler.{Scheduler}
 use Rattle.scheduler.specs.declared.Outcome as scheduler-outcome
-use Rattle.scheduler.specs.Model.{view}
-use Rattle.scheduler.specs.Opening.{opened}
-use Rattle.scheduler.specs.Answers.{outcome}
+use Rattle.scheduler.specs.declared.Settings.{Settings}
+use Rattle.scheduler.specs.Limits.{longestEstimate}
+use Rattle.scheduler.specs.Model.{store, view}
+use Rattle.scheduler.specs.Opening.{openingRefusal, opening, opened}
+use Rattle.scheduler.specs.Answers.{accepts, outcome}
 use Rattle.history.specs.Calls.{Call}
 use Rattle.guarantees.specs.Rules.{call}
 use Rattle.guarantees.specs.Premise.{Premise, opened-premise, call-premise}
+use Rattle.guarantees.specs.Cleanup.{settings-stay}
 use Rattle.hingerota.specs.declared.Opening as host-opening
 use Rattle.hingerota.specs.declared.Desk.{Desk}
 use Rattle.hingerota.specs.declared.Record.{Record}
@@ -27,7 +31,7 @@ use Rattle.hingerota.specs.declared.Outcome.{Outcome}
 use Rattle.hingerota.specs.declared.Opened.{Opened}
 use Rattle.hingerota.specs.Mirror.{kindNumber, stateNumber, mirrorJob, mirror, read, read-mirror, mirrorOutcome, mirrorOpened}
 
--- the desk is the mirror of a scheduler that meets the premise
+-- the desk is the mirror of a scheduler that meets the premise, with the longest estimate that every desk is read with
 pub record Handed (d : Desk) : Type 0 where
   pub mirrored : d ≡ mirror (read d)
   pub premise : Premise (read d)
@@ -39,10 +43,10 @@ opens o = mirrorOpened (opened o)
 abbrev pub gives : Desk → Call → Outcome
 gives d c = mirrorOutcome (outcome (call (view (read d)) c))
 
--- what a host's opening asks, of a kind
+-- what a host's opening asks, of a kind; document 02, No. 6: "longest estimate (elsewhere 10,080)"
 abbrev openingOf : Kind → host-opening.Opening → Opening
 openingOf k o = record {
-  settings = record { kind = k; nodes = o .nodes; cleanup = o .cleanup; «quota_a» = o .«quota_a»; «quota_b» = o .«quota_b» };
+  settings = record { kind = k; nodes = o .nodes; cleanup = o .cleanup; «quota_a» = o .«quota_a»; «quota_b» = o .«quota_b»; longest = longestEstimate };
   minute = o .minute;
   ticket = o .ticket;
 }
@@ -53,14 +57,23 @@ promiseOpening o = openingOf Conservative o
 abbrev pub looseOpening : host-opening.Opening → Opening
 looseOpening o = openingOf Easy o
 
-mirror-handed : (s : Scheduler) → Premise s → Handed (mirror s)
-mirror-handed s h = record { mirrored = ap mirror (sym (read-mirror s)); premise = subst Premise (sym (read-mirror s)) h }
+mirror-handed : (s : Scheduler) → s .settings .longest ≡ longestEstimate → Premise s → Handed (mirror s)
+mirror-handed s l h = record { mirrored = ap mirror (sym (read-mirror s l)); premise = subst Premise (sym (read-mirror s l)) h }
 
-pub opened-handed : (o : Opening) → Handed (opens o .desk)
-opened-handed o = mirror-handed (opened o .scheduler) (opened-premise o)
+-- an opening with this longest estimate hands it back, refused or not, and calls keep the settings
+pub opening-longest : (o : Opening) → o .settings .longest ≡ longestEstimate → opening o .settings .longest ≡ longestEstimate
+unfolding opening
+opening-longest o e = case (accepts (openingRefusal o)) (λ a. rw a e) (λ a. rw a)
+
+pub opened-handed : (o : Opening) → o .settings .longest ≡ longestEstimate → Handed (opens o .desk)
+unfolding opened store
+opened-handed o e = mirror-handed (opened o .scheduler) (opening-longest o e) (opened-premise o)
 
 pub call-handed : (d : Desk) (c : Call) → Handed d → Handed (gives d c .desk)
-call-handed d c h = mirror-handed (outcome (call (view (read d)) c) .scheduler) (call-premise (read d) c (h .premise))
+unfolding store view read
+call-handed d c h =
+    mirror-handed (outcome (call (view (read d)) c) .scheduler) (ap (λ (S : Settings). S .longest) (settings-stay (view (read d)) (c ∷ []) (h .premise .holds)))
+    (call-premise (read d) c (h .premise))
 
 -- ## No other number stands for a kind or a state
 

@@ -3,7 +3,7 @@
 -- document 02, No. 3: a record in cleanup, "and no other, keeps its end"; No. 4: "Each record
 -- carries its house", its letter here.
 -- Assumes nothing.
-use mathlib.Core.Path.{_≡_, refl}
+use mathlib.Core.Path.{_≡_, refl, sym}
 use mathlib.Core.List.{List, [], _∷_, map}
 use mathlib.Core.Bool.{cond}
 use Prim.Native.Nat.{ℕ}
@@ -24,6 +24,7 @@ use Rattle.scheduler.specs.declared.Tickets as scheduler-tickets
 use Rattle.scheduler.specs.declared.Answer as scheduler-answer
 use Rattle.scheduler.specs.declared.Outcome as scheduler-outcome
 use Rattle.scheduler.specs.declared.Opened as scheduler-opened
+use Rattle.scheduler.specs.Limits.{longestEstimate}
 use Rattle.scheduler.specs.Jobs.{unused}
 use Rattle.scheduler.specs.Answers.{code}
 use Rattle.hingerota.specs.declared.Record.{Record}
@@ -101,9 +102,17 @@ readRecord r = record {
   end = r .end;
 }
 
+-- and the longest estimate, which a desk has no number for, as 10,080 (document 02, No. 6: "elsewhere 10,080")
 unfoldable pub read : Desk → Scheduler
 read d = record {
-  settings = record { kind = kindOf (d .kind); nodes = d .nodes; cleanup = d .cleanup; «quota_a» = d .«quota_a»; «quota_b» = d .«quota_b» };
+  settings = record {
+    kind = kindOf (d .kind);
+    nodes = d .nodes;
+    cleanup = d .cleanup;
+    «quota_a» = d .«quota_a»;
+    «quota_b» = d .«quota_b»;
+    longest = longestEstimate;
+  };
   clock = d .clock;
   next = d .next;
   jobs = map readRecord (d .jobs);
@@ -143,15 +152,16 @@ jobs-back : (js : List Job) → map readRecord (map mirrorJob js) ≡ js
 jobs-back [] = refl
 jobs-back (j ∷ js) = λ i. job-back j i ∷ jobs-back js i
 
-pub read-mirror : (d : Scheduler) → read (mirror d) ≡ d
+pub read-mirror : (d : Scheduler) → d .settings .longest ≡ longestEstimate → read (mirror d) ≡ d
 unfolding read mirror
-read-mirror d = λ i. record {
+read-mirror d e = λ i. record {
   settings = record {
     kind = kind-back (d .settings .kind) i;
     nodes = d .settings .nodes;
     cleanup = d .settings .cleanup;
     «quota_a» = d .settings .«quota_a»;
     «quota_b» = d .settings .«quota_b»;
+    longest = sym e i;
   };
   clock = d .clock;
   next = d .next;
@@ -192,9 +202,12 @@ refusalOf n =
     (cond (eqb n 13) refusal.QuotasOutOfRange
     (cond (eqb n 14) refusal.UnknownTenant
     (cond (eqb n 15) refusal.QuotaFull
+    (cond (eqb n 16) refusal.LongestOutOfRange
+    (cond (eqb n 17) refusal.ArrivalFalls
+    (cond (eqb n 18) refusal.NoRunLength
     (cond (eqb n 19) refusal.LeastAboveMost
     (cond (eqb n 20) refusal.BeforeLeast
-    (cond (eqb n 21) refusal.WantedMinutePast refusal.None)))))))))))))))
+    (cond (eqb n 21) refusal.WantedMinutePast refusal.None))))))))))))))))))
 
 abbrev pub readTickets : Tickets → scheduler-tickets.Tickets
 readTickets t = record { count = t .count; list = t .list }
@@ -226,6 +239,9 @@ refusal-back refusal.CleanupOutOfRange = refl
 refusal-back refusal.QuotasOutOfRange = refl
 refusal-back refusal.UnknownTenant = refl
 refusal-back refusal.QuotaFull = refl
+refusal-back refusal.LongestOutOfRange = refl
+refusal-back refusal.ArrivalFalls = refl
+refusal-back refusal.NoRunLength = refl
 refusal-back refusal.LeastAboveMost = refl
 refusal-back refusal.BeforeLeast = refl
 refusal-back refusal.WantedMinutePast = refl

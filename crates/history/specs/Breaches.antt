@@ -32,7 +32,7 @@ taken = takenFor A
 
 -- a machine of 10 nodes, with 63 places for A and one for B
 abbrev ten : Settings
-ten = record { kind = Easy; nodes = 10; cleanup = 0; «quota_a» = 63; «quota_b» = 1 }
+ten = record { kind = Easy; nodes = 10; cleanup = 0; «quota_a» = 63; «quota_b» = 1; longest = 10080 }
 
 -- a tick, with the tickets that end and those that start
 abbrev turned : List ℕ → List ℕ → Event

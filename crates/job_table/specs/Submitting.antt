@@ -18,9 +18,9 @@ use Rattle.scheduler.specs.declared.Settings.{Settings}
 use Rattle.scheduler.specs.declared.Submission.{Submission}
 use Rattle.scheduler.specs.declared.Refusal.{Refusal}
 use Rattle.scheduler.specs.declared.Scheduler.{Scheduler}
-use Rattle.scheduler.specs.Limits.{slots, longestEstimate, lastTicket, outside}
+use Rattle.scheduler.specs.Limits.{slots, lastTicket, outside}
 use Rattle.scheduler.specs.Tenants.{known}
-use Rattle.scheduler.specs.Settings.{quota}
+use Rattle.scheduler.specs.Settings.{quota, longest}
 use Rattle.scheduler.specs.Jobs.{unused}
 use Rattle.scheduler.specs.Table.{withJobs, ofTenant, liveOf}
 use Rattle.scheduler.specs.Model.{store, view, joined}
@@ -37,7 +37,7 @@ pub tests-more : (S : Settings) (live next : ℕ) (o : Submission) (more : List 
 unfolding verdict refusalBy
 tests-more S live next o more =
     case (known (o .tenant)) (λ k. rw k (case (outside 1 (S .nodes) (o .nodes)) (λ a. rw a)
-    (λ a. rw a (case (outside 1 longestEstimate (o .estimate)) (λ b. rw b)
+    (λ a. rw a (case (outside 1 (longest S) (o .estimate)) (λ b. rw b)
     (λ b. rw b (case (ltb (o .estimate) (o .least)) (λ e. rw e)
     (λ e. rw e (case (leb (quota S (o .tenant)) live) (λ c. rw c)
     (λ c. rw c (case (ltb lastTicket next) (λ d. rw d) (λ d. rw d)))))))))))

@@ -115,7 +115,7 @@ pub fn submit_refusal(s: Submission, settings: Settings, live: usize, next: u32)
     if scheduler::outside_range(s.nodes, 1, settings.nodes) {
         return Refusal::NodesOutOfRange;
     }
-    if scheduler::outside_range(s.estimate, 1, Scheduler::LONGEST_ESTIMATE) {
+    if scheduler::outside_range(s.estimate, 1, settings.longest()) {
         return Refusal::MinutesOutOfRange;
     }
     if s.estimate < s.least {

@@ -16,7 +16,7 @@ use Rattle.scheduler.specs.declared.Departure.the-variants.{Complete, Cancel}
 use Rattle.scheduler.specs.declared.Select.{Select}
 use Rattle.scheduler.specs.Jobs.{isCleaning, departsAs, picks}
 use Rattle.scheduler.specs.Settings.{longest, cleanup, runTime, holdTime, unit, endOf, until}
-use Rattle.scheduler.specs.Times.{cleanup-is, hold-is, end-is, until-is, until-cleaning}
+use Rattle.scheduler.specs.Times.{longest-is, cleanup-is, hold-is, end-is, until-is, until-cleaning}
 use Rattle.scheduler.specs.Table.{ends, leaves, staying, ceased}
 use Rattle.scheduler.specs.Model.{Model, ending, without}
 use Rattle.jobs.specs.Soundness.{Sound, SoundJob, Leaving, early, in-time, cleaning-holds, stays}
@@ -25,14 +25,14 @@ module _ (S : Settings) (z : S .cleanup ≡ 0) where
   cleanup-none : cleanup S ≡ 0
   cleanup-none = cleanup-is S (omega arith) ∙ z
 
-  -- "held time" is all that must fit, and the bound's unit is 10,080
+  -- "held time" is all that must fit, and the bound's unit is 10,080 if the longest estimate is
   pub hold-former : (e : ℕ) → holdTime S e ≡ wallTime e
   unfolding runTime
   hold-former e = omega (arith, hold-is S e, cleanup-none)
 
-  pub unit-former : unit S ≡ 10080
+  pub unit-former : S .longest ≡ 10080 → unit S ≡ 10080
   unfolding unit
-  unit-former = hold-former (longest S)
+  unit-former l = hold-former (longest S) ∙ ap wallTime (longest-is S (omega arith) ∙ l)
 
   -- nodes are free at the end
   pub until-former : (j : Job) → isCleaning j ≡ false → until S j ≡ j .start + wallTime (j .estimate)

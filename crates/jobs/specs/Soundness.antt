@@ -26,7 +26,7 @@ use Rattle.scheduler.specs.declared.Departure.the-variants.{Complete, Cancel}
 use Rattle.scheduler.specs.declared.Select.{Select}
 use Rattle.scheduler.specs.declared.Select.the-variants as select
 use Rattle.scheduler.specs.Limits as limit
-use Rattle.scheduler.specs.Limits.{maxNodes, lastTicket, longestCleanup, outside, misdivided}
+use Rattle.scheduler.specs.Limits.{maxNodes, lastTicket, longestEstimate, longestCleanup, outside, misdivided}
 use Rattle.scheduler.specs.States.{waiting?, running?, cleaning?, holding?}
 use Rattle.scheduler.specs.Tenants.{known, sameTenant}
 use Rattle.scheduler.specs.Jobs.{isLive, isRunning, isWaiting, isCleaning, isHolding, held, cleaning}
@@ -116,6 +116,8 @@ holds-short S clock j f r =
 pub record Sound (m : Model) : Type 0 where
   pub nodes-from : 1 ≤ m .settings .nodes
   pub nodes-to : m .settings .nodes ≤ maxNodes
+  pub longest-from : 1 ≤ m .settings .longest
+  pub longest-to : m .settings .longest ≤ longestEstimate
   pub cleanup-to : m .settings .cleanup ≤ longestCleanup
   -- "the 64 places are divided between them"
   pub quotas : m .settings .«quota_a» + m .settings .«quota_b» ≡ slots (m .settings)
@@ -156,11 +158,13 @@ both-tenants (j ∷ js) f = omega (arith, one (j .tenant) (f j (here refl)), bot
 
 -- ## Opening
 
-sound-empty : (S : Settings) (c t : ℕ) → 1 ≤ S .nodes → S .nodes ≤ maxNodes → S .cleanup ≤ longestCleanup → S .«quota_a» + S .«quota_b» ≡ limit.slots
-    → c ≤ limit.horizon → 1 ≤ t → t ≤ lastTicket → Sound (empty S c t)
-sound-empty S c t a b k g d e f = record {
+sound-empty : (S : Settings) (c t : ℕ) → 1 ≤ S .nodes → S .nodes ≤ maxNodes → 1 ≤ S .longest → S .longest ≤ longestEstimate
+    → S .cleanup ≤ longestCleanup → S .«quota_a» + S .«quota_b» ≡ limit.slots → c ≤ limit.horizon → 1 ≤ t → t ≤ lastTicket → Sound (empty S c t)
+sound-empty S c t a b l h k g d e f = record {
   nodes-from = a;
   nodes-to = b;
+  longest-from = l;
+  longest-to = h;
   cleanup-to = k;
   quotas = g;
   clock-to = d;
@@ -177,23 +181,27 @@ sound-empty S c t a b k g d e f = record {
 pub opening-sound : (o : Opening) → Sound (opening o)
 unfolding opening openingRefusal verdict
 opening-sound o =
-    case (outside 1 maxNodes (o .settings .nodes))
+    case (outside 1 longestEstimate (o .settings .longest))
+    (λ l. rw l refused)
+    (λ l. rw l (case (outside 1 maxNodes (o .settings .nodes))
     (λ p. rw p refused)
     (λ p. rw p (case (ltb limit.horizon (o .minute) || outside 1 lastTicket (o .ticket))
     (λ q. rw q refused)
     (λ q. rw q (case (ltb longestCleanup (o .settings .cleanup))
     (λ k. rw k refused)
-    (λ k. rw k (case (misdivided (o .settings .«quota_a») (o .settings .«quota_b»)) (λ g. rw g refused) (λ g. rw g (taken p q k g))))))))
+    (λ k. rw k (case (misdivided (o .settings .«quota_a») (o .settings .«quota_b»)) (λ g. rw g refused) (λ g. rw g (taken l p q k g))))))))))
   where
     refused : Sound (empty (refusedSettings (o .settings .kind)) 0 1)
     refused =
-        sound-empty (refusedSettings (o .settings .kind)) 0 1 (omega arith) (omega arith) (omega arith) refl (omega arith) (omega arith) (omega arith)
+        sound-empty (refusedSettings (o .settings .kind)) 0 1 (omega arith) (omega arith) (omega arith) (omega arith) (omega arith) refl (omega arith) (omega arith) (omega arith)
 
-    taken : outside 1 maxNodes (o .settings .nodes) ≡ false → (ltb limit.horizon (o .minute) || outside 1 lastTicket (o .ticket)) ≡ false
+    taken : outside 1 longestEstimate (o .settings .longest) ≡ false → outside 1 maxNodes (o .settings .nodes) ≡ false
+        → (ltb limit.horizon (o .minute) || outside 1 lastTicket (o .ticket)) ≡ false
         → ltb longestCleanup (o .settings .cleanup) ≡ false → misdivided (o .settings .«quota_a») (o .settings .«quota_b») ≡ false
         → Sound (empty (o .settings) (o .minute) (o .ticket))
-    taken p q k g =
+    taken l p q k g =
         let S = o .settings in
+        let z = neither (ltb (S .longest) 1) (ltb longestEstimate (S .longest)) l in
         let w = neither (not (eqb (S .«quota_a» + S .«quota_b») limit.slots) || eqb (S .«quota_a») 0) (eqb (S .«quota_b») 0) g in
         let x = neither (not (eqb (S .«quota_a» + S .«quota_b») limit.slots)) (eqb (S .«quota_a») 0) (w .0) in
         let y : S .«quota_a» + S .«quota_b» ≡ limit.slots = eqb-true (S .«quota_a» + S .«quota_b») limit.slots (not-false _ (x .0)) in
@@ -201,7 +209,7 @@ opening-sound o =
         let b = neither (ltb limit.horizon (o .minute)) (outside 1 lastTicket (o .ticket)) q in
         let c = neither (ltb (o .ticket) 1) (ltb lastTicket (o .ticket)) (b .1) in
         sound-empty (o .settings) (o .minute) (o .ticket) (ltb-false (o .settings .nodes) 1 (a .0)) (ltb-false maxNodes (o .settings .nodes) (a .1))
-        (ltb-false longestCleanup (o .settings .cleanup) k) y (ltb-false limit.horizon (o .minute) (b .0)) (ltb-false (o .ticket) 1 (c .0))
+        (ltb-false (S .longest) 1 (z .0)) (ltb-false longestEstimate (S .longest) (z .1)) (ltb-false longestCleanup (o .settings .cleanup) k) y (ltb-false limit.horizon (o .minute) (b .0)) (ltb-false (o .ticket) 1 (c .0))
         (ltb-false lastTicket (o .ticket) (c .1))
 
 -- ## Submission
@@ -281,6 +289,8 @@ pub sound-join : (m : Model) (o : Submission) (j : Job) → Sound m → Fit m o 
 sound-join m o j s f sj t u c = record {
   nodes-from = s .nodes-from;
   nodes-to = s .nodes-to;
+  longest-from = s .longest-from;
+  longest-to = s .longest-to;
   cleanup-to = s .cleanup-to;
   quotas = s .quotas;
   clock-to = s .clock-to;
@@ -443,6 +453,8 @@ pub sound-leave : (m : Model) (c : ℕ) (s : Select) → Sound m → Leaving m c
 sound-leave m c s v l = record {
   nodes-from = v .nodes-from;
   nodes-to = v .nodes-to;
+  longest-from = v .longest-from;
+  longest-to = v .longest-to;
   cleanup-to = v .cleanup-to;
   quotas = v .quotas;
   clock-to = clock-low l;

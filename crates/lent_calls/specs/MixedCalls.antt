@@ -85,4 +85,4 @@ pub mixed-keeps : (o : Opening) (cs : List Call) (xs : List Answer) (e : Schedul
     → (e ≡ store (after call (opening o) cs)) × (xs ≡ map answerOf (events call (opening o) cs))
     × Guarantee (o .settings .kind) (opening o .settings) (bookOf (opening o) (eventsOf cs (map replyOf xs)))
 unfolding opened
-mixed-keeps o cs xs e l = made-keeps Made store answer replyOf (λ m c a d v. made-is m v) reply-back o l
+mixed-keeps o cs xs e l = made-keeps Made store answer replyOf (opening o .settings) (λ m c a d v w. made-is m v) reply-back o refl l

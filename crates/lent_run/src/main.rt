@@ -286,7 +286,7 @@ fn print_kind(kind: Kind) {
     ;
 }
 
-// The refusal, and the scheduler handed back: its kind, nodes, cleanup, quotas, clock, next ticket and number of live jobs.
+// The refusal, and the scheduler handed back: its kind, nodes, cleanup, quotas, longest estimate, clock, next ticket and number of live jobs.
 fn print_opened(opened: Opened)
     requires { ⌜ Holds Sound (opened .scheduler) ⌝ }
 {
@@ -300,13 +300,21 @@ fn print_opened(opened: Opened)
     print(d.settings.cleanup);
     print(d.settings.quota_a);
     print(d.settings.quota_b);
+    print(d.settings.longest);
     print(d.clock);
     print(d.next);
     print_count(job_table::first_unused(d));
     io::write_all(STDOUT_FILENO, b"\n");
 }
 
-fn open(kind: Kind, nodes: u32, minute: u32, cleanup: u32, quota_a: u32) -> Scheduler
+fn open_up_to(
+    kind: Kind,
+    nodes: u32,
+    minute: u32,
+    cleanup: u32,
+    quota_a: u32,
+    longest: u32,
+) -> Scheduler
     ensures { λ r. ⌜ Premise r ⌝ }
 {
     let opened = Scheduler::open(Opening {
@@ -316,12 +324,26 @@ fn open(kind: Kind, nodes: u32, minute: u32, cleanup: u32, quota_a: u32) -> Sche
             cleanup: cleanup,
             quota_a: quota_a,
             quota_b: 1,
+            longest: longest,
         },
         minute: minute,
         ticket: 1,
     });
     print_opened(opened);
     opened.scheduler
+}
+
+fn open(kind: Kind, nodes: u32, minute: u32, cleanup: u32, quota_a: u32) -> Scheduler
+    ensures { λ r. ⌜ Premise r ⌝ }
+{
+    open_up_to(
+        kind,
+        nodes,
+        minute,
+        cleanup,
+        quota_a,
+        Scheduler::LONGEST_ESTIMATE,
+    )
 }
 
 fn main() {
@@ -403,4 +425,20 @@ fn main() {
     let l3 = submit(l2, 1, 5, Tenant::B);
     let l4 = submit(l3, 1, 5, Tenant::A);
     let l5 = submit(l4, 11, 5, Tenant::Nobody);
+    // a longest estimate outside its range is refused ahead of all else
+    open_up_to(Kind::Conservative, 10, 5, 7, 63, 0);
+    open_up_to(Kind::Easy, 0, 5, 31, 62, 10081);
+    // up to 60 minutes, and no estimate above
+    let n = open_up_to(Kind::Conservative, 10, 0, 7, 63, 60);
+    let n1 = submit(n, 4, 60, Tenant::A);
+    let n2 = submit(n1, 4, 61, Tenant::A);
+    longest(n2, 6, Tenant::A, 0);
+    longest(n2, 7, Tenant::A, 66);
+    longest(n2, 7, Tenant::A, 67);
+    // the last minute is judged by 60 minutes for each that waits
+    let p = open_up_to(Kind::Easy, 10, 999880, 0, 63, 60);
+    let p1 = submit(p, 1, 60, Tenant::A);
+    let p2 = submit(p1, 10, 60, Tenant::A);
+    let p3 = submit(p2, 1, 5, Tenant::A);
+    let p4 = submit(p3, 1, 61, Tenant::A);
 }

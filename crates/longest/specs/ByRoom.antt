@@ -102,4 +102,4 @@ module _ (d : Scheduler) (q : Inquiry) (h : Holds Valid d) where
         pub never-given : e′ ≡ 0 → record { refusal = refusal.PastHorizon; estimate = 0 } ≡ longestEstimate m q
         never-given z =
             answer-refused m q refusal.PastHorizon
-            (refused-as-one m q l ∙ room-past m q f (λ r. omega (arith, room-most clock-to w′ g′ 1 (omega arith) (omega arith) r))) refl
+            (refused-as-one m q l ∙ room-past m q f (λ r. omega (arith, room-most clock-to w′ g′ 1 (omega arith) (f .estimate-to) r))) refl

@@ -20,6 +20,7 @@ use Rattle.text.specs.Numbers.{numberOf, before, leading, numbersFrom}
 use Rattle.text.specs.Fields.{fieldsOf, fieldOf}
 use Rattle.text.specs.FieldLaws.{from-first}
 use Rattle.text.specs.Words.{isWord}
+use Rattle.scheduler.specs.Limits.{longestEstimate}
 use Rattle.scheduler.specs.declared.Kind.{Kind}
 use Rattle.scheduler.specs.declared.Opening.{Opening}
 use Rattle.scheduler.specs.declared.Departure.{Departure}
@@ -130,7 +131,7 @@ module _ {A : Type 0} where
 -- what the numbers of each line say
 abbrev pub openingOf : Kind → List ℕ → Option Opening
 openingOf k vs = some (record {
-  settings = record { kind = k; nodes = getD vs 0 0; cleanup = getD vs 3 0; «quota_a» = getD vs 4 0; «quota_b» = getD vs 5 0 };
+  settings = record { kind = k; nodes = getD vs 0 0; cleanup = getD vs 3 0; «quota_a» = getD vs 4 0; «quota_b» = getD vs 5 0; longest = longestEstimate };
   minute = getD vs 1 0;
   ticket = getD vs 2 0;
 })

@@ -6,6 +6,7 @@ use scheduler::Departure;
 use scheduler::Kind;
 use scheduler::Opening;
 use scheduler::Request;
+use scheduler::Scheduler;
 use scheduler::Settings;
 use scheduler::Submission;
 use scheduler::Tenant;
@@ -70,6 +71,7 @@ fn opening(named: Named, given: Numbers) -> FirstLine
             cleanup: v[3],
             quota_a: v[4],
             quota_b: v[5],
+            longest: Scheduler::LONGEST_ESTIMATE,
         },
         minute: v[1],
         ticket: v[2],

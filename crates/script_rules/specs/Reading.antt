@@ -15,6 +15,7 @@ use Rattle.text.specs.Fields.{fieldsOf, fieldOf}
 use Rattle.text.specs.Numbers.{numberOf}
 use Rattle.text.specs.Letters.{capitalOf}
 use Rattle.text.specs.Words.{isWord}
+use Rattle.scheduler.specs.Limits.{longestEstimate}
 use Rattle.scheduler.specs.Tenants.{tenantOf}
 use Rattle.scheduler.specs.declared.Kind.{Kind}
 use Rattle.scheduler.specs.declared.Kind.the-variants.{Conservative, Easy}
@@ -67,13 +68,18 @@ abbrev pub withKind : {A : Type 0} → Option Kind → (Kind → Option A) → O
 withKind (some k) f = f k
 withKind none f = none
 
+-- document 02, No. 6: "longest estimate (elsewhere 10,080)"
 unfoldable pub openingIn : List ℕ → Option Opening
 openingIn s =
     cond
     (hasForm s 8 deskWord)
     (withKind (kindOf (fieldOf s 1)) (λ k. withNumber (numberAt s 2) (λ n. withNumber (numberAt s 3) (λ m. withNumber (numberAt s 4) (λ t.
     withNumber (numberAt s 5) (λ c. withNumber (numberAt s 6) (λ a. withNumber (numberAt s 7) (λ b.
-    some (record { settings = record { kind = k; nodes = n; cleanup = c; «quota_a» = a; «quota_b» = b }; minute = m; ticket = t })))))))))
+    some (record {
+      settings = record { kind = k; nodes = n; cleanup = c; «quota_a» = a; «quota_b» = b; longest = longestEstimate };
+      minute = m;
+      ticket = t;
+    })))))))))
     none
 
 -- a job of the house with this letter

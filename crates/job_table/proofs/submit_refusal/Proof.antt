@@ -1,15 +1,16 @@
 -- `job_table::submit_refusal` meets its contract. Each test by its number.
 -- Assumes nothing.
-use mathlib.Core.Path.{_≡_, sym, _∙_}
-use mathlib.Core.Bool.{true, false}
+use Prim.Native.Nat.{ℕ}
+use mathlib.Core.Path.{_≡_, sym, ap, _∙_}
+use mathlib.Core.Bool.{Bool, true, false}
 use mathlib.Core.List.{[], _∷_}
 use lib.Dec.{leb, ltb}
 use borrow.Author.Needs.{needs}
 use borrow.Author.Tests.{le-leb, lt-leb, lt-ltb, le-ltb, not-true, not-false}
 use Rattle.scheduler.specs.declared.Refusal.the-variants as refusal
-use Rattle.scheduler.specs.Limits.{longestEstimate, lastTicket, outside}
+use Rattle.scheduler.specs.Limits.{lastTicket, outside}
 use Rattle.scheduler.specs.Tenants.{known}
-use Rattle.scheduler.specs.Settings.{quota}
+use Rattle.scheduler.specs.Settings.{quota, longest}
 use Rattle.scheduler.specs.Answers.{verdict}
 use Rattle.job_table.specs.Parts.{refusalBy}
 use Rattle.job_table.proofs.submit_refusal.Statement.{statement}
@@ -34,20 +35,27 @@ returns-2 c =
     let a : outside 1 (x .settings .nodes) (x .s .nodes) ≡ true = sym (w .outside-range .ensures) ∙ c .if2 .taken in
     rw (is-one (w .before), a)
 
+-- the estimate is judged by the setting
+in-range : (v : tie.After-outside-range2) (b : Bool) → v .outside-range2 .result ≡ b
+    → let x = v .before .before .before .before .before .before .args in
+    outside 1 (longest (x .settings)) (x .s .estimate) ≡ b
+in-range v b r =
+    let x = v .before .before .before .before .before .before .args in
+    ap (λ (n : ℕ). outside 1 n (x .s .estimate)) (sym (v .before .longest .ensures)) ∙ sym (v .outside-range2 .ensures) ∙ r
+
 returns-3 : tie.Need-returns-3
 unfolding verdict refusalBy
 returns-3 c =
     let v = c .before in
-    let e = v .before in
+    let e = v .before .before in
     let w = e .before in
     let x = w .before .before .before .args in
     let a : outside 1 (x .settings .nodes) (x .s .nodes) ≡ false = sym (w .outside-range .ensures) ∙ e .if2 .left in
-    let b : outside 1 longestEstimate (x .s .estimate) ≡ true = sym (v .outside-range2 .ensures) ∙ c .if3 .taken in
-    rw (is-one (w .before), a, b)
+    rw (is-one (w .before), a, in-range v true (c .if3 .taken))
 
 -- tenant, nodes and estimate pass: the tests that are left
 rest : (c : tie.Else3)
-    → let x = c .before .before .before .before .before .before .args in
+    → let x = c .before .before .before .before .before .before .before .args in
     refusalBy (x .settings) (x .live) (x .next) (x .s)
     ≡ verdict
     ((ltb (x .s .estimate) (x .s .least), refusal.LeastAboveMost)
@@ -57,11 +65,11 @@ rest : (c : tie.Else3)
 unfolding verdict refusalBy
 rest c =
     let v = c .before in
-    let w = v .before .before in
+    let e = v .before .before in
+    let w = e .before in
     let x = w .before .before .before .args in
-    let a : outside 1 (x .settings .nodes) (x .s .nodes) ≡ false = sym (w .outside-range .ensures) ∙ v .before .if2 .left in
-    let b : outside 1 longestEstimate (x .s .estimate) ≡ false = sym (v .outside-range2 .ensures) ∙ c .if3 .left in
-    rw (is-one (w .before), a, b)
+    let a : outside 1 (x .settings .nodes) (x .s .nodes) ≡ false = sym (w .outside-range .ensures) ∙ e .if2 .left in
+    rw (is-one (w .before), a, in-range v false (c .if3 .left))
 
 returns-4 : tie.Need-returns-4
 unfolding verdict
@@ -69,7 +77,7 @@ returns-4 c = rw (rest (c .before .before), lt-ltb _ _ (c .if4 .taken))
 
 -- and the least is at most the most
 last : (q : tie.After-quota)
-    → let x = q .before .before .before .before .before .before .before .before .before .args in
+    → let x = q .before .before .before .before .before .before .before .before .before .before .args in
     refusalBy (x .settings) (x .live) (x .next) (x .s)
     ≡ verdict ((leb (q .quota .result) (x .live), refusal.QuotaFull) ∷ (ltb lastTicket (x .next), refusal.NoTicketLeft) ∷ [])
 unfolding verdict
@@ -89,5 +97,5 @@ returns-7 c = rw (last (c .before .before), lt-leb _ _ (c .before .if5 .left), l
 
 pub submit-refusal-spec : {M : Type 1} → statement M
 submit-refusal-spec =
-    tie.close (tie.spec (λ c κs. search needs) returns (λ c κs. search needs) returns-2 (λ c κs. search needs) returns-3 returns-4
-    (λ c κs. search needs) (λ c. search needs) returns-5 returns-6 returns-7)
+    tie.close (tie.spec (λ c κs. search needs) returns (λ c κs. search needs) returns-2 (λ c κs. search needs) (λ c κs. search needs)
+    returns-3 returns-4 (λ c κs. search needs) (λ c. search needs) returns-5 returns-6 returns-7)

@@ -1,4 +1,4 @@
--- `lent_run::open` meets its contract.
+-- `lent_run::open_up_to` meets its contract.
 -- Assumes nothing.
 use Rattle.scheduler.specs.Opening.{opening, opened}
 use Rattle.scheduler.specs.declared.Opening.{Opening}
@@ -6,8 +6,8 @@ use Rattle.jobs.specs.Soundness.{Sound, opening-sound, all-live}
 use Rattle.jobs.specs.Premise.{Holds, store-holds}
 use Rattle.guarantees.specs.Premise.{opened-held}
 use borrow.Author.Needs.{needs}
-use Rattle.lent_run.proofs.open.Statement.{statement}
-use Rattle.lent_run.proofs.open.Tie as tie
+use Rattle.lent_run.proofs.open_up_to.Statement.{statement}
+use Rattle.lent_run.proofs.open_up_to.Tie as tie
 
 opened-sound : (o : Opening) → Holds Sound (opened o .scheduler)
 unfolding opened
@@ -19,5 +19,5 @@ print-opened-requires c κs = rw (c .«open» .ensures) (opened-sound _)
 returns : tie.Need-returns
 returns c = opened-held _ _ (c .before .before .«open» .ensures)
 
-pub open-spec : {M : Type 1} → statement M
-open-spec = tie.close (tie.spec (λ c κs. search needs) print-opened-requires returns)
+pub open-up-to-spec : {M : Type 1} → statement M
+open-up-to-spec = tie.close (tie.spec (λ c κs. search needs) print-opened-requires returns)
