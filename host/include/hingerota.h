@@ -68,6 +68,7 @@ enum {
     HINGEROTA_QUOTAS_OUT_OF_RANGE = 13,  /* an opening with quotas that are not 64 together, or with one of 0 */
     HINGEROTA_UNKNOWN_TENANT = 14,       /* a job of neither tenant */
     HINGEROTA_QUOTA_FULL = 15,           /* the tenant has as many live jobs as its quota */
+    /* 9 and 16 to 18 are given to no host: sheets and seasons alone have them */
     HINGEROTA_LEAST_ABOVE_MOST = 19,     /* a job whose least is above its estimate */
     HINGEROTA_BEFORE_LEAST = 20,         /* a running job that would be over before its start + its least */
     HINGEROTA_WANTED_MINUTE_PAST = 21    /* an inquiry whose minute is before the clock */

@@ -4,7 +4,7 @@
 use Prim.Native.Nat.{ℕ, _+_, _≤_, _<_}
 use native.Mathlib.Omega.{arith}
 use mathlib.Core.Path.{_≡_, refl, sym, ap, _∙_}
-use mathlib.Core.Bool.{true, false}
+use mathlib.Core.Bool.{true, false, not}
 use mathlib.Core.List.{[], _∷_}
 use mathlib.Core.Logic.{_⊎_, inl, inr}
 use lib.Dec.{leb, ltb}
@@ -17,14 +17,18 @@ use Rattle.scheduler.specs.declared.Inquiry.{Inquiry}
 use Rattle.scheduler.specs.declared.Refusal.{Refusal}
 use Rattle.scheduler.specs.declared.Refusal.the-variants as refusal
 use Rattle.scheduler.specs.declared.Settings.{Settings}
-use Rattle.scheduler.specs.Settings.{horizon, longest, holdTime}
-use Rattle.scheduler.specs.Times.{hold-mono}
+use Rattle.scheduler.specs.Limits.{lastTicket, outside}
+use Rattle.scheduler.specs.Tenants.{known}
+use Rattle.scheduler.specs.Settings.{horizon, quota, longest, holdTime}
+use Rattle.scheduler.specs.Times.{longest-is, hold-mono}
+use Rattle.scheduler.specs.Table.{liveOf}
 use Rattle.scheduler.specs.Model.{Model}
 use Rattle.scheduler.specs.Answers.{Result, verdict, accepts}
 use Rattle.jobs.specs.Judgement.{accepts-none, judged-refusal, judged-accepted}
 use Rattle.jobs.specs.Soundness.{Fit, passed, submit-fit, fit-passes}
 use Rattle.conservative_rules.specs.Conservative.{spans, planned, submitRefusal, submitted, call}
 use Rattle.conservative_rules.specs.LongestEstimate.{asking, replyTo, inTime, longestFor, inquiryRefusal, longestEstimate}
+use Rattle.conservative_laws.specs.Validity.{Valid}
 
 module _ (m : Model) (q : Inquiry) where
   abbrev S : Settings
@@ -121,6 +125,20 @@ module _ (m : Model) (q : Inquiry) where
   pub refused-as-one : m .clock ≤ q .minute → inquiryRefusal m q ≡ replyTo m q 1 .refusal
   unfolding inquiryRefusal
   refused-as-one l = rw (le-ltb (q .minute) (m .clock) l)
+
+  -- An estimate of 1 is within every longest estimate, so that 2 never does, nor 19: in this order 21, 14, 1, 15, 5, 6
+  pub inquiry-refusal : Valid m → inquiryRefusal m q ≡ verdict
+      ((ltb (q .minute) (m .clock), refusal.WantedMinutePast)
+      ∷ (not (known (q .tenant)), refusal.UnknownTenant)
+      ∷ (outside 1 (S .nodes) (q .nodes), refusal.NodesOutOfRange)
+      ∷ (leb (quota S (q .tenant)) (liveOf (q .tenant) (m .jobs)), refusal.QuotaFull)
+      ∷ (ltb lastTicket (m .next), refusal.NoTicketLeft)
+      ∷ (ltb (horizon S) (start 1 + hold 1), refusal.PastHorizon)
+      ∷ [])
+  unfolding inquiryRefusal verdict submitRefusal
+  inquiry-refusal v =
+      let w = longest-is S (v .sound .longest-to) in
+      rw (refusal-is 1, le-ltb (longest S) 1 (omega (arith, w, v .sound .longest-from)))
 
   -- which the answer gives
   pub refusal-given : longestEstimate m q .refusal ≡ inquiryRefusal m q

@@ -46,7 +46,14 @@ gives d c = mirrorOutcome (outcome (call (view (read d)) c))
 -- what a host's opening asks, of a kind; document 02, No. 6: "longest estimate (elsewhere 10,080)"
 abbrev openingOf : Kind → host-opening.Opening → Opening
 openingOf k o = record {
-  settings = record { kind = k; nodes = o .nodes; cleanup = o .cleanup; «quota_a» = o .«quota_a»; «quota_b» = o .«quota_b»; longest = longestEstimate };
+  settings = record {
+    kind = k;
+    nodes = o .nodes;
+    cleanup = o .cleanup;
+    «quota_a» = o .«quota_a»;
+    «quota_b» = o .«quota_b»;
+    longest = longestEstimate;
+  };
   minute = o .minute;
   ticket = o .ticket;
 }
@@ -72,8 +79,8 @@ opened-handed o e = mirror-handed (opened o .scheduler) (opening-longest o e) (o
 pub call-handed : (d : Desk) (c : Call) → Handed d → Handed (gives d c .desk)
 unfolding store view read
 call-handed d c h =
-    mirror-handed (outcome (call (view (read d)) c) .scheduler) (ap (λ (S : Settings). S .longest) (settings-stay (view (read d)) (c ∷ []) (h .premise .holds)))
-    (call-premise (read d) c (h .premise))
+    mirror-handed (outcome (call (view (read d)) c) .scheduler)
+    (ap (λ (S : Settings). S .longest) (settings-stay (view (read d)) (c ∷ []) (h .premise .holds))) (call-premise (read d) c (h .premise))
 
 -- ## No other number stands for a kind or a state
 

@@ -193,7 +193,8 @@ opening-sound o =
   where
     refused : Sound (empty (refusedSettings (o .settings .kind)) 0 1)
     refused =
-        sound-empty (refusedSettings (o .settings .kind)) 0 1 (omega arith) (omega arith) (omega arith) (omega arith) (omega arith) refl (omega arith) (omega arith) (omega arith)
+        sound-empty (refusedSettings (o .settings .kind)) 0 1 (omega arith) (omega arith) (omega arith) (omega arith) (omega arith) refl
+        (omega arith) (omega arith) (omega arith)
 
     taken : outside 1 longestEstimate (o .settings .longest) ≡ false → outside 1 maxNodes (o .settings .nodes) ≡ false
         → (ltb limit.horizon (o .minute) || outside 1 lastTicket (o .ticket)) ≡ false
@@ -205,12 +206,12 @@ opening-sound o =
         let w = neither (not (eqb (S .«quota_a» + S .«quota_b») limit.slots) || eqb (S .«quota_a») 0) (eqb (S .«quota_b») 0) g in
         let x = neither (not (eqb (S .«quota_a» + S .«quota_b») limit.slots)) (eqb (S .«quota_a») 0) (w .0) in
         let y : S .«quota_a» + S .«quota_b» ≡ limit.slots = eqb-true (S .«quota_a» + S .«quota_b») limit.slots (not-false _ (x .0)) in
-        let a = neither (ltb (o .settings .nodes) 1) (ltb maxNodes (o .settings .nodes)) p in
+        let a = neither (ltb (S .nodes) 1) (ltb maxNodes (S .nodes)) p in
         let b = neither (ltb limit.horizon (o .minute)) (outside 1 lastTicket (o .ticket)) q in
         let c = neither (ltb (o .ticket) 1) (ltb lastTicket (o .ticket)) (b .1) in
-        sound-empty (o .settings) (o .minute) (o .ticket) (ltb-false (o .settings .nodes) 1 (a .0)) (ltb-false maxNodes (o .settings .nodes) (a .1))
-        (ltb-false (S .longest) 1 (z .0)) (ltb-false longestEstimate (S .longest) (z .1)) (ltb-false longestCleanup (o .settings .cleanup) k) y (ltb-false limit.horizon (o .minute) (b .0)) (ltb-false (o .ticket) 1 (c .0))
-        (ltb-false lastTicket (o .ticket) (c .1))
+        sound-empty S (o .minute) (o .ticket) (ltb-false (S .nodes) 1 (a .0)) (ltb-false maxNodes (S .nodes) (a .1)) (ltb-false (S .longest) 1 (z .0))
+        (ltb-false longestEstimate (S .longest) (z .1)) (ltb-false longestCleanup (S .cleanup) k) y (ltb-false limit.horizon (o .minute) (b .0))
+        (ltb-false (o .ticket) 1 (c .0)) (ltb-false lastTicket (o .ticket) (c .1))
 
 -- ## Submission
 

@@ -13,8 +13,8 @@ use Rattle.scheduler.specs.Settings.{refusedSettings}
 use Rattle.scheduler.specs.Model.{Model, empty, store}
 use Rattle.scheduler.specs.Answers.{verdict, accepts}
 
--- 16: "a longest estimate outside 1 to 10,080"; 1: "rack nodes outside 1 to 1,024"; 3: "first minute above 1,000,000, or first ticket outside 1 to 999,999"; 12: "clearing above 30,
--- after 3 at opening"; 13: "the places do not sum to 64 or one is 0, last at opening"
+-- 16: "a longest estimate outside 1 to 10,080"; 1: "rack nodes outside 1 to 1,024"; 3: "first minute above 1,000,000, or first ticket outside
+-- 1 to 999,999"; 12: "clearing above 30, after 3 at opening"; 13: "the places do not sum to 64 or one is 0, last at opening"
 unfoldable pub openingRefusal : Opening → Refusal
 openingRefusal o =
     verdict

@@ -131,7 +131,14 @@ module _ {A : Type 0} where
 -- what the numbers of each line say
 abbrev pub openingOf : Kind → List ℕ → Option Opening
 openingOf k vs = some (record {
-  settings = record { kind = k; nodes = getD vs 0 0; cleanup = getD vs 3 0; «quota_a» = getD vs 4 0; «quota_b» = getD vs 5 0; longest = longestEstimate };
+  settings = record {
+    kind = k;
+    nodes = getD vs 0 0;
+    cleanup = getD vs 3 0;
+    «quota_a» = getD vs 4 0;
+    «quota_b» = getD vs 5 0;
+    longest = longestEstimate;
+  };
   minute = getD vs 1 0;
   ticket = getD vs 2 0;
 })

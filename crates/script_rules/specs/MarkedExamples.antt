@@ -56,7 +56,11 @@ said e = record {
 
 -- a machine of 10 nodes at minute 0, with ticket 1
 abbrev fresh : Kind → Model
-fresh k = opening.opening (record { settings = record { kind = k; nodes = 10; cleanup = 0; «quota_a» = 63; «quota_b» = 1; longest = 10080 }; minute = 0; ticket = 1 })
+fresh k = opening.opening (record {
+  settings = record { kind = k; nodes = 10; cleanup = 0; «quota_a» = 63; «quota_b» = 1; longest = 10080 };
+  minute = 0;
+  ticket = 1;
+})
 
 -- what a list of commands is answered
 abbrev play : Kind → List Command → List Said

@@ -11,7 +11,8 @@ use Rattle.scheduler.proofs.Opening.refusal.Tie as tie
 returns : tie.Need-returns
 unfolding openingRefusal verdict
 returns c =
-    let t : outside 1 longestEstimate (c .before .before .args .self .settings .longest) ≡ true = sym (c .before .outside-range .ensures) ∙ c .if1 .taken in
+    let s = c .before .before .args .self .settings in
+    let t : outside 1 longestEstimate (s .longest) ≡ true = sym (c .before .outside-range .ensures) ∙ c .if1 .taken in
     rw t
 
 -- what each test leaves
@@ -69,7 +70,8 @@ returns-6 c =
     let d = c .before .before .before .before in
     let s = start (two d) .args .self .settings in
     let t : misdivided (s .«quota_a») (s .«quota_b») ≡ true = sym (c .before .quotas-out-of-range .ensures) ∙ c .if6 .taken in
-    rw (longest-passes (one (two d)), nodes-pass (two d), le-ltb _ _ (three d .if3 .left), ticket-passes d, le-ltb _ _ (c .before .before .if5 .left), t)
+    let e = two d in
+    rw (longest-passes (one e), nodes-pass e, le-ltb _ _ (three d .if3 .left), ticket-passes d, le-ltb _ _ (c .before .before .if5 .left), t)
 
 returns-7 : tie.Need-returns-7
 unfolding openingRefusal verdict
@@ -77,7 +79,8 @@ returns-7 c =
     let d = c .before .before .before .before in
     let s = start (two d) .args .self .settings in
     let t : misdivided (s .«quota_a») (s .«quota_b») ≡ false = sym (c .before .quotas-out-of-range .ensures) ∙ c .if6 .left in
-    rw (longest-passes (one (two d)), nodes-pass (two d), le-ltb _ _ (three d .if3 .left), ticket-passes d, le-ltb _ _ (c .before .before .if5 .left), t)
+    let e = two d in
+    rw (longest-passes (one e), nodes-pass e, le-ltb _ _ (three d .if3 .left), ticket-passes d, le-ltb _ _ (c .before .before .if5 .left), t)
 
 pub refusal-spec : {M : Type 1} → statement M
 refusal-spec =
