@@ -1,0 +1,2 @@
+pub mod Players
+pub mod PageFilling

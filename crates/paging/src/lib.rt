@@ -1,0 +1,1 @@
+// Pages filled with what is played, of any state of play: there is no code here.
