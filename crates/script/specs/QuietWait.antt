@@ -5,6 +5,7 @@ use native.Mathlib.Omega.{arith}
 use mathlib.Core.Path.{_≡_, refl, sym, ap, subst, _∙_}
 use mathlib.Core.List.{List, [], _++_}
 use lib.ListN.{length, drop, replicate}
+use Rattle.paging.specs.Players.{Skips}
 use Rattle.scheduler.specs.declared.Kind.{Kind}
 use Rattle.scheduler.specs.declared.Refusal.the-variants as refusal
 use Rattle.scheduler.specs.Limits.{horizon, longestWait}
@@ -25,7 +26,7 @@ use Rattle.script_play.specs.declared.Play.{Play}
 use Rattle.script_play.specs.declared.Stage.the-variants.{First, Playing, Over}
 use Rattle.script_play.specs.declared.Stage.{Stage}
 use Rattle.script_play.specs.Remainder.{fromHere, leftBy, left}
-use Rattle.script_play.specs.Progress.{InPlay, weight, weightBy}
+use Rattle.script_play.specs.Progress.{InPlay, weight, weightBy, script-player}
 
 -- r stands some quiet minutes after p, with the scheduler that as many ticks hand back: how many they are may differ from one correct
 -- program to another, and what is left to print may not
@@ -95,15 +96,15 @@ module _ (p : Play) (h : Premise (p .scheduler)) {k : ℕ} (a : Ahead (p .schedu
     left-is = left-same (p .stage);
   }
 
--- a script being played is ready after it too, and has no more to play
-module _ (s : List ℕ) (p r : Play) (o : PassesOver p r) where
-  pub passes-ready : InPlay s p → InPlay s r
-  passes-ready q = record { premise = o .premise; inside = omega (arith, q .inside, o .at-is); few = omega (arith, q .few, o .steps-is) }
-
-  pub passes-no-more : weight s r ≤ weight s p
-  passes-no-more = subst (λ (g : Stage). weightBy g s r ≤ weight s p) (sym (o .stage-is)) (by (p .stage))
-    where
-      by : (g : Stage) → weightBy g s r ≤ weightBy g s p
-      by First = let e = ap (λ (i : ℕ). (length s - i) * suc longestWait) (o .at-is) in omega (arith, o .steps-is)
-      by Playing = let e = ap (λ (i : ℕ). (length s - i) * suc longestWait) (o .at-is) in omega (arith, o .steps-is)
-      by Over = omega arith
+-- of a script being played, r stands for p: it is ready too, and has no more to play
+pub passes-skips : (s : List ℕ) {p r : Play} → InPlay s p → PassesOver p r → Skips (script-player s) p r
+passes-skips s {p} {r} q o = record {
+  left-is = o .left-is s;
+  ready = record { premise = o .premise; inside = omega (arith, q .inside, o .at-is); few = omega (arith, q .few, o .steps-is) };
+  no-more = subst (λ (g : Stage). weightBy g s r ≤ weight s p) (sym (o .stage-is)) (by (p .stage));
+}
+  where
+    by : (g : Stage) → weightBy g s r ≤ weightBy g s p
+    by First = omega arith
+    by Playing = let e = ap (λ (i : ℕ). (length s - i) * suc longestWait) (o .at-is) in omega (arith, o .steps-is)
+    by Over = omega arith

@@ -1,173 +1,29 @@
 // A script played into a lent page, page after page: a line, or one step of a wait, is a turn, and its lines stand in the page after those
 // before.
 ghost use mathlib.Core.Path.{_≡_};
-ghost use Prim.Native.Nat.{_≤_, _<_};
+ghost use Prim.Native.Nat.{_≤_};
 ghost use lib.ListN.{length};
-ghost use Rattle.scheduler.specs.Answers.{code};
-ghost use Rattle.script_rules.specs.Writing.{noRow};
-ghost use Rattle.script_reading.specs.Meaning.{opens};
+ghost use Rattle.paging.specs.PageFilling.{Filled};
 ghost use Rattle.script_writing.specs.AnswerText.{pageBytes};
 ghost use Rattle.script_play.specs.declared.Stage.the-variants.{Playing};
-ghost use Rattle.script_play.specs.Pieces.{piece, over, openingPiece, firstPiece, beginning};
-ghost use Rattle.script_play.specs.Progress.{InPlay};
-ghost use Rattle.script.specs.PageTurns.{Turned, Comes};
-ghost use Rattle.script.specs.PageFilling.{Filled};
+ghost use Rattle.script_play.specs.Pieces.{beginning};
+ghost use Rattle.script_play.specs.Progress.{InPlay, script-player};
 use scheduler::Kind;
 use scheduler::Opening;
 use scheduler::Refusal;
-use scheduler::Request;
 use scheduler::Scheduler;
 use scheduler::Settings;
 use script_play::Play;
+use script_play::Played;
 use script_play::Stage;
 use script_reading::Asked;
-use script_reading::FirstLine;
-
-// A longer script is not read.
-const LONGEST: usize = 65536;
-
-// Where the lines end in the page, and where the script stands then.
-pub struct Played {
-    pub end: usize,
-    pub play: Play,
-}
-
-// A first line that opens nothing prints why, and the script is over.
-fn refuse(p: Play, reason: Refusal, page: &mut [u8]) -> Played
-    requires { ⌜ pageBytes ≤ length (now page) ⌝ }
-    ensures { λ r. ⌜ Turned (piece (noRow (code reason)) (over p)) (now (page .entry)) 0 (now (page .exit)) r ⌝ }
-{
-    let d = p.scheduler;
-    let end = script_writing::put_refusal(page, 0, reason);
-    Played {
-        end: end,
-        play: Play {
-            stage: Stage::Over,
-            at: p.at,
-            steps: p.steps,
-            scheduler: d,
-        },
-    }
-}
-
-// What a first line asks.
-fn open(p: Play, next: usize, first: FirstLine, page: &mut [u8]) -> Played
-    requires { ⌜ pageBytes ≤ length (now page) ⌝ }
-    ensures { λ r. ⌜ Turned (openingPiece p next (opens first)) (now (page .entry)) 0 (now (page .exit)) r ⌝ }
-{
-    match first {
-        FirstLine::Opens(o) => {
-            let opened = Scheduler::open(o);
-            let reason = opened.refusal;
-            if reason.is_none() {
-                let d = opened.scheduler;
-                return Played {
-                    end: 0,
-                    play: Play {
-                        stage: Stage::Playing,
-                        at: next,
-                        steps: 0,
-                        scheduler: d,
-                    },
-                };
-            }
-            refuse(p, reason, page)
-        }
-        FirstLine::Malformed => refuse(p, Refusal::Malformed, page),
-    }
-}
-
-// The first line; a script that is too long is not read, and an empty one is over.
-fn first(p: Play, script: &[u8], page: &mut [u8]) -> Played
-    requires { ⌜ pageBytes ≤ length (now page) ⌝ }
-    ensures { λ r. ⌜ Turned (firstPiece (now (script .entry)) p) (now (page .entry)) 0 (now (page .exit)) r ⌝ }
-{
-    if LONGEST < script.len() {
-        return refuse(p, Refusal::Malformed, page);
-    }
-    let at = p.at;
-    if script.len() <= at {
-        let d = p.scheduler;
-        return Played {
-            end: 0,
-            play: Play {
-                stage: Stage::Over,
-                at: at,
-                steps: p.steps,
-                scheduler: d,
-            },
-        };
-    }
-    let line = text::next_line(script, at);
-    let end = line.end;
-    if line.closed {
-        let asked = script_reading::read_first(&script[at..end]);
-        return open(p, end + 1, asked, page);
-    }
-    refuse(p, Refusal::Malformed, page)
-}
-
-// What a turn comes to: what is asked, or that the script is over.
-enum Turn {
-    Asks(Asked),
-    Over,
-}
-
-// A turn, where the line after it begins, and how many steps of a wait are left after it.
-struct Next {
-    turn: Turn,
-    at: usize,
-    steps: u32,
-}
-
-// The line at a place. An unclosed one lacks the form.
-fn next_line(script: &[u8], at: usize) -> Next
-    requires { ⌜ at < length (now script) ⌝ }
-    ensures { λ r. ⌜ Comes (now (script .entry)) at 0 r ⌝ }
-{
-    let line = text::next_line(script, at);
-    let end = line.end;
-    if line.closed {
-        let asked = script_reading::read_later(&script[at..end]);
-        return Next {
-            turn: Turn::Asks(asked),
-            at: end + 1,
-            steps: 0,
-        };
-    }
-    Next {
-        turn: Turn::Asks(Asked::Malformed),
-        at: end,
-        steps: 0,
-    }
-}
-
-// A step of the wait, or the next line.
-fn next_turn(script: &[u8], at: usize, steps: u32) -> Next
-    ensures { λ r. ⌜ Comes (now (script .entry)) at steps r ⌝ }
-{
-    if 0 < steps {
-        return Next {
-            turn: Turn::Asks(Asked::Call(Request::Tick)),
-            at: at,
-            steps: steps - 1,
-        };
-    }
-    if script.len() <= at {
-        return Next {
-            turn: Turn::Over,
-            at: at,
-            steps: 0,
-        };
-    }
-    next_line(script, at)
-}
+use script_turns::Turn;
 
 // Turn after turn, while the page has room for the longest answer. Whatever changes is a local of this one loop, which calls in one place: a
 // call by value copies the scheduler, and a turn that makes no call does not.
 fn later(p: Play, script: &[u8], page: &mut [u8]) -> Played
     requires { ⌜ InPlay (now script) p × (p .stage ≡ Playing) × (pageBytes ≤ length (now page)) ⌝ }
-    ensures { λ r. ⌜ Filled (now (script .entry)) p (now (page .exit)) r ⌝ }
+    ensures { λ r. ⌜ Filled (script-player (now (script .entry))) p (now (page .exit)) (r .end) (r .play) ⌝ }
 {
     let last = page.len() - script_writing::page_len();
     let mut d = p.scheduler;
@@ -206,7 +62,7 @@ fn later(p: Play, script: &[u8], page: &mut [u8]) -> Played
                 count,
             );
         }
-        let next = next_turn(script, at, steps - minutes);
+        let next = script_turns::next_turn(script, at, steps - minutes);
         at = next.at;
         steps = next.steps;
         let turn = next.turn;
@@ -272,11 +128,11 @@ fn later(p: Play, script: &[u8], page: &mut [u8]) -> Played
 // The page filled from its start: until the script is over, its first line is played, or the page has no room for the longest answer any more.
 pub fn fill(p: Play, script: &[u8], page: &mut [u8]) -> Played
     requires { ⌜ InPlay (now script) p × (pageBytes ≤ length (now page)) ⌝ }
-    ensures { λ r. ⌜ Filled (now (script .entry)) p (now (page .exit)) r ⌝ }
+    ensures { λ r. ⌜ Filled (script-player (now (script .entry))) p (now (page .exit)) (r .end) (r .play) ⌝ }
 {
     let stage = p.stage;
     match stage {
-        Stage::First => first(p, script, page),
+        Stage::First => script_turns::first(p, script, page),
         Stage::Playing => later(p, script, page),
         Stage::Over => Played { end: 0, play: p },
     }

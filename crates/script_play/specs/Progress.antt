@@ -1,17 +1,20 @@
 -- Every script comes to its end: each piece leaves less to play.
 -- Assumes nothing.
-use mathlib.Core.Path.{_≡_, refl, sym, ap, subst, _∙_}
-use mathlib.Core.Bool.{true, cond}
-use mathlib.Core.List.{List, [], _++_}
+use mathlib.Core.Path.{_≡_, refl, sym, subst}
+use mathlib.Core.Bool.{Bool, true, false}
+use mathlib.Core.List.{List, []}
 use mathlib.Core.Option.{Option, none, some}
-use Prim.Native.Nat.{ℕ, zero, suc, _+_, _-_, _*_, _≤_, _<_}
+use Prim.Native.Nat.{ℕ, suc, _+_, _-_, _*_, _≤_, _<_}
 use native.Mathlib.Omega.{arith}
 use lib.Dec.{eqb, leb, ltb}
-use lib.ListN.{length, drop, length-drop}
-use borrow.Author.Tests.{eqb-false, leb-false, ltb-true, ltb-false}
+use lib.ListN.{length, take}
+use borrow.Author.Tests.{eqb-false, leb-false, ltb-false, lt-ltb, le-ltb}
 use Rattle.lists.specs.Tests.{case, neither}
-use Rattle.text.specs.Prefixes.{upto, upto-le}
-use Rattle.text.specs.Lines.{lineAt}
+use Rattle.text.specs.declared.Begins.{Begins}
+use Rattle.text.specs.declared.Begins.the-variants as begins
+use Rattle.text.specs.Lines.{beginsOf}
+use Rattle.text.specs.LineLaws.{Inside, begins-inside}
+use Rattle.paging.specs.Players.{Player, pieces, pieces-left}
 use Rattle.scheduler.specs.declared.Opening.{Opening}
 use Rattle.scheduler.specs.declared.Refusal.the-variants as refusal
 use Rattle.scheduler.specs.declared.Scheduler.{Scheduler}
@@ -23,13 +26,13 @@ use Rattle.scheduler.specs.Refusals.{waitRefusal}
 use Rattle.jobs.specs.Soundness.{passed}
 use Rattle.history.specs.Calls.{Command, ask, wait, tick}
 use Rattle.guarantees.specs.Premise.{Premise, call-premise, opened-premise}
-use Rattle.script_rules.specs.Lines.{linesOf}
-use Rattle.script_rules.specs.Reading.{openingOf, commandOf}
-use Rattle.script_rules.specs.Printout.{malformed, played, fromFirst, longestScript, printout}
+use Rattle.script_rules.specs.LineLaws.{lineOf, past, Past, past-line}
+use Rattle.script_rules.specs.Reading.{openingIn, commandOf}
+use Rattle.script_rules.specs.Printout.{longestScript, printout}
 use Rattle.script_play.specs.declared.Play.{Play}
 use Rattle.script_play.specs.declared.Stage.the-variants.{First, Playing, Over}
 use Rattle.script_play.specs.declared.Stage.{Stage}
-use Rattle.script_play.specs.Pieces.{beginning, lineOf, past, over, going, openingPiece, firstPiece, commandPiece, laterPiece, pieceBy, pieceOf}
+use Rattle.script_play.specs.Pieces.{beginning, over, going, openingPiece, firstBy, commandPiece, laterPiece, pieceBy, pieceOf}
 use Rattle.script_play.specs.Remainder.{left, leftBy, next-piece}
 
 -- what holds of a script that is being played
@@ -43,36 +46,31 @@ begin-ready s = record { premise = opened-premise _; inside = omega arith; few =
 
 -- what there is still to play, at most: more for each byte than the steps of a wait
 abbrev pub weightBy : Stage → List ℕ → Play → ℕ
-weightBy First s p = suc ((length s - p .at) * suc longestWait + p .steps)
+weightBy First s p = suc (length s * suc longestWait)
 weightBy Playing s p = suc ((length s - p .at) * suc longestWait + p .steps)
 weightBy Over s p = 0
 
 abbrev pub weight : List ℕ → Play → ℕ
 weight s p = weightBy (p .stage) s p
 
--- ## Lines
+-- it goes on until it is over
+abbrev pub goesOn : Stage → Bool
+goesOn First = true
+goesOn Playing = true
+goesOn Over = false
 
-pub record Past (s : List ℕ) (at : ℕ) : Type 0 where
-  pub further : at < past s at
-  pub within : past s at ≤ length s
+pub goes-on : (g : Stage) (s : List ℕ) (p : Play) → goesOn g ≡ ltb 0 (weightBy g s p)
+goes-on First s p = sym (lt-ltb 0 (weightBy First s p) (omega arith))
+goes-on Playing s p = sym (lt-ltb 0 (weightBy Playing s p) (omega arith))
+goes-on Over s p = sym (le-ltb 0 0 (omega arith))
 
-pub past-line : (s : List ℕ) (at : ℕ) → at < length s → Past s at
-unfolding lineAt
-past-line s at h =
-    let t = drop at s in
-    let n = length (upto 10 t) in
-    let size : length t ≡ length s - at = length-drop at s in
-    case (ltb (at + n) (length s))
-    (λ e. record { further = rw e (omega arith); within = rw e (omega (arith, ltb-true (at + n) (length s) e)) })
-    (λ e. record { further = rw e (omega (arith, ltb-false (at + n) (length s) e)); within = rw e (omega (arith, size, upto-le 10 t)) })
+-- ## Pieces
 
 pub wait-few : (m : Model) (n : ℕ) → accepts (waitRefusal m n) ≡ true → n ≤ longestWait
 unfolding waitRefusal
 wait-few m n a =
     let p = passed (outside 1 longestWait n) refusal.MinutesOutOfRange _ refl a in
     ltb-false longestWait n (neither (ltb n 1) (ltb longestWait n) (p .0) .1)
-
--- ## Pieces
 
 -- a piece leaves less to play, from a weight w down
 pub record Onward (s : List ℕ) (w : ℕ) (p : Play) : Type 0 where
@@ -103,22 +101,17 @@ module _ (s : List ℕ) where
   more : (w v : ℕ) (p : Play) → w ≤ v → Onward s w p → Onward s v p
   more w v p h o = record { ready = o .ready; less = omega (arith, h, o .less) }
 
-  by-opening : (p : Play) → InPlay s p → p .at < length s → (q : Option Opening) → Onward s (weightBy First s p) (openingPiece p (past s (p .at)) q .play)
-  by-opening p r h none = over-onward _ p r
-  by-opening p r h (some o) =
-      let q = past-at (p .at) h in
+  by-opening : (p : Play) → InPlay s p → (e : ℕ) → e < length s → (q : Option Opening) → Onward s (weightBy First s p) (openingPiece p (e + 1) q .play)
+  by-opening p r e h none = over-onward _ p r
+  by-opening p r e h (some o) =
       case (accepts (openingRefusal o))
-      (λ e. rw e (more _ _ _ (omega arith) (onward (p .at) (past s (p .at)) 0 _ (opened-premise o) (q .further) (q .within) (omega arith))))
-      (λ e. rw e (over-onward _ p r))
+      (λ a. rw a (more _ _ _ (omega arith) (onward 0 (e + 1) 0 _ (opened-premise o) (omega arith) (omega arith) (omega arith))))
+      (λ a. rw a (over-onward _ p r))
 
-  by-first : (p : Play) → InPlay s p → Onward s (weightBy First s p) (firstPiece s p .play)
-  unfolding firstPiece
-  by-first p r =
-      case (ltb longestScript (length s))
-      (λ e. rw e (over-onward _ p r))
-      (λ e. rw e (case (leb (length s) (p .at))
-      (λ q. rw q (over-onward _ p r))
-      (λ q. rw q (by-opening p r (leb-false (length s) (p .at) q) (openingOf (lineOf s (p .at)))))))
+  by-first : (p : Play) → InPlay s p → (b : Begins) → Inside s b → Onward s (weightBy First s p) (firstBy b s p .play)
+  by-first p r begins.Nothing h = over-onward _ p r
+  by-first p r begins.Malformed h = over-onward _ p r
+  by-first p r (begins.Line e) h = by-opening p r e h (openingIn (take e s))
 
   by-later : (p : Play) → InPlay s p → Onward s (weightBy Playing s p) (laterPiece s p .play)
   unfolding laterPiece
@@ -134,7 +127,7 @@ module _ (s : List ℕ) where
 
   -- of a piece: what holds goes on holding, and a script that is not over has less to play
   by-stage : (g : Stage) (p : Play) → p .stage ≡ g → InPlay s p → InPlay s (pieceBy g s p .play) × (weight s (pieceBy g s p .play) ≤ weightBy g s p - 1)
-  by-stage First p e r = let o = by-first p r in (o .ready, omega (arith, o .less))
+  by-stage First p e r = let o = by-first p r (beginsOf longestScript s) (begins-inside longestScript s) in (o .ready, omega (arith, o .less))
   by-stage Playing p e r = let o = by-later p r in (o .ready, omega (arith, o .less))
   by-stage Over p e r = (r, subst (λ (g : Stage). weightBy g s p ≤ 0) (sym e) (omega arith))
 
@@ -144,29 +137,25 @@ module _ (s : List ℕ) where
   pub next-less : (p : Play) → InPlay s p → weight s (pieceOf s p .play) ≤ weight s p - 1
   next-less p r = by-stage (p .stage) p refl r .1
 
-  -- ## All the pieces
-
-  -- the first n pieces, one after the other
-  abbrev pub pieces : ℕ → Play → List ℕ
-  pieces zero p = []
-  pieces (suc n) p = pieceOf s p .text ++ pieces n (pieceOf s p .play)
-
-  over-left : (g : Stage) (p : Play) → weightBy g s p ≤ 0 → leftBy g s p ≡ []
-  over-left First p h = absurd (omega (arith, h))
-  over-left Playing p h = absurd (omega (arith, h))
+  pub over-left : (g : Stage) (p : Play) → weightBy g s p ≡ 0 → leftBy g s p ≡ []
+  over-left First p h = absurd (omega arith)
+  over-left Playing p h = absurd (omega arith)
   over-left Over p h = refl
 
-  -- played to the end, they are what the script had to print
-  pub pieces-left : (n : ℕ) (p : Play) → InPlay s p → weight s p ≤ n → pieces n p ≡ left s p
-  pieces-left zero p r h = sym (over-left (p .stage) p h)
-  pieces-left (suc n) p r h =
-      let x = pieceOf s p in
-      ap (λ t. x .text ++ t) (pieces-left n (x .play) (next-ready p r) (omega (arith, next-less p r, h))) ∙ sym (next-piece s p (r .premise))
+  -- ## All the pieces
 
-  -- from the beginning: the printout of the whole script
-  pub pieces-whole : (n : ℕ) (p : Play) → InPlay s p → p .stage ≡ First → p .at ≡ 0 → weight s p ≤ n → pieces n p ≡ printout s
-  unfolding printout
-  pieces-whole n p r e z h =
-      pieces-left n p r h
-      ∙ ap (λ (g : Stage). leftBy g s p) e
-      ∙ ap (λ (k : ℕ). cond (ltb longestScript (length s)) malformed (fromFirst openingOf played (linesOf (drop k s)))) z
+  abbrev pub script-player : Player Play
+  script-player = record {
+    next = pieceOf s;
+    left = left s;
+    weight = weight s;
+    Ready = InPlay s;
+    next-left = λ p r. next-piece s p (r .premise);
+    next-ready = next-ready;
+    next-less = next-less;
+    over-left = λ p. over-left (p .stage) p;
+  }
+
+  -- from the beginning, they are the printout of the whole script
+  pub pieces-whole : (n : ℕ) → weight s beginning ≤ n → pieces script-player n beginning ≡ printout s
+  pieces-whole n h = pieces-left script-player n beginning (begin-ready s) h

@@ -1,18 +1,18 @@
 -- Played to the end, the pieces are the printout of the whole script.
 -- Assumes nothing.
 use mathlib.Core.Path.{_≡_, refl, sym, ap, _∙_}
-use mathlib.Core.Bool.{true, false, cond}
-use mathlib.Core.List.{List, [], _∷_, _++_, append-nil, append-assoc}
+use mathlib.Core.Bool.{false}
+use mathlib.Core.List.{List, [], _++_, append-nil, append-assoc}
 use mathlib.Core.Option.{Option, none, some}
-use Prim.Native.Nat.{ℕ, zero, suc, _+_, _-_, _≤_, _<_}
+use Prim.Native.Nat.{ℕ, zero, suc, _+_, _-_}
 use native.Mathlib.Omega.{arith}
-use lib.Dec.{leb, ltb}
-use lib.ListN.{length, take, drop, drop-of-length-le, length-drop, replicate}
-use lib.Seq.{drop-drop}
-use borrow.Author.Tests.{ne-eqb, leb-true, leb-false, ltb-true, ltb-false}
+use lib.Dec.{leb}
+use lib.ListN.{length, take, drop, replicate}
+use borrow.Author.Tests.{ne-eqb, leb-true, leb-false}
 use Rattle.lists.specs.Tests.{case}
-use Rattle.text.specs.Prefixes.{upto, upto-take}
-use Rattle.text.specs.Lines.{lineAt}
+use Rattle.text.specs.declared.Begins.{Begins}
+use Rattle.text.specs.declared.Begins.the-variants as begins
+use Rattle.text.specs.Lines.{beginsOf}
 use Rattle.scheduler.specs.declared.Opening.{Opening}
 use Rattle.scheduler.specs.declared.Refusal.{Refusal}
 use Rattle.scheduler.specs.declared.Scheduler.{Scheduler}
@@ -25,57 +25,27 @@ use Rattle.guarantees.specs.Rules.{call}
 use Rattle.guarantees.specs.Premise.{Premise, Valid, valid-view, call-valid, opening-valid}
 use Rattle.guarantees.specs.Chain.{unchanged-refuses}
 use Rattle.script_rules.specs.Lines.{linesOf}
-use Rattle.script_rules.specs.LineLaws.{lines-closed, lines-unclosed}
-use Rattle.script_rules.specs.Reading.{openingOf, commandOf}
+use Rattle.script_rules.specs.LineLaws.{lineOf, past, lines-done, lines-from}
+use Rattle.script_rules.specs.Reading.{openingIn, commandOf}
 use Rattle.script_rules.specs.Writing.{noRow, textOf}
-use Rattle.script_rules.specs.Printout.{malformed, printed, printedAll, calledBy, printedBy, played, openedBy, fromFirst, longestScript}
+use Rattle.script_rules.specs.Printout.{malformed, printed, printedAll, calledBy, printedBy, played, openedBy, longestScript, printout}
+use Rattle.script_rules.specs.Beginnings.{begun, printout-begins}
 use Rattle.script_play.specs.declared.Play.{Play}
 use Rattle.script_play.specs.declared.Stage.the-variants.{First, Playing, Over}
 use Rattle.script_play.specs.declared.Stage.{Stage}
-use Rattle.script_play.specs.Pieces.{lineOf, past, openingPiece, firstPiece, callPiece, commandPiece, laterBy, laterPiece, pieceBy, pieceOf}
+use Rattle.script_play.specs.Pieces.{openingPiece, firstBy, firstPiece, callPiece, commandPiece, laterBy, laterPiece, pieceBy, pieceOf}
 
 -- what a script has still to print
 abbrev pub fromHere : List ℕ → ℕ → ℕ → Model → List ℕ
 fromHere s at steps m = printedAll m (replicate steps tick) ++ played (after call m (replicate steps tick)) (linesOf (drop at s))
 
 abbrev pub leftBy : Stage → List ℕ → Play → List ℕ
-leftBy First s p = cond (ltb longestScript (length s)) malformed (fromFirst openingOf played (linesOf (drop (p .at) s)))
+leftBy First s p = printout s
 leftBy Playing s p = fromHere s (p .at) (p .steps) (view (p .scheduler))
 leftBy Over s p = []
 
 abbrev pub left : List ℕ → Play → List ℕ
 left s p = leftBy (p .stage) s p
-
--- ## Lines
-
-lines-done : (s : List ℕ) (at : ℕ) → length s ≤ at → linesOf (drop at s) ≡ []
-unfolding linesOf
-lines-done s at h = rw (drop-of-length-le s h)
-
-module _ (s : List ℕ) (at : ℕ) where
-  line-end : lineAt s at .end - at ≡ length (upto 10 (drop at s))
-  unfolding lineAt
-  line-end = omega arith
-
-  line-bytes : lineOf s at .bytes ≡ upto 10 (drop at s)
-  line-bytes = ap (λ n. take n (drop at s)) line-end ∙ upto-take 10 (drop at s)
-
-  pub lines-from : at < length s → linesOf (drop at s) ≡ lineOf s at ∷ linesOf (drop (past s at) s)
-  unfolding lineAt
-  lines-from h =
-      let t = drop at s in
-      let n = length (upto 10 t) in
-      let size : length t ≡ length s - at = length-drop at s in
-      case (ltb (at + n) (length s))
-      (λ e.
-      let k = ltb-true (at + n) (length s) e in
-      let place : at + suc n ≡ at + n + 1 = omega arith in
-      let rest : drop (suc n) t ≡ drop (at + n + 1) s = drop-drop (suc n) at s ∙ ap (λ (i : ℕ). drop i s) place in
-      rw e (lines-closed t (omega (arith, size, k)) ∙ (λ i. record { bytes = sym line-bytes i; closed = true } ∷ linesOf (rest i))))
-      (λ e.
-      let k = ltb-false (at + n) (length s) e in
-      rw e (lines-unclosed t (omega (arith, size)) (omega (arith, size, k))
-      ∙ (λ i. record { bytes = sym line-bytes i; closed = false } ∷ sym (lines-done s (at + n) k) i)))
 
 -- ## Each piece is the first part of what is left
 
@@ -122,14 +92,14 @@ module _ (s : List ℕ) where
       (λ e. rw e (ap (λ m. played m (linesOf (drop at s))) (sym (valid-view (opening o) (opening-valid o)))))
       (λ e. rw e (sym (append-nil (noRow (code (openingRefusal o))))))
 
-  by-first : (p : Play) → leftBy First s p ≡ firstPiece s p .text ++ left s (firstPiece s p .play)
-  unfolding firstPiece
-  by-first p =
-      case (ltb longestScript (length s))
-      (λ e. rw e (sym (append-nil malformed)))
-      (λ e. rw e (case (leb (length s) (p .at))
-      (λ q. rw q (ap (fromFirst openingOf played) (lines-done s (p .at) (leb-true (length s) (p .at) q))))
-      (λ q. rw q (ap (fromFirst openingOf played) (lines-from s (p .at) (leb-false (length s) (p .at) q)) ∙ by-opening p (past s (p .at)) (openingOf (lineOf s (p .at)))))))
+  by-begins : (p : Play) (b : Begins) → begun openingIn played s b ≡ firstBy b s p .text ++ left s (firstBy b s p .play)
+  by-begins p begins.Nothing = refl
+  by-begins p begins.Malformed = sym (append-nil malformed)
+  by-begins p (begins.Line e) = by-opening p (e + 1) (openingIn (take e s))
+
+  by-first : (p : Play) → printout s ≡ firstPiece s p .text ++ left s (firstPiece s p .play)
+  unfolding printout
+  by-first p = printout-begins openingIn played longestScript s ∙ by-begins p (beginsOf longestScript s)
 
   by-steps : (n : ℕ) (p : Play) → Premise (p .scheduler) → fromHere s (p .at) n (view (p .scheduler)) ≡ laterBy n s p .text ++ left s (laterBy n s p .play)
   unfolding

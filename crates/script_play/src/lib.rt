@@ -14,3 +14,9 @@ pub struct Play {
     pub steps: u32,
     pub scheduler: Scheduler,
 }
+
+// What a page is left with: where its lines end, and where the script stands then.
+pub struct Played {
+    pub end: usize,
+    pub play: Play,
+}

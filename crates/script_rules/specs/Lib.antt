@@ -3,5 +3,6 @@ pub mod LineLaws
 pub mod Reading
 pub mod Writing
 pub mod Printout
+pub mod Beginnings
 pub mod PlayedCalls
 pub mod MarkedExamples

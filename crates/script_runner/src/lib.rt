@@ -4,7 +4,7 @@ ghost use Prim.Native.Nat.{_≤_};
 ghost use lib.ListN.{length};
 ghost use Rattle.io.specs.Counts.{Counts};
 ghost use Rattle.script_writing.specs.AnswerText.{pageBytes};
-ghost use Rattle.script.specs.PageFilling.{goesOn};
+ghost use Rattle.script_play.specs.Progress.{goesOn};
 use libc::STDOUT_FILENO;
 use script_play::Play;
 use script_play::Stage;

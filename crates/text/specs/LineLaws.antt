@@ -1,16 +1,20 @@
 -- What holds of a line, for a loop that goes from one to the next.
 -- Assumes nothing.
-use mathlib.Core.Path.{_≡_, sym, _∙_}
+use mathlib.Core.Path.{_≡_, sym, subst, _∙_}
 use mathlib.Core.Bool.{true, false}
 use mathlib.Core.List.{List}
 use Prim.Native.Nat.{ℕ, _+_, _-_, _≤_, _<_}
 use native.Mathlib.Omega.{arith}
+use lib.Dec.{ltb}
 use lib.ListN.{length, getD, take, drop, length-drop}
 use lib.Seq.{getD-drop}
 use borrow.Author.Tests.{ltb-true, ltb-false}
+use Rattle.lists.specs.Tests.{case}
+use Rattle.text.specs.declared.Begins.{Begins}
+use Rattle.text.specs.declared.Begins.the-variants as begins
 use Rattle.text.specs.declared.Line.{Line}
 use Rattle.text.specs.Prefixes.{upto, upto-take, upto-at, upto-none, upto-inside}
-use Rattle.text.specs.Lines.{lineEnd, lineAt}
+use Rattle.text.specs.Lines.{lineEnd, lineAt, beginsOf}
 
 pub record Ends (text : List ℕ) (from : ℕ) (l : Line) : Type 0 where
   pub after : from ≤ l .end
@@ -45,3 +49,23 @@ line-ends text from l e h =
           let place : from + (i - from) ≡ i = omega arith in
           upto-none 10 s (i - from) (omega arith) (rw place at (getD-drop from text (i - from) 0) ∙ q);
     }
+
+-- a first line that is read ends inside the text
+abbrev pub Inside : List ℕ → Begins → Type 0
+Inside text begins.Nothing = Unit {0}
+Inside text begins.Malformed = Unit {0}
+Inside text (begins.Line e) = e < length text
+
+pub begins-inside : (longest : ℕ) (text : List ℕ) → Inside text (beginsOf longest text)
+unfolding
+    beginsOf
+    lineAt
+begins-inside longest text =
+    case (ltb longest (length text))
+    (λ q. rw q tt)
+    (λ q. rw q (case (ltb (length text) 1)
+    (λ r. rw r tt)
+    (λ r. rw r (case (ltb (lineEnd text 0) (length text)) (λ c. rw c (ltb-true (lineEnd text 0) (length text) c)) (λ c. rw c tt)))))
+
+pub begins-at : (longest : ℕ) (text : List ℕ) {b : Begins} {e : ℕ} → b ≡ beginsOf longest text → b ≡ begins.Line e → e < length text
+begins-at longest text g h = subst (Inside text) (sym g ∙ h) (begins-inside longest text)

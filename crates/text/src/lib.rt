@@ -6,7 +6,7 @@ ghost use lib.ListN.{length, drop};
 ghost use lib.Seq.{sets};
 ghost use Rattle.text.specs.Fields.{fieldsOf, fieldOf, fieldsFrom};
 ghost use Rattle.text.specs.Prefixes.{upto};
-ghost use Rattle.text.specs.Lines.{lineAt};
+ghost use Rattle.text.specs.Lines.{lineAt, beginsOf};
 ghost use Rattle.text.specs.Numbers.{digitsFrom, numberOf, numbersFrom, decimalOf};
 ghost use Rattle.text.specs.Words.{isWord};
 ghost use Rattle.text.specs.Letters.{capitalOf};
@@ -256,4 +256,28 @@ pub fn next_line(text: &[u8], from: usize) -> Line
         end: end,
         closed: end < text.len(),
     }
+}
+
+// How a text begins: it is empty, it is too long or its first line is not closed, or that line ends at a place.
+pub enum Begins {
+    Nothing,
+    Malformed,
+    Line(usize),
+}
+
+// The first line of a text that may have so many bytes.
+pub fn first_line(text: &[u8], longest: usize) -> Begins
+    ensures { λ r. ⌜ r ≡ beginsOf longest (now (text .entry)) ⌝ }
+{
+    if longest < text.len() {
+        return Begins::Malformed;
+    }
+    if text.len() < 1 {
+        return Begins::Nothing;
+    }
+    let line = next_line(text, 0);
+    if line.closed {
+        return Begins::Line(line.end);
+    }
+    Begins::Malformed
 }

@@ -7,6 +7,8 @@ use Prim.Native.Nat.{ℕ, _+_, _-_, _≤_, _<_}
 use native.Mathlib.Omega.{arith}
 use lib.ListN.{length}
 use borrow.Author.Needs.{needs}
+use Rattle.paging.specs.Players.{Skips, Turned}
+use Rattle.paging.specs.PageFilling.{Filling, filling-none, filling-skip, filling-less, filling-more, filled-full, filled-over}
 use Rattle.scheduler.specs.declared.Scheduler.{Scheduler}
 use Rattle.scheduler.specs.Model.{view}
 use Rattle.guarantees.specs.Premise.{premise-sound}
@@ -15,10 +17,10 @@ use Rattle.quiet_minutes.specs.QuietTicks.{passedOver}
 use Rattle.kept_calls.specs.KeptPoints.{KeptBeside, Passing, beside-handed, passed-none}
 use Rattle.script_writing.specs.AnswerText.{pageBytes}
 use Rattle.script_play.specs.Pieces.{going, pieceOf}
-use Rattle.script_play.specs.Progress.{InPlay, weight}
-use Rattle.script.specs.QuietWait.{PassesOver, in-time, passes-quiet, passes-no-more}
-use Rattle.script.specs.PageTurns.{Turned, call-few, over-turned, call-turned, lacks-turned, wait-turned, refused-turned}
-use Rattle.script.specs.PageFilling.{Filling, filling-none, filling-quiet, filling-less, filling-more, filled-full, filled-over, filled-as}
+use Rattle.script_play.specs.Progress.{InPlay, weight, script-player}
+use Rattle.script.specs.QuietWait.{in-time, passes-quiet, passes-skips}
+use Rattle.script.specs.PageTurns.{call-few, over-turned, call-turned, lacks-turned, wait-turned, refused-turned}
+use Rattle.script.specs.PageFilling.{filled-as}
 use Rattle.script.proofs.later.Statement.{statement}
 use Rattle.script.proofs.later.Tie as tie
 
@@ -30,7 +32,7 @@ abbrev μ-loop2 : tie.MeasureT-loop2
 
 abbrev Inv-loop : tie.InvT-loop
 Inv-loop script page₀ last d₀ at₀ steps₀ end₀ points₀ free₀ low₀ high₀ count₀ page d at steps end points free low high count =
-    Filling script (going at₀ steps₀ d₀) (length page₀) page end (going at steps d) × KeptBeside (view d) count points free low high
+    Filling (script-player script) pageBytes (going at₀ steps₀ d₀) (length page₀) page end (going at steps d) × KeptBeside (view d) count points free low high
 
 abbrev μ-loop : tie.MeasureT-loop
 μ-loop script page₀ last d₀ at₀ steps₀ end₀ points₀ free₀ low₀ high₀ count₀ page d at steps end points free low high count = weight script (going at steps d)
@@ -62,16 +64,17 @@ ahead c =
 passing : (c : tie.Joined1 Inv-loop2 μ-loop2 Inv-loop μ-loop)
     → let l = c .before .before .loop in
     let k = c .if1 .minutes in
-    PassesOver (going (l .at) (l .steps) (l .d)) (going (l .at) (l .steps - k) (passedOver (l .d) k))
-passing c = passes-quiet _ (c .before .before .loop .inv .0 .ready .premise) (ahead c)
+    Skips (script-player (c .before .before .before .before .before .before .before .before .before .before .before .before .args .script .now))
+    (going (l .at) (l .steps) (l .d)) (going (l .at) (l .steps - k) (passedOver (l .d) k))
+passing c = let r = c .before .before .loop .inv .0 .ready in passes-skips _ r (passes-quiet _ (r .premise) (ahead c))
 
 quiet-filling : (c : tie.Joined1 Inv-loop2 μ-loop2 Inv-loop μ-loop)
     → let a = c .before .before .before .before .before .before .before .before .before .before .before .before .args in
     let l = c .before .before .loop in
     let k = c .if1 .minutes in
-    Filling (a .script .now) (going (a .p .at) (a .p .steps) (a .p .scheduler)) (length (a .page .now)) (l .page) (l .end)
+    Filling (script-player (a .script .now)) pageBytes (going (a .p .at) (a .p .steps) (a .p .scheduler)) (length (a .page .now)) (l .page) (l .end)
     (going (l .at) (l .steps - k) (passedOver (l .d) k))
-quiet-filling c = filling-quiet (c .before .before .loop .inv .0) (passing c)
+quiet-filling c = filling-skip (c .before .before .loop .inv .0) (passing c)
 
 -- the points can follow
 abbrev passes : (c : tie.Joined1 Inv-loop2 μ-loop2 Inv-loop μ-loop)
@@ -99,9 +102,9 @@ abbrev Turn : (n : tie.After-next-turn Inv-loop2 μ-loop2 Inv-loop μ-loop) (aft
 Turn n after end steps d =
     let l = passed n .before .before .loop in
     let k = passed n .if1 .minutes in
-    Turned (pieceOf (n .before .before .before .before .before .before .before .before .before .before .before .before .before .before .before .args .script .now)
-    (going (l .at) (l .steps - k) (passedOver (l .d) k))) (l .page) (l .end) after
-    (record { end = end; play = going (n .next-turn .result .at) steps d })
+    Turned pageBytes (pieceOf (n .before .before .before .before .before .before .before .before .before .before .before .before .before .before .before .args .script .now)
+    (going (l .at) (l .steps - k) (passedOver (l .d) k))) (l .page) (l .end) after end
+    (going (n .next-turn .result .at) steps d)
 
 -- the scheduler that it finds
 abbrev found : tie.After-next-turn Inv-loop2 μ-loop2 Inv-loop μ-loop → Scheduler
@@ -109,18 +112,15 @@ found n = passedOver (passed n .before .before .loop .d) (passed n .if1 .minutes
 
 more : (n : tie.After-next-turn Inv-loop2 μ-loop2 Inv-loop μ-loop) {after : List ℕ} {end steps : ℕ} {d : Scheduler} → Turn n after end steps d
     → let a = n .before .before .before .before .before .before .before .before .before .before .before .before .before .before .before .args in
-    Filling (a .script .now) (going (a .p .at) (a .p .steps) (a .p .scheduler)) (length (a .page .now)) after end (going (n .next-turn .result .at) steps d)
-more n t = filling-more (quiet-filling (passed n)) refl t (room (passed n .before))
+    Filling (script-player (a .script .now)) pageBytes (going (a .p .at) (a .p .steps) (a .p .scheduler)) (length (a .page .now)) after end
+    (going (n .next-turn .result .at) steps d)
+more n t = filling-more (quiet-filling (passed n)) (omega arith) t (room (passed n .before))
 
 less : (n : tie.After-next-turn Inv-loop2 μ-loop2 Inv-loop μ-loop) {after : List ℕ} {end steps : ℕ} {d : Scheduler} → Turn n after end steps d
     → let s = n .before .before .before .before .before .before .before .before .before .before .before .before .before .before .before .args .script .now in
     let l = passed n .before .before .loop in
     weight s (going (n .next-turn .result .at) steps d) < weight s (going (l .at) (l .steps) (l .d))
-less n t = omega (
-  arith,
-  filling-less (quiet-filling (passed n)) refl t (room (passed n .before)),
-  passes-no-more (n .before .before .before .before .before .before .before .before .before .before .before .before .before .before .before .args .script .now) _ _ (passing (passed n)),
-)
+less n t = omega (arith, filling-less (quiet-filling (passed n)) (omega arith) t, passing (passed n) .no-more)
 
 call-turn : (c : tie.After-put-answer Inv-loop2 μ-loop2 Inv-loop μ-loop)
     → let n = c .before .before .before .before .before .before .before .before .before .before .before .before .before .before .before .before .before in
@@ -162,7 +162,9 @@ begin-requires : tie.Need-begin-requires Inv-loop2 μ-loop2 Inv-loop μ-loop
 begin-requires c κs = (begun (c .before .before .before .before .before .before .before .before) .premise, refl, refl, refl, refl)
 
 loop-holds : tie.Need-loop-holds Inv-loop2 μ-loop2 Inv-loop μ-loop
-loop-holds c = (filling-none _ _ _ (begun (c .before .before .before .before .before .before .before .before .before)), c .begin .ensures)
+loop-holds c =
+    let s = c .before .before .before .before .before .before .before .before .before in
+    (filling-none _ (s .pre .2) (begun s), c .begin .ensures)
 
 -- ## The quiet minutes
 
@@ -285,7 +287,7 @@ returns : tie.Need-returns Inv-loop2 μ-loop2 Inv-loop μ-loop
 returns c =
     let n = c .before .before in
     filled-as (n .before .before .before .before .before .before .before .before .before .before .before .before .before .before .before .pre .1)
-    (filled-over (filling-more (quiet-filling (passed n)) refl (over-turned _ _ _ _ _ (n .next-turn .ensures) _ _ (c .enum-told2 .given .1))
+    (filled-over (filling-more (quiet-filling (passed n)) (omega arith) (over-turned _ _ _ _ _ (n .next-turn .ensures) _ _ (c .enum-told2 .given .1))
     (room (passed n .before))) refl)
 
 same-length-2 : tie.Need-same-length-2 Inv-loop2 μ-loop2 Inv-loop μ-loop
@@ -295,7 +297,7 @@ returns-2 : tie.Need-returns-2 Inv-loop2 μ-loop2 Inv-loop μ-loop
 returns-2 c =
     let s = c .before .before .before .before .before .before .before .before .before .before .before in
     filled-as (s .pre .1)
-    (filled-full (c .before .loop .inv .0) (s .pre .2)
+    (filled-full (c .before .loop .inv .0)
     (omega (arith, c .before .loop .inv .0 .whole, c .before .before .before .before .before .before .before .before .page-len .ensures, s .pre .2, c .loop-test .left)))
 
 pub later-spec : {M : Type 1} → statement M

@@ -5,7 +5,8 @@ use native.Mathlib.Omega.{arith}
 use lib.ListN.{length}
 use lib.Seq.{length-take-le}
 use borrow.Author.Needs.{needs}
-use Rattle.script_play.specs.Progress.{InPlay, weight, begin-ready}
+use borrow.Author.Tests.{ltb-true}
+use Rattle.script_play.specs.Progress.{InPlay, weight, goes-on, begin-ready}
 use Rattle.script_runner.proofs.play.Statement.{statement}
 use Rattle.script_runner.proofs.play.Tie as tie
 
@@ -36,9 +37,12 @@ same-length c = c .before .before .before .before .before .fill .kept .1 .1 .0
     ∙ c .before .before .before .before .before .before .before .before .before .loop .inv .1
 
 loop-less : tie.Need-loop-less Inv-loop μ-loop
-loop-less c = c .before .before .before .before .before .before .fill .ensures .less
-    (sym (c .before .before .before .before .before .before .before .before .before .goes-on .ensures)
-    ∙ c .before .before .before .before .before .before .before .before .if1 .taken)
+loop-less c =
+    let g = c .before .before .before .before .before .before .before .before .before in
+    let p = g .before .loop .p in
+    let s = g .before .before .before .before .before .args .script .now in
+    c .before .before .before .before .before .before .fill .ensures .less (ltb-true 0 (weight s p) (sym (goes-on (p .stage) s p)
+    ∙ sym (g .goes-on .ensures) ∙ c .before .before .before .before .before .before .before .before .if1 .taken))
 
 loop-again : tie.Need-loop-again Inv-loop μ-loop
 loop-again c = (

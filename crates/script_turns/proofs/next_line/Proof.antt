@@ -1,11 +1,11 @@
--- `script::next_line` meets its contract.
+-- `script_turns::next_line` meets its contract.
 -- Assumes nothing.
 use native.Mathlib.Omega.{arith}
 use Rattle.text.specs.LineLaws.{line-ends}
-use Rattle.script.specs.PageTurns.{comes-closed, comes-unclosed}
+use Rattle.script_turns.specs.NextTurn.{comes-closed, comes-unclosed}
 use borrow.Author.Needs.{needs}
-use Rattle.script.proofs.next_line.Statement.{statement}
-use Rattle.script.proofs.next_line.Tie as tie
+use Rattle.script_turns.proofs.next_line.Statement.{statement}
+use Rattle.script_turns.proofs.next_line.Tie as tie
 
 sub-read-later : tie.Need-sub-read-later
 sub-read-later c = line-ends _ _ _ (c .before .next-line .ensures) (omega (arith, c .before .before .before .pre)) .after

@@ -1,10 +1,10 @@
--- `script::next_turn` meets its contract.
+-- `script_turns::next_turn` meets its contract.
 -- Assumes nothing.
 use native.Mathlib.Omega.{arith}
-use Rattle.script.specs.PageTurns.{comes-step, comes-as, comes-over}
+use Rattle.script_turns.specs.NextTurn.{comes-step, comes-as, comes-over}
 use borrow.Author.Needs.{needs}
-use Rattle.script.proofs.next_turn.Statement.{statement}
-use Rattle.script.proofs.next_turn.Tie as tie
+use Rattle.script_turns.proofs.next_turn.Statement.{statement}
+use Rattle.script_turns.proofs.next_turn.Tie as tie
 
 returns : tie.Need-returns
 returns c = comes-step _ _ _ (c .if1 .taken)

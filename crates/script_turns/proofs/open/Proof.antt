@@ -1,15 +1,16 @@
--- `script::open` meets its contract.
+-- `script_turns::open` meets its contract.
 -- Assumes nothing.
 use mathlib.Core.Path.{sym, _∙_}
-use Rattle.script.specs.PageTurns.{turned-as, turned-none, opening-takes, opening-refuses, opening-lacks}
+use Rattle.paging.specs.Players.{turned-as, turned-none}
+use Rattle.script_turns.specs.FirstTurn.{opening-takes, opening-refuses, opening-lacks}
 use borrow.Author.Needs.{needs}
-use Rattle.script.proofs.open.Statement.{statement}
-use Rattle.script.proofs.open.Tie as tie
+use Rattle.script_turns.proofs.open.Statement.{statement}
+use Rattle.script_turns.proofs.open.Tie as tie
 
 returns : tie.Need-returns
 returns c =
     turned-as (opening-takes _ _ _ _ _ (c .before .before .before .before .before .first .given .1) (c .before .before .before .«open» .ensures)
-    (sym (c .before .before .is-none .ensures) ∙ c .before .if1 .taken)) (turned-none _ _ _)
+    (sym (c .before .before .is-none .ensures) ∙ c .before .if1 .taken)) (turned-none _ _ _ _)
 
 returns-2 : tie.Need-returns-2
 returns-2 c =
