@@ -1,10 +1,8 @@
 -- The pages of a script.
 -- Assumes nothing.
-use mathlib.Core.Path.{_≡_, sym, ap, subst, _∙_}
+use mathlib.Core.Path.{_≡_, sym, ap, subst}
 use mathlib.Core.List.{List}
-use Prim.Native.Nat.{ℕ, _<_}
-use borrow.Author.Tests.{ltb-true}
-use Rattle.paging.specs.Players.{Piece}
+use Prim.Native.Nat.{ℕ}
 use Rattle.paging.specs.PageFilling.{Filled, Pages, pages-left}
 use Rattle.script_rules.specs.Printout.{printout}
 use Rattle.script_play.specs.declared.Play.{Play}
