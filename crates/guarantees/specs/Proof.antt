@@ -21,7 +21,7 @@ use Rattle.guarantees.specs.Rules.{call}
 use Rattle.guarantees.specs.Statement.{bookOf, Demand3, Demand3WithWaits, from-blank}
 
 -- an opening takes in no job
-opening-empty : (o : Opening) → opening o .jobs ≡ []
+pub opening-empty : (o : Opening) → opening o .jobs ≡ []
 unfolding opening
 opening-empty o = by (accepts (openingRefusal o))
   where

@@ -14,7 +14,7 @@ use lib.ListN.{length, getD, set, take, drop, replicate, replicate-append-replic
 use lib.Seq.{take-suc, take-all, length-take-le, getD-append-add, getD-drop}
 use borrow.Author.Tests.{eqb-true, eqb-false, eq-eqb, ne-eqb, lt-ltb, le-ltb, ltb-true, ltb-false, not-true, not-false}
 use Rattle.lists.specs.Tests.{case, true-false, both, and-right-false, le-or}
-use Rattle.lists.specs.Lists.{keep, any, In, here, there, keep-none}
+use Rattle.lists.specs.Lists.{keep, any, In, here, there, none-any, keep-none}
 use Rattle.lists.specs.Loops.{positionFrom, position, position-says, position-pad}
 use Rattle.lists.specs.Pads.{pad, pad-set}
 use Rattle.scheduler.specs.declared.Settings.{Settings}
@@ -83,10 +83,6 @@ cut-step n i xs l h =
     let len = length-take-le (i + 1) xs (omega arith) in
     ap (cut n) (ap (λ (k : ℕ). take k xs) (add-one (i + 1)) ∙ take-suc xs (i + 1) unused h)
     ∙ cut-append n (take (i + 1) xs) (getD xs (i + 1) unused ∷ []) (omega arith)
-
-none-any : (p : Job → Bool) (js : List Job) → ((j : Job) → In j js → p j ≡ false) → any p js ≡ false
-none-any p [] f = refl
-none-any p (j ∷ js) f = rw (f j (here refl)) (none-any p js (λ x i. f x (there i)))
 
 -- whether the one picked leaves at once
 abbrev goes : Departure → Settings → Bool

@@ -9,7 +9,7 @@ use mathlib.Core.Logic.{_⊎_, inl, inr}
 use lib.Dec.{eqb}
 use borrow.Author.Tests.{eqb-true, eq-eqb}
 use Rattle.lists.specs.Tests.{case, true-false, either}
-use Rattle.lists.specs.Lists.{keep, elem, In, here, there, in-nil, in-cons, keep-in, in-keep}
+use Rattle.lists.specs.Lists.{keep, elem, In, here, there, in-nil, in-cons, keep-in, in-keep, keep-cong}
 use Rattle.scheduler.specs.declared.Job.{Job}
 use Rattle.scheduler.specs.Table.{ticketOf, ticketsOf}
 
@@ -90,3 +90,18 @@ elem-picked p lo js j a i =
   where
     picked : p j ≡ true → elem (j .ticket) (ticketsOf (keep p js)) ≡ true
     picked q = job-elem (keep p js) (in-keep p i q)
+
+-- the tickets of those that pass a test tell who passes it
+tickets-tell : (p : Job → Bool) (lo : ℕ) (js : List Job) → Asc lo js → (j : Job) → In j js → elem (j .ticket) (ticketsOf (keep p js)) ≡ p j
+tickets-tell p lo js a j i =
+    case (p j)
+    (λ e. job-elem (keep p js) (in-keep p i e) ∙ sym e)
+    (λ e. case (elem (j .ticket) (ticketsOf (keep p js)))
+    (λ q.
+    let k = elem-job (j .ticket) (keep p js) q in
+    let w = keep-in p js (k .1) in
+    true-false (p j) (ap p (sym (asc-one lo js (k .0) j a (w .0) i (k .2))) ∙ w .1) e)
+    (λ q. q ∙ sym e))
+
+pub keep-tickets : (p : Job → Bool) (lo : ℕ) (js : List Job) → Asc lo js → keep (λ (j : Job). elem (j .ticket) (ticketsOf (keep p js))) js ≡ keep p js
+keep-tickets p lo js a = keep-cong (λ (j : Job). elem (j .ticket) (ticketsOf (keep p js))) p js (tickets-tell p lo js a)

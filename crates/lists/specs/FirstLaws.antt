@@ -10,7 +10,7 @@ use mathlib.Core.List.{List, [], _∷_, head?}
 use lib.ListN.{length, getD, drop, drop-of-length-le}
 use lib.Seq.{drop-cons}
 use Rattle.lists.specs.Tests.{case}
-use Rattle.lists.specs.Lists.{keep, first, In, in-nil, in-cons}
+use Rattle.lists.specs.Lists.{keep, first, In, here, there, in-nil, in-cons}
 use Rattle.lists.specs.Loops.{position, positionFrom, position-says}
 use mathlib.Core.Logic.{_⊎_, inl, inr}
 
@@ -26,6 +26,15 @@ module _ {A : Type 0} where
       by : p x ≡ false → (a ≡ x) ⊎ In a xs → (In a xs → p a ≡ false) → p a ≡ false
       by q (inl z) f = ap p z ∙ q
       by q (inr k) f = f k
+
+  -- and the other way round
+  pub none-first : (p : A → Bool) (xs : List A) → ((a : A) → In a xs → p a ≡ false) → first p xs ≡ none
+  none-first p [] f = refl
+  none-first p (x ∷ xs) f = rw (f x (here refl)) (none-first p xs (λ a i. f a (there i)))
+
+  pub first-cong : (p q : A → Bool) (xs : List A) → ((a : A) → In a xs → p a ≡ q a) → first p xs ≡ first q xs
+  first-cong p q [] f = refl
+  first-cong p q (x ∷ xs) f = rw (f x (here refl), first-cong p q xs (λ a i. f a (there i)))
 
   -- a search among those kept is one search
   pub first-keep : (p q : A → Bool) (xs : List A) → first p (keep q xs) ≡ first (λ (x : A). q x && p x) xs
@@ -67,3 +76,14 @@ module _ {A : Type 0} where
       case (p x)
       (λ q. absurd (let w : some k ≡ none = rw q at e in let z : _≡_ {A = ℕ} 0 1 = cc in omega arith))
       (λ q. rw q (first-nowhere p xs (k + 1) (rw q at e)))
+
+-- In a loop over places: the search goes on from the next one, or ends.
+module _ {A : Type 0} (z : A) where
+  pub first-skip : (p : A → Bool) (xs : List A) (i : ℕ) → i < length xs → p (getD xs i z) ≡ false → first p (drop i xs) ≡ first p (drop (i + 1) xs)
+  first-skip p xs i l e = rw (drop-cons xs i z l, e, add-one)
+
+  pub first-here : (p : A → Bool) (xs : List A) (i : ℕ) → i < length xs → p (getD xs i z) ≡ true → first p (drop i xs) ≡ some (getD xs i z)
+  first-here p xs i l e = rw (drop-cons xs i z l, e)
+
+  pub first-done : (p : A → Bool) (xs : List A) (i : ℕ) → length xs ≤ i → first p (drop i xs) ≡ none
+  first-done p xs i l = rw (drop-of-length-le xs l)

@@ -147,6 +147,15 @@ module _ {A : Type 0} where
   any-none p e (here {x = x} {xs = xs} z) = ap p z ∙ neither (p x) (any p xs) e .0
   any-none p e (there {x = x} {xs = xs} i) = any-none p (neither (p x) (any p xs) e .1) i
 
+  -- and the other way round
+  pub none-any : (p : A → Bool) (xs : List A) → ((a : A) → In a xs → p a ≡ false) → any p xs ≡ false
+  none-any p [] f = refl
+  none-any p (x ∷ xs) f = rw (f x (here refl)) (none-any p xs (λ a i. f a (there i)))
+
+  pub any-in : (p : A → Bool) {xs : List A} {a : A} → In a xs → p a ≡ true → any p xs ≡ true
+  any-in p (here z) e = rw (sym (ap p z) ∙ e)
+  any-in p (there {x = x} i) e = case (p x) (λ y. rw y) (λ y. rw y (any-in p i e))
+
   pub keep-none : (p : A → Bool) (xs : List A) → ((a : A) → In a xs → p a ≡ false) → keep p xs ≡ []
   keep-none p [] f = refl
   keep-none p (x ∷ xs) f = rw (f x (here refl), keep-none p xs (λ a i. f a (there i)))

@@ -1,3 +1,4 @@
+pub mod FirstPieces
 pub mod Pieces
 pub mod Remainder
 pub mod Progress

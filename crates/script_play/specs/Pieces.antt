@@ -24,6 +24,7 @@ use Rattle.script_rules.specs.LineLaws.{lineOf, past}
 use Rattle.script_rules.specs.Reading.{openingIn, commandOf}
 use Rattle.script_rules.specs.Writing.{noRow}
 use Rattle.script_rules.specs.Printout.{malformed, printed, longestScript}
+use Rattle.script_play.specs.FirstPieces.{firstBy}
 use Rattle.script_play.specs.declared.Play.{Play}
 use Rattle.script_play.specs.declared.Stage.the-variants.{First, Playing, Over}
 use Rattle.script_play.specs.declared.Stage.{Stage}
@@ -34,23 +35,12 @@ over p = record { stage = Over; at = p .at; steps = p .steps; scheduler = p .sch
 abbrev pub going : ℕ → ℕ → Scheduler → Play
 going at steps d = record { stage = Playing; at = at; steps = steps; scheduler = d }
 
--- the first line
-abbrev pub openingPiece : Play → ℕ → Option Opening → Piece Play
-openingPiece p next none = piece malformed (over p)
-openingPiece p next (some o) =
-    cond
-    (accepts (openingRefusal o))
-    (piece [] (going next 0 (opened o .scheduler)))
-    (piece (noRow (code (openingRefusal o))) (over p))
-
--- by how the script begins
-abbrev pub firstBy : Begins → List ℕ → Play → Piece Play
-firstBy begins.Nothing s p = piece [] (over p)
-firstBy begins.Malformed s p = piece malformed (over p)
-firstBy (begins.Line e) s p = openingPiece p (e + 1) (openingIn (take e s))
+-- the first line: it opens the scheduler, or the script is over
+abbrev pub starts : ℕ → Scheduler → Play
+starts next d = going next 0 d
 
 abbrev pub firstPiece : List ℕ → Play → Piece Play
-firstPiece s p = firstBy (beginsOf longestScript s) s p
+firstPiece s p = firstBy (over p) starts openingIn (beginsOf longestScript s) s
 
 -- one call
 abbrev pub callPiece : ℕ → ℕ → Scheduler → Call → Piece Play

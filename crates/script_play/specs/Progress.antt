@@ -13,7 +13,7 @@ use Rattle.lists.specs.Tests.{case, neither}
 use Rattle.text.specs.declared.Begins.{Begins}
 use Rattle.text.specs.declared.Begins.the-variants as begins
 use Rattle.text.specs.Lines.{beginsOf}
-use Rattle.text.specs.LineLaws.{Inside, begins-inside}
+use Rattle.text.specs.LineLaws.{begins-inside}
 use Rattle.paging.specs.Players.{Player, pieces, pieces-left}
 use Rattle.scheduler.specs.declared.Opening.{Opening}
 use Rattle.scheduler.specs.declared.Refusal.the-variants as refusal
@@ -29,10 +29,11 @@ use Rattle.guarantees.specs.Premise.{Premise, call-premise, opened-premise}
 use Rattle.script_rules.specs.LineLaws.{lineOf, past, Past, past-line}
 use Rattle.script_rules.specs.Reading.{openingIn, commandOf}
 use Rattle.script_rules.specs.Printout.{longestScript, printout}
+use Rattle.script_play.specs.FirstPieces.{first-holds}
 use Rattle.script_play.specs.declared.Play.{Play}
 use Rattle.script_play.specs.declared.Stage.the-variants.{First, Playing, Over}
 use Rattle.script_play.specs.declared.Stage.{Stage}
-use Rattle.script_play.specs.Pieces.{beginning, over, going, openingPiece, firstBy, commandPiece, laterPiece, pieceBy, pieceOf}
+use Rattle.script_play.specs.Pieces.{beginning, over, going, starts, firstPiece, commandPiece, laterPiece, pieceBy, pieceOf}
 use Rattle.script_play.specs.Remainder.{left, leftBy, next-piece}
 
 -- what holds of a script that is being played
@@ -101,17 +102,11 @@ module _ (s : List ℕ) where
   more : (w v : ℕ) (p : Play) → w ≤ v → Onward s w p → Onward s v p
   more w v p h o = record { ready = o .ready; less = omega (arith, h, o .less) }
 
-  by-opening : (p : Play) → InPlay s p → (e : ℕ) → e < length s → (q : Option Opening) → Onward s (weightBy First s p) (openingPiece p (e + 1) q .play)
-  by-opening p r e h none = over-onward _ p r
-  by-opening p r e h (some o) =
-      case (accepts (openingRefusal o))
-      (λ a. rw a (more _ _ _ (omega arith) (onward 0 (e + 1) 0 _ (opened-premise o) (omega arith) (omega arith) (omega arith))))
-      (λ a. rw a (over-onward _ p r))
-
-  by-first : (p : Play) → InPlay s p → (b : Begins) → Inside s b → Onward s (weightBy First s p) (firstBy b s p .play)
-  by-first p r begins.Nothing h = over-onward _ p r
-  by-first p r begins.Malformed h = over-onward _ p r
-  by-first p r (begins.Line e) h = by-opening p r e h (openingIn (take e s))
+  by-first : (p : Play) → InPlay s p → Onward s (weightBy First s p) (firstPiece s p .play)
+  by-first p r =
+      first-holds (over p) starts openingIn s (Onward s (weightBy First s p)) (over-onward _ p r)
+      (λ e h o f a. more _ _ _ (omega arith) (onward 0 (e + 1) 0 _ (opened-premise o) (omega arith) (omega arith) (omega arith)))
+      (beginsOf longestScript s) (begins-inside longestScript s)
 
   by-later : (p : Play) → InPlay s p → Onward s (weightBy Playing s p) (laterPiece s p .play)
   unfolding laterPiece
@@ -127,7 +122,7 @@ module _ (s : List ℕ) where
 
   -- of a piece: what holds goes on holding, and a script that is not over has less to play
   by-stage : (g : Stage) (p : Play) → p .stage ≡ g → InPlay s p → InPlay s (pieceBy g s p .play) × (weight s (pieceBy g s p .play) ≤ weightBy g s p - 1)
-  by-stage First p e r = let o = by-first p r (beginsOf longestScript s) (begins-inside longestScript s) in (o .ready, omega (arith, o .less))
+  by-stage First p e r = let o = by-first p r in (o .ready, omega (arith, o .less))
   by-stage Playing p e r = let o = by-later p r in (o .ready, omega (arith, o .less))
   by-stage Over p e r = (r, subst (λ (g : Stage). weightBy g s p ≤ 0) (sym e) (omega arith))
 

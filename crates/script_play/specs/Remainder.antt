@@ -29,11 +29,12 @@ use Rattle.script_rules.specs.LineLaws.{lineOf, past, lines-done, lines-from}
 use Rattle.script_rules.specs.Reading.{openingIn, commandOf}
 use Rattle.script_rules.specs.Writing.{noRow, textOf}
 use Rattle.script_rules.specs.Printout.{malformed, printed, printedAll, calledBy, printedBy, played, openedBy, longestScript, printout}
-use Rattle.script_rules.specs.Beginnings.{begun, printout-begins}
+use Rattle.script_rules.specs.Beginnings.{printout-begins}
+use Rattle.script_play.specs.FirstPieces.{first-left}
 use Rattle.script_play.specs.declared.Play.{Play}
 use Rattle.script_play.specs.declared.Stage.the-variants.{First, Playing, Over}
 use Rattle.script_play.specs.declared.Stage.{Stage}
-use Rattle.script_play.specs.Pieces.{openingPiece, firstBy, firstPiece, callPiece, commandPiece, laterBy, laterPiece, pieceBy, pieceOf}
+use Rattle.script_play.specs.Pieces.{over, starts, firstPiece, callPiece, commandPiece, laterBy, laterPiece, pieceBy, pieceOf}
 
 -- what a script has still to print
 abbrev pub fromHere : List ℕ → ℕ → ℕ → Model → List ℕ
@@ -82,24 +83,17 @@ module _ (s : List ℕ) where
         rw e (ap (λ t. t ++ played (call m (unchanged w) .model) ls) (append-nil (printed m (unchanged w)) ∙ refusal-text m w e)
         ∙ ap (λ (r : Result). noRow (code w) ++ played (r .model) ls) (unchanged-refuses m w)))
 
-  by-opening : (p : Play) (at : ℕ) (q : Option Opening) → openedBy played q (linesOf (drop at s)) ≡ openingPiece p at q .text ++ left s (openingPiece p at q .play)
+  opened-left : (next : ℕ) (o : Opening) → left s (starts next (opened o .scheduler)) ≡ played (opening o) (linesOf (drop next s))
   unfolding
       opened
       printedAll
-  by-opening p at none = sym (append-nil malformed)
-  by-opening p at (some o) =
-      case (accepts (openingRefusal o))
-      (λ e. rw e (ap (λ m. played m (linesOf (drop at s))) (sym (valid-view (opening o) (opening-valid o)))))
-      (λ e. rw e (sym (append-nil (noRow (code (openingRefusal o))))))
-
-  by-begins : (p : Play) (b : Begins) → begun openingIn played s b ≡ firstBy b s p .text ++ left s (firstBy b s p .play)
-  by-begins p begins.Nothing = refl
-  by-begins p begins.Malformed = sym (append-nil malformed)
-  by-begins p (begins.Line e) = by-opening p (e + 1) (openingIn (take e s))
+  opened-left next o = ap (λ m. played m (linesOf (drop next s))) (valid-view (opening o) (opening-valid o))
 
   by-first : (p : Play) → printout s ≡ firstPiece s p .text ++ left s (firstPiece s p .play)
   unfolding printout
-  by-first p = printout-begins openingIn played longestScript s ∙ by-begins p (beginsOf longestScript s)
+  by-first p =
+      printout-begins openingIn played longestScript s
+      ∙ first-left (over p) starts openingIn s played (left s) refl (λ e o f a. opened-left (e + 1) o) (beginsOf longestScript s)
 
   by-steps : (n : ℕ) (p : Play) → Premise (p .scheduler) → fromHere s (p .at) n (view (p .scheduler)) ≡ laterBy n s p .text ++ left s (laterBy n s p .play)
   unfolding

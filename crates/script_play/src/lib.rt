@@ -1,10 +1,24 @@
 // Where a script stands between two of its pieces.
+ghost use mathlib.Core.Path.{_≡_};
+ghost use Rattle.script_play.specs.Progress.{goesOn};
 use scheduler::Scheduler;
 
 pub enum Stage {
     First,
     Playing,
     Over,
+}
+
+impl Stage {
+    pub fn goes_on(self) -> bool
+        ensures { λ r. ⌜ r ≡ goesOn self ⌝ }
+    {
+        match self {
+            Stage::First => true,
+            Stage::Playing => true,
+            Stage::Over => false,
+        }
+    }
 }
 
 // The place of the next line, the steps of a wait still to go, and the scheduler.

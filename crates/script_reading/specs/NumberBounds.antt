@@ -38,24 +38,24 @@ abbrev pub Any : {A : Type 0} → (A → Type 0) → Option A → Type 0
 Any {A} P o = (a : A) → o ≡ some a → P a
 
 module _ {A : Type 0} (P : A → Type 0) where
-  any-none : Any P none
+  pub any-none : Any P none
   any-none a e = absurd (let z : _≡_ {A = ℕ} 0 1 = cc in omega arith)
 
-  any-some : (b : A) → P b → Any P (some b)
+  pub any-some : (b : A) → P b → Any P (some b)
   any-some b h a e = let q : b ≡ a = cc in subst P q h
 
-  any-number : (p : Parsed) (f : ℕ → Option A) → ((v : ℕ) → p ≡ Is v → Any P (f v)) → Any P (withNumber p f)
+  pub any-number : (p : Parsed) (f : ℕ → Option A) → ((v : ℕ) → p ≡ Is v → Any P (f v)) → Any P (withNumber p f)
   any-number (Is v) f h = h v refl
   any-number Not f h = any-none
 
-  any-field : (s : List ℕ) (k : ℕ) (f : ℕ → Option A) → ((v : ℕ) → Small v → Any P (f v)) → Any P (withNumber (numberAt s k) f)
+  pub any-field : (s : List ℕ) (k : ℕ) (f : ℕ → Option A) → ((v : ℕ) → Small v → Any P (f v)) → Any P (withNumber (numberAt s k) f)
   any-field s k f h = any-number (numberAt s k) f (λ v e. h v (number-most (fieldOf s k) v e))
 
-  any-kind : (k : Option Kind) (f : Kind → Option A) → ((κ : Kind) → Any P (f κ)) → Any P (withKind k f)
+  pub any-kind : (k : Option Kind) (f : Kind → Option A) → ((κ : Kind) → Any P (f κ)) → Any P (withKind k f)
   any-kind (some κ) f h = h κ
   any-kind none f h = any-none
 
-  any-cond : (b : Bool) (x y : Option A) → Any P x → Any P y → Any P (cond b x y)
+  pub any-cond : (b : Bool) (x y : Option A) → Any P x → Any P y → Any P (cond b x y)
   any-cond true x y h k = h
   any-cond false x y h k = k
 

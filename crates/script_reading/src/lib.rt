@@ -27,7 +27,7 @@ pub enum Asked {
 }
 
 // Which rules a word names.
-enum Named {
+pub enum Named {
     Rules(Kind),
     Nothing,
 }
@@ -42,7 +42,7 @@ fn has_form(count: usize, first: &[u8], fields: usize, word: &[u8]) -> bool
     text::is_word(first, word)
 }
 
-fn read_kind(part: &[u8]) -> Named
+pub fn read_kind(part: &[u8]) -> Named
     ensures { λ r. ⌜ follows r ≡ kindOf (now (part .entry)) ⌝ }
 {
     if text::is_word(part, b"promise") {

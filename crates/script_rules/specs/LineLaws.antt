@@ -12,7 +12,7 @@ use borrow.Author.Tests.{ltb-true, ltb-false}
 use Rattle.lists.specs.Tests.{case}
 use Rattle.text.specs.Prefixes.{upto, upto-take, upto-le}
 use Rattle.text.specs.Lines.{lineAt}
-use Rattle.script_rules.specs.Lines.{Line, linesOf}
+use Rattle.script_rules.specs.Lines.{Line, inLine, linesOf}
 
 -- the line at a place, and where the next one begins
 abbrev pub lineOf : List ℕ → ℕ → Line
@@ -44,6 +44,16 @@ lines-unclosed (b ∷ c ∷ bs) h q =
     case (eqb b 10)
     (λ e. absurd (omega (arith, rw e at q)))
     (λ e. rw (e, lines-unclosed (c ∷ bs) (omega arith) (omega (arith, rw e at q))))
+
+-- no more lines than bytes
+pub lines-few : (t : List ℕ) → length (linesOf t) ≤ length t
+unfolding linesOf
+lines-few [] = omega arith
+lines-few (b ∷ bs) = case (eqb b 10) (λ e. rw e (omega (arith, lines-few bs))) (λ e. rw e (omega (arith, one (linesOf bs), lines-few bs)))
+  where
+    one : (ls : List Line) → length (inLine b ls) ≤ suc (length ls)
+    one [] = omega arith
+    one (l ∷ ls) = omega arith
 
 pub lines-done : (s : List ℕ) (at : ℕ) → length s ≤ at → linesOf (drop at s) ≡ []
 unfolding linesOf

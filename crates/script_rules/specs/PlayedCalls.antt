@@ -116,7 +116,7 @@ tells m (l ∷ ls) = line (commandOf l) (tells (after call m (calledBy m (comman
         ∙ ap (λ t. events call m cs ++ t) e
         ∙ sym (events-append m cs (allCalls call rest (commands ls)))
 
-first-events : (m : Model) (cs : List Call) (i : ℕ) → take i (events call m cs) ≡ events call m (take i cs)
+pub first-events : (m : Model) (cs : List Call) (i : ℕ) → take i (events call m cs) ≡ events call m (take i cs)
 first-events m cs zero = refl
 first-events m [] (suc i) = refl
 first-events m (c ∷ cs) (suc i) = ap (λ t. record { call = c; reply = call m c .reply } ∷ t) (first-events (call m c .model) cs i)

@@ -1,4 +1,4 @@
--- The turn of a first line: the piece that the definitions give.
+-- The turn of a first line: the piece that the definitions give, of anything that is played over the scheduler which that line opens.
 -- Assumes nothing.
 use mathlib.Core.Path.{_≡_, sym, ap, _∙_}
 use mathlib.Core.Bool.{true, false}
@@ -9,43 +9,53 @@ use lib.ListN.{take}
 use Rattle.text.specs.declared.Begins.{Begins}
 use Rattle.text.specs.declared.Begins.the-variants as begins
 use Rattle.text.specs.Lines.{beginsOf}
-use Rattle.paging.specs.Players.{piece}
+use Rattle.paging.specs.Players.{Piece, piece}
 use Rattle.scheduler.specs.declared.Opening.{Opening}
 use Rattle.scheduler.specs.declared.Opened.{Opened}
+use Rattle.scheduler.specs.declared.Scheduler.{Scheduler}
 use Rattle.scheduler.specs.Opening.{openingRefusal, opened}
 use Rattle.scheduler.specs.Answers.{accepts, code}
-use Rattle.script_rules.specs.Reading.{openingIn}
 use Rattle.script_rules.specs.Writing.{noRow}
-use Rattle.script_rules.specs.Printout.{malformed, longestScript}
+use Rattle.script_rules.specs.Printout.{malformed}
 use Rattle.script_reading.specs.declared.FirstLine.{FirstLine}
 use Rattle.script_reading.specs.declared.FirstLine.the-variants as first
 use Rattle.script_reading.specs.Meaning.{opens}
-use Rattle.script_play.specs.declared.Play.{Play}
-use Rattle.script_play.specs.Pieces.{over, going, openingPiece, firstBy, firstPiece}
+use Rattle.script_play.specs.FirstPieces.{openingPiece, firstBy}
 
--- by how the script begins
-module _ (s : List ℕ) (p : Play) {b : Begins} (e : b ≡ beginsOf longestScript s) where
-  pub first-by : {c : Begins} → b ≡ c → firstBy c s p ≡ firstPiece s p
-  first-by {c} f = ap (λ (x : Begins). firstBy x s p) (sym f ∙ e)
+module _ {P : Type 0} (stops : P) (starts : ℕ → Scheduler → P) where
+  -- by how the text begins
+  module _ (opens : List ℕ → Option Opening) (longest : ℕ) (s : List ℕ) {b : Begins} (e : b ≡ beginsOf longest s) where
+    abbrev whole : Piece P
+    whole = firstBy stops starts opens (beginsOf longest s) s
 
-  pub first-line : {end : ℕ} {o : Option Opening} → b ≡ begins.Line end → o ≡ openingIn (take end s) → openingPiece p (end + 1) o ≡ firstPiece s p
-  first-line {end} g h = ap (openingPiece p (end + 1)) h ∙ first-by g
+    pub first-by : {c : Begins} → b ≡ c → firstBy stops starts opens c s ≡ whole
+    first-by {c} f = ap (λ (x : Begins). firstBy stops starts opens x s) (sym f ∙ e)
 
-module _ (p : Play) (next : ℕ) (f : FirstLine) where
-  module _ (o : Opening) (r : Opened) (e : f ≡ first.Opens o) (g : r ≡ opened o) where
-    pub opening-takes : accepts (r .refusal) ≡ true → piece [] (going next 0 (r .scheduler)) ≡ openingPiece p next (opens f)
-    unfolding opened
-    opening-takes a =
-        let b : accepts (openingRefusal o) ≡ true = sym (ap (λ (x : Opened). accepts (x .refusal)) g) ∙ a in
-        let taken : openingPiece p next (some o) ≡ piece [] (going next 0 (opened o .scheduler)) = rw b in
-        ap (λ (x : Opened). piece [] (going next 0 (x .scheduler))) g ∙ sym taken ∙ ap (λ (x : FirstLine). openingPiece p next (opens x)) (sym e)
+    pub first-line : {end : ℕ} {o : Option Opening} → b ≡ begins.Line end → o ≡ opens (take end s) → openingPiece stops starts (end + 1) o ≡ whole
+    first-line {end} g h = ap (openingPiece stops starts (end + 1)) h ∙ first-by g
 
-    pub opening-refuses : accepts (r .refusal) ≡ false → piece (noRow (code (r .refusal))) (over p) ≡ openingPiece p next (opens f)
-    unfolding opened
-    opening-refuses a =
-        let b : accepts (openingRefusal o) ≡ false = sym (ap (λ (x : Opened). accepts (x .refusal)) g) ∙ a in
-        let refuses : openingPiece p next (some o) ≡ piece (noRow (code (openingRefusal o))) (over p) = rw b in
-        ap (λ (x : Opened). piece (noRow (code (x .refusal))) (over p)) g ∙ sym refuses ∙ ap (λ (x : FirstLine). openingPiece p next (opens x)) (sym e)
+  -- by what its first line says
+  module _ (next : ℕ) (f : FirstLine) where
+    abbrev asked : Piece P
+    asked = openingPiece stops starts next (opens f)
 
-  pub opening-lacks : f ≡ first.Malformed → piece malformed (over p) ≡ openingPiece p next (opens f)
-  opening-lacks e = ap (λ (x : FirstLine). openingPiece p next (opens x)) (sym e)
+    module _ (o : Opening) (r : Opened) (e : f ≡ first.Opens o) (g : r ≡ opened o) where
+      said : openingPiece stops starts next (some o) ≡ asked
+      said = ap (λ (x : FirstLine). openingPiece stops starts next (opens x)) (sym e)
+
+      pub opening-takes : accepts (r .refusal) ≡ true → piece [] (starts next (r .scheduler)) ≡ asked
+      unfolding opened
+      opening-takes a =
+          let b : accepts (openingRefusal o) ≡ true = sym (ap (λ (x : Opened). accepts (x .refusal)) g) ∙ a in
+          let taken : openingPiece stops starts next (some o) ≡ piece [] (starts next (opened o .scheduler)) = rw b in
+          ap (λ (x : Opened). piece [] (starts next (x .scheduler))) g ∙ sym taken ∙ said
+
+      pub opening-refuses : accepts (r .refusal) ≡ false → piece (noRow (code (r .refusal))) stops ≡ asked
+      unfolding opened
+      opening-refuses a =
+          let b : accepts (openingRefusal o) ≡ false = sym (ap (λ (x : Opened). accepts (x .refusal)) g) ∙ a in
+          let refuses : openingPiece stops starts next (some o) ≡ piece (noRow (code (openingRefusal o))) stops = rw b in
+          ap (λ (x : Opened). piece (noRow (code (x .refusal))) stops) g ∙ sym refuses ∙ said
+
+    pub opening-lacks : f ≡ first.Malformed → piece malformed stops ≡ asked
+    opening-lacks e = ap (λ (x : FirstLine). openingPiece stops starts next (opens x)) (sym e)

@@ -7,7 +7,8 @@ ghost use Rattle.scheduler.specs.Answers.{code};
 ghost use Rattle.script_rules.specs.Writing.{noRow};
 ghost use Rattle.script_reading.specs.Meaning.{opens};
 ghost use Rattle.script_writing.specs.AnswerText.{pageBytes};
-ghost use Rattle.script_play.specs.Pieces.{over, openingPiece, firstPiece};
+ghost use Rattle.script_play.specs.FirstPieces.{openingPiece};
+ghost use Rattle.script_play.specs.Pieces.{over, starts, firstPiece};
 ghost use Rattle.script_turns.specs.NextTurn.{Comes};
 use scheduler::Refusal;
 use scheduler::Request;
@@ -43,7 +44,7 @@ fn refuse(p: Play, reason: Refusal, page: &mut [u8]) -> Played
 // What a first line asks.
 fn open(p: Play, next: usize, first: FirstLine, page: &mut [u8]) -> Played
     requires { ⌜ pageBytes ≤ length (now page) ⌝ }
-    ensures { λ r. ⌜ Turned pageBytes (openingPiece p next (opens first)) (now (page .entry)) 0 (now (page .exit)) (r .end) (r .play) ⌝ }
+    ensures { λ r. ⌜ Turned pageBytes (openingPiece (over p) starts next (opens first)) (now (page .entry)) 0 (now (page .exit)) (r .end) (r .play) ⌝ }
 {
     match first {
         FirstLine::Opens(o) => {

@@ -36,7 +36,7 @@ fn promises(kind: Kind) -> bool
 }
 
 // The writers write at a place, where the page has room for the most that they write, and give back the place after what they wrote.
-fn put_field(page: &mut [u8], at: usize, v: u32) -> usize
+pub fn put_field(page: &mut [u8], at: usize, v: u32) -> usize
     requires { ⌜ at + 11 ≤ length (now page) ⌝ }
     ensures { λ r. ⌜ Wrote 11 (now (page .entry)) at (andField (decimalOf v)) (now (page .exit)) r ⌝ }
 {
@@ -45,7 +45,7 @@ fn put_field(page: &mut [u8], at: usize, v: u32) -> usize
 }
 
 // The last field of a line, and the line's end.
-fn put_last(page: &mut [u8], at: usize, v: u32) -> usize
+pub fn put_last(page: &mut [u8], at: usize, v: u32) -> usize
     requires { ⌜ at + 12 ≤ length (now page) ⌝ }
     ensures { λ r. ⌜ Wrote 12 (now (page .entry)) at (andField (decimalOf v) ++ (10 ∷ [])) (now (page .exit)) r ⌝ }
 {

@@ -8,6 +8,8 @@ use lib.Seq.{length-take-le}
 use Rattle.text.specs.LineLaws.{begins-at}
 use Rattle.paging.specs.Players.{turned-as, turned-none}
 use Rattle.script_rules.specs.Printout.{longestScript}
+use Rattle.script_rules.specs.Reading.{openingIn}
+use Rattle.script_play.specs.Pieces.{starts}
 use Rattle.script_turns.specs.FirstTurn.{first-by, first-line}
 use borrow.Author.Needs.{needs}
 use Rattle.script_turns.proofs.first.Statement.{statement}
@@ -24,17 +26,17 @@ add-open : tie.Need-add-open
 add-open c = omega (arith, inside (c .before .before .before))
 
 returns : tie.Need-returns
-returns c = turned-as (first-by _ _ (c .before .before .before .first-line .ensures) (c .before .enum-told .given .1)) (turned-none _ _ _ _)
+returns c = turned-as (first-by _ starts openingIn longestScript _ (c .before .before .before .first-line .ensures) (c .before .enum-told .given .1)) (turned-none _ _ _ _)
 
 returns-2 : tie.Need-returns-2
 returns-2 c =
-    turned-as (first-by _ _ (c .before .before .before .before .before .before .first-line .ensures) (c .before .before .before .before .enum-told2 .given .1))
+    turned-as (first-by _ starts openingIn longestScript _ (c .before .before .before .before .before .before .first-line .ensures) (c .before .before .before .before .enum-told2 .given .1))
     (c .before .before .refuse .ensures)
 
 returns-3 : tie.Need-returns-3
 returns-3 c =
     let b = c .before .before .before .before .before .before .before in
-    turned-as (first-line _ _ (b .before .before .first-line .ensures) (b .begins .given .1) (c .before .before .before .before .read-first .ensures))
+    turned-as (first-line _ starts openingIn longestScript _ (b .before .before .first-line .ensures) (b .begins .given .1) (c .before .before .before .before .read-first .ensures))
     (c .before .before .«open» .ensures)
 
 pub first-spec : {M : Type 1} → statement M

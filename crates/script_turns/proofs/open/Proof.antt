@@ -2,6 +2,7 @@
 -- Assumes nothing.
 use mathlib.Core.Path.{sym, _∙_}
 use Rattle.paging.specs.Players.{turned-as, turned-none}
+use Rattle.script_play.specs.Pieces.{starts}
 use Rattle.script_turns.specs.FirstTurn.{opening-takes, opening-refuses, opening-lacks}
 use borrow.Author.Needs.{needs}
 use Rattle.script_turns.proofs.open.Statement.{statement}
@@ -9,17 +10,17 @@ use Rattle.script_turns.proofs.open.Tie as tie
 
 returns : tie.Need-returns
 returns c =
-    turned-as (opening-takes _ _ _ _ _ (c .before .before .before .before .before .first .given .1) (c .before .before .before .«open» .ensures)
+    turned-as (opening-takes _ starts _ _ _ _ (c .before .before .before .before .before .first .given .1) (c .before .before .before .«open» .ensures)
     (sym (c .before .before .is-none .ensures) ∙ c .before .if1 .taken)) (turned-none _ _ _ _)
 
 returns-2 : tie.Need-returns-2
 returns-2 c =
-    turned-as (opening-refuses _ _ _ _ _ (c .before .before .before .before .before .before .before .before .first .given .1)
+    turned-as (opening-refuses _ starts _ _ _ _ (c .before .before .before .before .before .before .before .before .first .given .1)
     (c .before .before .before .before .before .before .«open» .ensures)
     (sym (c .before .before .before .before .before .is-none .ensures) ∙ c .before .before .before .before .if1 .left)) (c .before .before .refuse .ensures)
 
 returns-3 : tie.Need-returns-3
-returns-3 c = turned-as (opening-lacks _ _ _ (c .before .before .before .before .enum-told .given .1)) (c .before .before .refuse2 .ensures)
+returns-3 c = turned-as (opening-lacks _ starts _ _ (c .before .before .before .before .enum-told .given .1)) (c .before .before .refuse2 .ensures)
 
 pub open-spec : {M : Type 1} → statement M
 open-spec =
