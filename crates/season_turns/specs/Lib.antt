@@ -1,0 +1,4 @@
+pub mod EndingSlot
+pub mod QuietSlots
+pub mod DueRows
+pub mod NextTurn
