@@ -1,4 +1,4 @@
--- `script_runner::read_whole` meets its contract: each read puts no more bytes than there is room for.
+-- `inputs::read_whole` meets its contract: each read puts no more bytes than there is room for.
 -- Assumes nothing.
 use mathlib.Core.Path.{_≡_, sym}
 use mathlib.Core.List.{List}
@@ -7,8 +7,8 @@ use lib.ListN.{length}
 use lib.Seq.{length-take-le}
 use borrow.Author.Needs.{needs}
 use Rattle.io.specs.Counts.{Counts}
-use Rattle.script_runner.proofs.read_whole.Statement.{statement}
-use Rattle.script_runner.proofs.read_whole.Tie as tie
+use Rattle.inputs.proofs.read_whole.Statement.{statement}
+use Rattle.inputs.proofs.read_whole.Tie as tie
 
 counted : (n : ℕ) (xs : List ℕ) → n ≤ length xs → Counts n xs
 counted n xs h = (h, sym (length-take-le n xs h))

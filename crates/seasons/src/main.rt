@@ -1,0 +1,4 @@
+// Plays the seasons whose lists the arguments name, each after its name.
+fn main() {
+    season_runner::run_files();
+}
