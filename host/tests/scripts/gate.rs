@@ -1,26 +1,23 @@
-//! The sheets of the gate's program `crates/sheets`: `args` has their names, `data` the sheets, and `stdout` each name and its printout.
+//! What a program of the gate plays and prints: `args` has the names of its files, `data` the files, and `stdout` each name and its printout.
 
-use crate::program::{played, same};
 use std::fs::{read, read_to_string};
-use std::path::Path;
+use std::path::{Path, PathBuf};
 
-/// "A sheet has at most 65,536 bytes": of the sheet alone, not of a script.
-const LONGEST_SHEET: usize = 65_536;
-
-pub fn prints_as_the_program(folder: &Path) {
-    let stdout = read(folder.join("stdout")).unwrap();
+/// Each file that the program of a crate plays, with the printout that it is held to.
+pub fn printouts(folder: &Path) -> Vec<(PathBuf, Vec<u8>)> {
+    let (args, stdout) = (read_to_string(folder.join("args")).unwrap(), read(folder.join("stdout")).unwrap());
+    let names: Vec<&str> = args.lines().collect();
+    let is_name = |line: &[u8]| names.iter().any(|name| line.strip_suffix(b"\n") == Some(name.as_bytes()));
     let mut lines = stdout.split_inclusive(|byte| *byte == b'\n').peekable();
-    for name in read_to_string(folder.join("args")).unwrap().lines() {
+    let mut printouts = Vec::new();
+    for name in &names {
         assert_eq!(lines.next(), Some(format!("{name}\n").as_bytes()));
-        let mut expected = Vec::new();
-        while let Some(line) = lines.next_if(|line| !line.ends_with(b".sheet\n")) {
-            expected.extend(line);
+        let mut printout = Vec::new();
+        while let Some(line) = lines.next_if(|line| !is_name(line)) {
+            printout.extend(line);
         }
-        let path = folder.join("data").join(name);
-        let sheet = read(&path).unwrap();
-        if sheet.len() <= LONGEST_SHEET {
-            same(&path, &played(&sheet), &expected);
-        }
+        printouts.push((folder.join("data").join(name), printout));
     }
     assert_eq!(lines.next(), None);
+    printouts
 }

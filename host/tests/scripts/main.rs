@@ -10,6 +10,9 @@ use std::io::{BufRead, BufReader, Write};
 use std::path::{Path, PathBuf};
 use std::process::Stdio;
 
+/// "A sheet has at most 65,536 bytes": of the sheet alone, not of a script.
+const LONGEST_SHEET: usize = 65_536;
+
 fn root() -> PathBuf {
     Path::new(env!("CARGO_MANIFEST_DIR")).join("..")
 }
@@ -52,7 +55,12 @@ fn sheets_of_the_readme() {
 #[test]
 fn sheets_of_the_gate() {
     let crates = root().join("crates");
-    gate::prints_as_the_program(&crates.join("sheets"));
+    for (path, expected) in gate::printouts(&crates.join("sheets")) {
+        let sheet = read(&path).unwrap();
+        if sheet.len() <= LONGEST_SHEET {
+            program::same(&path, &played(&sheet), &expected);
+        }
+    }
     let sheet = crates.join("sheet");
     program::same(&sheet, &played(&read(sheet.join("stdin")).unwrap()), &read(sheet.join("stdout")).unwrap());
 }

@@ -1,7 +1,9 @@
-//! Seasons, on a model written from document 02's words: it prints what stands beside the seasons of `bench/season/data`, and what the
-//! season program prints for random ones. SEASON names that program, with its arguments; by default it is `target/bin/season`, and where
-//! that is not built, random seasons are left out.
+//! Seasons, on a model written from document 02's words: it prints what the gate's program `crates/seasons` is held to, and what the season
+//! program prints for random ones. SEASON names that program, with its arguments; by default it is `target/bin/season`, and where that is not
+//! built, random seasons are left out.
 
+#[path = "../scripts/gate.rs"]
+mod gate;
 #[path = "../lists/model.rs"]
 #[allow(dead_code)]
 mod model;
@@ -10,7 +12,7 @@ mod random;
 mod season;
 
 use random::Random;
-use std::fs::{read, read_dir};
+use std::fs::read;
 use std::io::Write;
 use std::path::{Path, PathBuf};
 use std::process::{Command, Stdio};
@@ -21,20 +23,21 @@ fn root() -> PathBuf {
     Path::new(env!("CARGO_MANIFEST_DIR")).join("..")
 }
 
+fn prints(path: &Path, expected: &[u8]) {
+    assert!(season::printout(&read(path).unwrap()).as_bytes() == expected, "{}", path.display());
+}
+
 #[test]
-fn seasons_with_their_printouts() {
-    let mut played = 0;
-    for folder in ["vectors", "awkward"] {
-        for entry in read_dir(root().join("bench/season/data").join(folder)).unwrap() {
-            let path = entry.unwrap().path();
-            if path.extension().is_some_and(|e| e == "season") {
-                let expected = String::from_utf8(read(path.with_extension("out")).unwrap()).unwrap();
-                assert!(season::printout(&read(&path).unwrap()) == expected, "{}", path.display());
-                played += 1;
-            }
-        }
+fn seasons_of_the_gate() {
+    for (path, expected) in gate::printouts(&root().join("crates/seasons")) {
+        prints(&path, &expected);
     }
-    assert!(played > 0);
+}
+
+#[test]
+fn season_of_the_readme() {
+    let season = root().join("examples/workload.season");
+    prints(&season, &read(season.with_extension("out")).unwrap());
 }
 
 /// The program and its arguments.
