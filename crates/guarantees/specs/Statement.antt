@@ -49,6 +49,7 @@ unit-is o =
 pub unit-elsewhere : (o : Opening) → opening o .settings .longest ≡ 10080 → unit (opening o .settings) ≡ 10080 + opening o .settings .cleanup
 unit-elsewhere o e = unit-is o ∙ ap (λ (l : ℕ). wallTime l + opening o .settings .cleanup) e
 
+-- "The limit on estimates reads the setting"
 pub longest-is-set : (o : Opening) → longest (opening o .settings) ≡ opening o .settings .longest
 longest-is-set o = longest-is (opening o .settings) (opening-sound o .longest-to)
 
