@@ -5,8 +5,8 @@ use mathlib.Core.Bool.{Bool, true, false}
 use mathlib.Core.List.{List, [], _∷_, _++_, append-assoc, append-nil}
 use Prim.Native.Nat.{ℕ, _+_, _-_, _*_, _<_, min}
 use native.Mathlib.Omega.{arith}
-use lib.ListN.{length, getD, take}
-use Rattle.lists.specs.Lists.{keep}
+use lib.ListN.{length, getD, take, drop, take-append-drop}
+use Rattle.lists.specs.Lists.{keep, In, keep-append, keep-none}
 use Rattle.lists.specs.Loops.{keep-take-yes, keep-take-no}
 use Rattle.text.specs.WrittenBytes.{Wrote, with-room, and-then}
 use Rattle.scheduler.specs.declared.Job.{Job}
@@ -60,3 +60,18 @@ module _ (xs ys : List ℕ) (S : Settings) where
 
 abbrev pub dueRows : (arrivals actuals : List ℕ) → Scheduler → List ℕ
 dueRows xs ys d = rowsBy xs ys (d .settings) (keep (endsAt (d .settings) (d .clock + 1)) (d .jobs))
+
+-- ## Past a slot that is not live nothing is due
+
+none-due : (S : Settings) (t : ℕ) (j : Job) → j ≡ unused → endsAt S t j ≡ false
+none-due S t j e = ap (endsAt S t) e
+
+pub due-front : (xs ys : List ℕ) (d : Scheduler) (i : ℕ) → ((j : Job) → In j (drop i (d .jobs)) → j ≡ unused)
+    → rowsBy xs ys (d .settings) (keep (endsAt (d .settings) (d .clock + 1)) (take i (d .jobs))) ≡ dueRows xs ys d
+due-front xs ys d i f =
+    let p : Job → Bool = endsAt (d .settings) (d .clock + 1) in
+    ap (rowsBy xs ys (d .settings))
+    (sym (append-nil (keep p (take i (d .jobs))))
+    ∙ ap (λ (js : List Job). keep p (take i (d .jobs)) ++ js) (sym (keep-none p (drop i (d .jobs)) (λ j x. none-due (d .settings) (d .clock + 1) j (f j x))))
+    ∙ sym (keep-append p (take i (d .jobs)) (drop i (d .jobs)))
+    ∙ ap (keep p) (take-append-drop i (d .jobs)))

@@ -1,3 +1,4 @@
+pub mod UsedSlots
 pub mod EndingSlot
 pub mod QuietSlots
 pub mod DueRows

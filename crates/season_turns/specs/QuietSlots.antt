@@ -1,6 +1,6 @@
 -- Minutes in which nothing is due and no job is over at its true run length, as the code finds them: slot by slot.
 -- Assumes nothing.
-use mathlib.Core.Path.{_≡_, subst}
+use mathlib.Core.Path.{_≡_, sym, subst}
 use mathlib.Core.List.{List, [], _∷_}
 use Prim.Native.Nat.{ℕ, _+_, _-_, _≤_, _<_}
 use native.Mathlib.Omega.{arith}
@@ -10,11 +10,11 @@ use lib.Seq.{take-suc, take-all}
 use Rattle.lists.specs.Lists.{All, In, all-of, all-in, all-append, keep-in}
 use Rattle.scheduler.specs.declared.Job.{Job}
 use Rattle.scheduler.specs.declared.Scheduler.{Scheduler}
-use Rattle.scheduler.specs.Limits.{slots, horizon}
+use Rattle.scheduler.specs.Limits.{slots}
 use Rattle.scheduler.specs.Jobs.{unused, isLive}
 use Rattle.scheduler.specs.Model.{view}
 use Rattle.quiet_minutes.specs.DueMinutes.{QuietTo, Quiet}
-use Rattle.quiet_minutes.specs.QuietCount.{Asked, asked-none, asked-more, asked-all}
+use Rattle.quiet_minutes.specs.QuietCount.{Asked, asked-none, asked-more}
 use Rattle.season_rules.specs.Season.{ofTicket}
 
 -- no end at a true run length lies after the clock and before a minute
@@ -49,15 +49,19 @@ looked-more xs d last until q r i len l a f s t quiet ends = record {
       (ends, tt));
 }
 
-pub looked-all : (xs : List ℕ) (d : Scheduler) (last until i : ℕ) → length (d .jobs) ≡ slots → slots ≤ i → d .clock ≤ last → last ≤ horizon
-    → Looked xs d last until i → Calm xs d last until
-unfolding view
-looked-all xs d last until i len l c h a =
-    let k : d .clock + (last - d .clock) ≡ last = omega arith in
-    record {
-      from = a .asked .from;
-      to = a .asked .few;
-      quiet = asked-all d last until (last - d .clock) i len l (a .asked) (omega (arith, k)) h .quiet;
-      unended = λ j x. all-in (UnendedTo xs (d .clock) until) (subst (All (UnendedTo xs (d .clock) until)) (take-all i (d .jobs) (omega arith)) (a .unended))
-          (keep-in isLive (d .jobs) x .0);
-    }
+module _ (xs : List ℕ) (d : Scheduler) (last until i : ℕ) (a : Looked xs d last until i) where
+  -- the live jobs are among those asked
+  pub looked-front : ((j : Job) → In j (view d .jobs) → In j (take i (d .jobs))) → Calm xs d last until
+  unfolding view
+  looked-front f =
+      let e : d .clock + (until - d .clock) ≡ until = omega (arith, a .asked .from) in
+      record {
+        from = a .asked .from;
+        to = a .asked .few;
+        quiet = λ j x. rw e (all-in (QuietTo (d .settings) (d .clock) until) (a .asked .quiet) (f j x));
+        unended = λ j x. all-in (UnendedTo xs (d .clock) until) (a .unended) (f j x);
+      }
+
+  pub looked-all : length (d .jobs) ≡ slots → slots ≤ i → Calm xs d last until
+  unfolding view
+  looked-all len l = looked-front (λ j x. subst (In j) (sym (take-all i (d .jobs) (omega arith))) (keep-in isLive (d .jobs) x .0))

@@ -25,6 +25,9 @@ pub fn ending_slot(d: Scheduler, actuals: &[u32; 4096]) -> usize
     let mut i: usize = 0;
     while i < Scheduler::LIVE {
         let j = d.jobs[i];
+        if !j.is_live() {
+            return Scheduler::LIVE;
+        }
         let actual = season_writing::at_ticket(actuals, j.ticket);
         if season_writing::ends_now(j, d.settings, actual, d.clock) {
             return i;
@@ -43,6 +46,9 @@ pub fn quiet_until(d: Scheduler, actuals: &[u32; 4096], last: u32) -> u32
     let mut i: usize = 0;
     while i < Scheduler::LIVE {
         let j = d.jobs[i];
+        if !j.is_live() {
+            return until;
+        }
         let actual = season_writing::at_ticket(actuals, j.ticket);
         let quiet = quiet_minutes::quiet_of(j, d.settings, d.clock, until);
         until = season_writing::until_end(j, actual, d.clock, quiet);
@@ -66,6 +72,9 @@ pub fn put_due(
     let mut i: usize = 0;
     while i < Scheduler::LIVE {
         let j = d.jobs[i];
+        if !j.is_live() {
+            return p;
+        }
         i += 1;
         if j.ends_at(d.settings, d.clock + 1) {
             let arrival = season_writing::at_ticket(arrivals, j.ticket);

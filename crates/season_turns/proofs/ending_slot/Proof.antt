@@ -5,10 +5,12 @@ use Prim.Native.Nat.{ℕ, _-_, _<_}
 use native.Mathlib.Omega.{arith}
 use lib.ListN.{length, drop}
 use borrow.Author.Needs.{needs}
+use borrow.Author.Tests.{not-true}
 use Rattle.lists.specs.Lists.{first}
-use Rattle.lists.specs.FirstLaws.{first-skip, first-here, first-done}
+use Rattle.lists.specs.FirstLaws.{none-first, first-skip, first-here, first-done}
 use Rattle.scheduler.specs.Jobs.{unused}
 use Rattle.quiet_minutes.specs.QuietCount.{slots-whole}
+use Rattle.season_turns.specs.UsedSlots.{rest-unused}
 use Rattle.season_turns.specs.EndingSlot.{overNow}
 use Rattle.season_turns.proofs.ending_slot.Statement.{statement}
 use Rattle.season_turns.proofs.ending_slot.Tie as tie
@@ -25,24 +27,34 @@ loop-holds c = refl
 whole : (c : tie.At-loop Inv-loop μ-loop) → length (c .before .args .t1 .jobs) ≡ 64
 whole c = slots-whole (c .before .args .t1) (c .before .pre)
 
+-- past a slot that is not live nobody runs
 returns : tie.Need-returns Inv-loop μ-loop
 returns c =
-    let l = c .before .before .before .before .before .before in
-    let t = c .before .before .before .before .before .loop-test .taken in
+    let l = c .before .before .before .before in
+    let d = l .before .args .t1 in
+    let e = sym (c .before .is-live .ensures) ∙ not-true _ (c .if1 .taken) in
+    record {
+      found = λ h. absurd (omega arith);
+      nowhere = λ h. l .loop .inv ∙ none-first (overNow (l .before .args .actuals .now) d) (drop (l .loop .i) (d .jobs)) (λ j x. ap (overNow (l .before .args .actuals .now) d) (rest-unused d (l .before .pre) (l .loop .i) e j x));
+    }
+
+returns-2 : tie.Need-returns-2 Inv-loop μ-loop
+returns-2 c =
+    let l = c .before .before .before .before .before .before .before .before in
     let e = c .before .before .before .at-ticket .ensures in
     record {
-      found = λ h. l .loop .inv ∙ first-here unused _ (l .before .args .t1 .jobs) (l .loop .i) (omega (arith, whole l)) (rw (sym e) (sym (c .before .ends-now .ensures) ∙ c .if1 .taken));
+      found = λ h. l .loop .inv ∙ first-here unused _ (l .before .args .t1 .jobs) (l .loop .i) (omega (arith, whole l)) (rw (sym e) (sym (c .before .ends-now .ensures) ∙ c .if2 .taken));
       nowhere = λ h. absurd (omega arith);
     }
 
 loop-again : tie.Need-loop-again Inv-loop μ-loop
 loop-again c =
-    let l = c .before .before .before .before .before .before in
+    let l = c .before .before .before .before .before .before .before .before in
     let e = c .before .before .before .at-ticket .ensures in
-    l .loop .inv ∙ first-skip unused _ (l .before .args .t1 .jobs) (l .loop .i) (omega (arith, whole l)) (rw (sym e) (sym (c .before .ends-now .ensures) ∙ c .if1 .left))
+    l .loop .inv ∙ first-skip unused _ (l .before .args .t1 .jobs) (l .loop .i) (omega (arith, whole l)) (rw (sym e) (sym (c .before .ends-now .ensures) ∙ c .if2 .left))
 
-returns-2 : tie.Need-returns-2 Inv-loop μ-loop
-returns-2 c =
+returns-3 : tie.Need-returns-3 Inv-loop μ-loop
+returns-3 c =
     let l = c .before in
     record {
       found = λ h. absurd (omega (arith, c .loop-test .left));
@@ -51,5 +63,5 @@ returns-2 c =
 
 pub ending-slot-spec : {M : Type 1} → statement M
 ending-slot-spec =
-    tie.close (tie.spec Inv-loop μ-loop loop-holds (λ c. search needs) (λ c. search needs) (λ c κs. search needs) (λ c κs. search needs) returns
-    (λ c. search needs) (λ c. search needs) loop-again returns-2)
+    tie.close (tie.spec Inv-loop μ-loop loop-holds (λ c. search needs) (λ c. search needs) (λ c κs. search needs) returns (λ c κs. search needs)
+    (λ c κs. search needs) returns-2 (λ c. search needs) (λ c. search needs) loop-again returns-3)
