@@ -9,7 +9,6 @@ use lib.ListN.{length, take, drop}
 use Rattle.lists.specs.Tests.{case}
 use Rattle.text.specs.declared.Begins.{Begins}
 use Rattle.text.specs.declared.Begins.the-variants as begins
-use Rattle.text.specs.Lines.{beginsOf}
 use Rattle.text.specs.LineLaws.{Inside}
 use Rattle.paging.specs.Players.{Piece, piece}
 use Rattle.scheduler.specs.declared.Opening.{Opening}

@@ -3,19 +3,16 @@
 use mathlib.Core.Bool.{cond}
 use mathlib.Core.List.{List, []}
 use mathlib.Core.Option.{Option, none, some}
-use Prim.Native.Nat.{ℕ, _+_, _-_}
+use Prim.Native.Nat.{ℕ, _-_}
 use lib.Dec.{eqb, leb}
-use lib.ListN.{length, take}
-use Rattle.text.specs.declared.Begins.{Begins}
-use Rattle.text.specs.declared.Begins.the-variants as begins
+use lib.ListN.{length}
 use Rattle.text.specs.Lines.{beginsOf}
 use Rattle.paging.specs.Players.{Piece, piece}
 use Rattle.scheduler.specs.declared.Kind.the-variants.{Conservative}
-use Rattle.scheduler.specs.declared.Opening.{Opening}
 use Rattle.scheduler.specs.declared.Scheduler.{Scheduler}
 use Rattle.scheduler.specs.Settings.{refusedSettings}
 use Rattle.scheduler.specs.Model.{view}
-use Rattle.scheduler.specs.Opening.{openingRefusal, opened}
+use Rattle.scheduler.specs.Opening.{opened}
 use Rattle.scheduler.specs.Answers.{accepts, code, outcome}
 use Rattle.scheduler.specs.Refusals.{waitRefusal}
 use Rattle.history.specs.Calls.{Call, Command, ask, wait, tick}

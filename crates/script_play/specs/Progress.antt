@@ -7,20 +7,16 @@ use mathlib.Core.Option.{Option, none, some}
 use Prim.Native.Nat.{ℕ, suc, _+_, _-_, _*_, _≤_, _<_}
 use native.Mathlib.Omega.{arith}
 use lib.Dec.{eqb, leb, ltb}
-use lib.ListN.{length, take}
+use lib.ListN.{length}
 use borrow.Author.Tests.{eqb-false, leb-false, ltb-false, lt-ltb, le-ltb}
 use Rattle.lists.specs.Tests.{case, neither}
-use Rattle.text.specs.declared.Begins.{Begins}
-use Rattle.text.specs.declared.Begins.the-variants as begins
 use Rattle.text.specs.Lines.{beginsOf}
 use Rattle.text.specs.LineLaws.{begins-inside}
 use Rattle.paging.specs.Players.{Player, pieces, pieces-left}
-use Rattle.scheduler.specs.declared.Opening.{Opening}
 use Rattle.scheduler.specs.declared.Refusal.the-variants as refusal
 use Rattle.scheduler.specs.declared.Scheduler.{Scheduler}
 use Rattle.scheduler.specs.Limits.{longestWait, outside}
 use Rattle.scheduler.specs.Model.{Model, view}
-use Rattle.scheduler.specs.Opening.{openingRefusal}
 use Rattle.scheduler.specs.Answers.{accepts}
 use Rattle.scheduler.specs.Refusals.{waitRefusal}
 use Rattle.jobs.specs.Soundness.{passed}

@@ -7,17 +7,15 @@ use mathlib.Core.Option.{Option, none, some}
 use Prim.Native.Nat.{ℕ, zero, suc, _+_, _-_}
 use native.Mathlib.Omega.{arith}
 use lib.Dec.{leb}
-use lib.ListN.{length, take, drop, replicate}
+use lib.ListN.{length, drop, replicate}
 use borrow.Author.Tests.{ne-eqb, leb-true, leb-false}
 use Rattle.lists.specs.Tests.{case}
-use Rattle.text.specs.declared.Begins.{Begins}
-use Rattle.text.specs.declared.Begins.the-variants as begins
 use Rattle.text.specs.Lines.{beginsOf}
 use Rattle.scheduler.specs.declared.Opening.{Opening}
 use Rattle.scheduler.specs.declared.Refusal.{Refusal}
 use Rattle.scheduler.specs.declared.Scheduler.{Scheduler}
 use Rattle.scheduler.specs.Model.{Model, view, store}
-use Rattle.scheduler.specs.Opening.{opening, openingRefusal, opened}
+use Rattle.scheduler.specs.Opening.{opening, opened}
 use Rattle.scheduler.specs.Answers.{Result, accepts, code}
 use Rattle.scheduler.specs.Refusals.{waitRefusal}
 use Rattle.history.specs.Calls.{Call, Command, ask, wait, tick, unchanged, after}
@@ -28,7 +26,7 @@ use Rattle.script_rules.specs.Lines.{linesOf}
 use Rattle.script_rules.specs.LineLaws.{lineOf, past, lines-done, lines-from}
 use Rattle.script_rules.specs.Reading.{openingIn, commandOf}
 use Rattle.script_rules.specs.Writing.{noRow, textOf}
-use Rattle.script_rules.specs.Printout.{malformed, printed, printedAll, calledBy, printedBy, played, openedBy, longestScript, printout}
+use Rattle.script_rules.specs.Printout.{printed, printedAll, calledBy, printedBy, played, longestScript, printout}
 use Rattle.script_rules.specs.Beginnings.{printout-begins}
 use Rattle.script_play.specs.FirstPieces.{first-left}
 use Rattle.script_play.specs.declared.Play.{Play}

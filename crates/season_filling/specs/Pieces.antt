@@ -1,45 +1,43 @@
 -- Each way through the player's loop leaves the lines of the season's next turn.
 -- Assumes nothing.
-use mathlib.Core.Path.{_≡_, refl, sym, ap, subst, _∙_}
-use mathlib.Core.Bool.{Bool, true, false, cond}
-use mathlib.Core.List.{List, [], _∷_, _++_}
-use mathlib.Core.Logic.{_⊎_, inl, inr}
-use mathlib.Core.Option.{Option, none, some}
-use Prim.Native.Nat.{ℕ, suc, _+_, _-_, _*_, _≤_, _<_, min}
+use mathlib.Core.Path.{_≡_, sym, ap, subst, _∙_}
+use mathlib.Core.Bool.{Bool, true, false}
+use mathlib.Core.List.{List, _∷_}
+use mathlib.Core.Option.{some}
+use Prim.Native.Nat.{ℕ, suc, _-_, _≤_, _<_, min}
 use native.Mathlib.Omega.{arith}
 use lib.Dec.{leb, ltb}
-use lib.ListN.{length, take, drop, getD, set}
-use borrow.Author.Tests.{lt-leb, leb-false, ltb-true, ltb-false}
-use Rattle.lists.specs.Tests.{case, true-false}
+use lib.ListN.{length, getD, set}
+use borrow.Author.Tests.{ltb-true}
+use Rattle.lists.specs.Tests.{case}
 use Rattle.lists.specs.Lists.{In}
 use Rattle.text.specs.WrittenBytes.{Wrote, wrote-none, with-room}
-use Rattle.paging.specs.Players.{Piece, piece, Player, Skips, Turned}
+use Rattle.paging.specs.Players.{Piece, Turned}
 use Rattle.scheduler.specs.declared.Job.{Job}
 use Rattle.scheduler.specs.declared.Outcome.{Outcome}
 use Rattle.scheduler.specs.declared.Refusal.{Refusal}
 use Rattle.scheduler.specs.declared.Scheduler.{Scheduler}
 use Rattle.scheduler.specs.Limits.{horizon, slots}
 use Rattle.scheduler.specs.Jobs.{unused, isRunning}
-use Rattle.scheduler.specs.Model.{Model, view, store}
+use Rattle.scheduler.specs.Model.{view}
 use Rattle.scheduler.specs.Answers.{Reply, accepts, code, outcome}
 use Rattle.history.specs.Calls.{submit, tick, complete}
 use Rattle.guarantees.specs.Rules.{call}
-use Rattle.guarantees.specs.Premise.{Premise, premise-sound}
 use Rattle.script_rules.specs.Lines.{Line}
-use Rattle.script_rules.specs.LineLaws.{past, lineOf, lines-done, lines-from}
+use Rattle.script_rules.specs.LineLaws.{past, lineOf, lines-from}
 use Rattle.script_rules.specs.Writing.{noRow}
 use Rattle.script_writing.specs.AnswerText.{pageBytes}
 use Rattle.season_reading.specs.declared.Ahead.{Ahead}
 use Rattle.season_reading.specs.declared.Listed.{Listed}
 use Rattle.season_reading.specs.declared.Listed.the-variants as listed
-use Rattle.season_reading.specs.Meaning.{Reads, listedOf, meaning, means}
+use Rattle.season_reading.specs.Meaning.{Reads, meaning, means}
 use Rattle.season_rules.specs.declared.Arrival.{Arrival}
 use Rattle.season_rules.specs.Reading.{mostLines, arrivalOf}
-use Rattle.season_rules.specs.Season.{Season, Turn, ends, refuses, arrives, steps, over, ofTicket, firstArrival, turnOf, textOf, textBy, seasonBy, orderOf, arrivalNext, arrivalRefusal, highestWith}
+use Rattle.season_rules.specs.Season.{Season, Turn, ends, refuses, arrives, steps, over, ofTicket, firstArrival, turnOf, textOf, textBy, orderOf, arrivalNext, arrivalRefusal, highestWith}
 use Rattle.season_laws.specs.Accepted.{tick-taken}
 use Rattle.season_laws.specs.Progress.{Ready, Because, because, ends-because, refuses-because, arrives-because, steps-because}
 use Rattle.season_laws.specs.EndedRows.{tick-text, end-text, submit-text}
-use Rattle.season_play.specs.Places.{Place, place, going, called, lineDone, closed, placeBy, laterPiece, seasonOf, InPlay, ready-of, line-left, within, taken-ticket, from-one}
+use Rattle.season_play.specs.Places.{Place, place, going, closed, placeBy, laterPiece, seasonOf, InPlay, ready-of, line-left, within, taken-ticket, from-one}
 use Rattle.season_turns.specs.declared.Coming.{Coming}
 use Rattle.season_turns.specs.declared.Coming.the-variants as coming
 use Rattle.season_turns.specs.EndingSlot.{Ending}

@@ -1,20 +1,18 @@
 -- Minutes in which nothing happens are passed over: the season has the same left to print.
 -- Assumes nothing.
-use mathlib.Core.Path.{_≡_, refl, sym, ap, subst, _∙_}
-use mathlib.Core.Bool.{Bool, true, false, cond, _&&_}
-use mathlib.Core.List.{List, [], _∷_}
+use mathlib.Core.Path.{_≡_, refl, sym, ap, _∙_}
+use mathlib.Core.Bool.{Bool, true, false, _&&_}
+use mathlib.Core.List.{List}
 use mathlib.Core.Option.{none}
-use Prim.Native.Nat.{ℕ, suc, _+_, _-_, _*_, _≤_, _<_}
+use Prim.Native.Nat.{ℕ, _+_, _-_, _≤_, _<_}
 use native.Mathlib.Omega.{arith}
 use lib.Dec.{eqb, leb, ltb}
-use lib.ListN.{length}
 use borrow.Author.Tests.{lt-leb, leb-false, ltb-true, ltb-false, eqb-true, eqb-false, ne-eqb}
 use Rattle.lists.specs.Tests.{case, and-right-false}
-use Rattle.lists.specs.Lists.{first, In}
+use Rattle.lists.specs.Lists.{first}
 use Rattle.lists.specs.FirstLaws.{none-first}
-use Rattle.paging.specs.Players.{Player, Skips}
+use Rattle.paging.specs.Players.{Skips}
 use Rattle.scheduler.specs.declared.Job.{Job}
-use Rattle.scheduler.specs.declared.Kind.{Kind}
 use Rattle.scheduler.specs.declared.Scheduler.{Scheduler}
 use Rattle.scheduler.specs.Limits.{horizon, slots}
 use Rattle.scheduler.specs.Settings.{runTime}
@@ -27,15 +25,13 @@ use Rattle.season_reading.specs.declared.Ahead.{Ahead}
 use Rattle.season_reading.specs.declared.Listed.{Listed}
 use Rattle.season_reading.specs.declared.Listed.the-variants as listed
 use Rattle.season_reading.specs.Meaning.{Reads}
-use Rattle.season_rules.specs.declared.Arrival.{Arrival}
-use Rattle.season_rules.specs.Season.{Season, Turn, steps, actual, endsNow, byLines, byEnd, turnOf, turnsLeft, remaining, arrivalRefusal}
+use Rattle.season_rules.specs.Season.{Season, steps, actual, endsNow, byEnd, turnOf, turnsLeft, arrivalRefusal}
 use Rattle.season_laws.specs.Progress.{arrival-fits}
 use Rattle.season_laws.specs.QuietSeason.{later, quiet-remaining}
 use Rattle.season_play.specs.Places.{Place, place, going, seasonOf, InPlay, ready-of}
 use Rattle.season_play.specs.SeasonPlayer.{season-player}
-use Rattle.season_turns.specs.declared.Coming.{Coming}
 use Rattle.season_turns.specs.declared.Coming.the-variants as coming
-use Rattle.season_turns.specs.EndingSlot.{overNow, Ending}
+use Rattle.season_turns.specs.EndingSlot.{Ending}
 use Rattle.season_turns.specs.QuietSlots.{Calm}
 use Rattle.season_turns.specs.NextTurn.{byListed, comingOf}
 use Rattle.season_filling.specs.Turns.{asTurn, some-live, noted-same, first-same, by-listed}

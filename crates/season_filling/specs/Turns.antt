@@ -4,18 +4,17 @@ use mathlib.Core.Path.{_≡_, refl, sym, ap, subst, _∙_}
 use mathlib.Core.Bool.{Bool, true, false, cond, _&&_}
 use mathlib.Core.List.{List, [], _∷_, _++_}
 use mathlib.Core.Option.{Option, none, some}
-use Prim.Native.Nat.{ℕ, suc, _+_, _-_, _≤_, _<_, min}
+use Prim.Native.Nat.{ℕ, suc, _+_, _-_}
 use native.Mathlib.Omega.{arith}
 use lib.Dec.{eqb, leb, ltb}
-use lib.ListN.{length, take, drop, getD}
+use lib.ListN.{take, getD}
 use lib.Seq.{getD-take}
-use borrow.Author.Tests.{lt-leb, le-leb, lt-ltb, le-ltb, leb-true, leb-false, ltb-true, ltb-false, ne-eqb}
+use borrow.Author.Tests.{ltb-true, ltb-false}
 use Rattle.lists.specs.Tests.{case, true-false, and-right-false}
 use Rattle.lists.specs.Lists.{keep, first, In, here, there, in-keep, keep-in, keep-keep, keep-cong}
 use Rattle.lists.specs.FirstLaws.{first-keep, first-cong}
 use Rattle.lists.specs.Pads.{pad}
 use Rattle.scheduler.specs.declared.Job.{Job}
-use Rattle.scheduler.specs.declared.Refusal.the-variants as refusal
 use Rattle.scheduler.specs.declared.Scheduler.{Scheduler}
 use Rattle.scheduler.specs.declared.State.{State}
 use Rattle.scheduler.specs.declared.State.the-variants.{Unused, Waiting, Running, Cleanup}
@@ -23,20 +22,19 @@ use Rattle.scheduler.specs.Limits.{horizon, slots}
 use Rattle.scheduler.specs.Settings.{runTime}
 use Rattle.scheduler.specs.States.{live?, running?}
 use Rattle.scheduler.specs.Jobs.{unused, isLive, isRunning, endsAt}
-use Rattle.scheduler.specs.Model.{Model, view, store}
+use Rattle.scheduler.specs.Model.{view, store}
 use Rattle.scheduler.specs.Answers.{accepts}
 use Rattle.jobs.specs.Order.{asc-in}
-use Rattle.guarantees.specs.Premise.{Premise, premise-sound}
-use Rattle.script_rules.specs.Lines.{Line, linesOf}
-use Rattle.script_rules.specs.LineLaws.{lineOf, past, lines-done, lines-from}
+use Rattle.guarantees.specs.Premise.{premise-sound}
+use Rattle.script_rules.specs.LineLaws.{lineOf, lines-done, lines-from}
 use Rattle.season_reading.specs.declared.Ahead.{Ahead}
 use Rattle.season_reading.specs.declared.Listed.{Listed}
 use Rattle.season_reading.specs.declared.Listed.the-variants as listed
-use Rattle.season_reading.specs.Meaning.{Reads, listedOf, meaning, read-none, read-line}
+use Rattle.season_reading.specs.Meaning.{Reads, listedOf, read-none, read-line}
 use Rattle.season_rules.specs.declared.Arrival.{Arrival}
 use Rattle.season_rules.specs.Reading.{arrivalOf}
-use Rattle.season_rules.specs.Season.{Season, Turn, ends, refuses, arrives, steps, over, actual, endsNow, ofTicket, rowOf, rowsOf, byJobs, byArrival, byLines, byEnd, turnOf, arrivalRefusal, arrivalNext}
-use Rattle.season_play.specs.Places.{Place, place, going, given, seasonOf, InPlay}
+use Rattle.season_rules.specs.Season.{Season, Turn, ends, refuses, arrives, steps, over, endsNow, ofTicket, rowOf, rowsOf, byJobs, byArrival, byLines, byEnd, turnOf, arrivalRefusal}
+use Rattle.season_play.specs.Places.{Place, given, seasonOf, InPlay}
 use Rattle.season_turns.specs.declared.Coming.{Coming}
 use Rattle.season_turns.specs.declared.Coming.the-variants as coming
 use Rattle.season_turns.specs.EndingSlot.{overNow, Ending}

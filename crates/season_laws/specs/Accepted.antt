@@ -1,19 +1,17 @@
 -- Calls that a season makes are taken: the end of a job that runs, and a tick while a job is live. What these end.
 -- Assumes nothing.
-use mathlib.Core.Path.{_≡_, refl, sym, ap, subst, _∙_}
-use mathlib.Core.Bool.{Bool, true, false, not, cond, _&&_}
-use mathlib.Core.List.{List, [], _∷_}
-use Prim.Native.Nat.{ℕ, suc, _+_, _≤_, _<_}
+use mathlib.Core.Path.{_≡_, refl, ap, _∙_}
+use mathlib.Core.Bool.{true, false}
+use mathlib.Core.List.{[], _∷_}
+use Prim.Native.Nat.{ℕ, suc, _+_, _<_}
 use native.Mathlib.Omega.{arith}
-use lib.Dec.{eqb, ltb}
-use borrow.Author.Tests.{eq-eqb, eqb-true, le-ltb}
-use Rattle.lists.specs.Tests.{case, both, true-false, and-right-false}
+use borrow.Author.Tests.{eq-eqb, le-ltb}
+use Rattle.lists.specs.Tests.{case, true-false, and-right-false}
 use Rattle.lists.specs.Lists.{keep, In, any-in, none-any}
 use Rattle.scheduler.specs.declared.Departure.the-variants.{Complete}
 use Rattle.scheduler.specs.declared.Kind.{Kind}
 use Rattle.scheduler.specs.declared.Kind.the-variants.{Conservative, Easy}
 use Rattle.scheduler.specs.declared.Job.{Job}
-use Rattle.scheduler.specs.declared.Refusal.{Refusal}
 use Rattle.scheduler.specs.declared.State.{State}
 use Rattle.scheduler.specs.declared.State.the-variants.{Unused, Waiting, Running, Cleanup}
 use Rattle.scheduler.specs.Limits.{horizon}
@@ -24,7 +22,7 @@ use Rattle.scheduler.specs.Table.{ticketsOf}
 use Rattle.scheduler.specs.Model.{Model}
 use Rattle.scheduler.specs.Answers.{accepts, verdict}
 use Rattle.scheduler.specs.Refusals.{departRefusal, departsEarly, tickRefusal}
-use Rattle.jobs.specs.Soundness.{Sound, SoundJob, start-until, running-holds}
+use Rattle.jobs.specs.Soundness.{start-until, running-holds}
 use Rattle.history.specs.Calls.{tick, complete}
 use Rattle.conservative_laws.specs.Sentences as conservative
 use Rattle.easy_laws.specs.Sentences as easy

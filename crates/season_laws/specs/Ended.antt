@@ -4,12 +4,11 @@ use mathlib.Core.Path.{_≡_, refl, sym, ap, subst, _∙_}
 use mathlib.Core.Bool.{Bool, true, false, not}
 use mathlib.Core.List.{List, [], _∷_, _++_, map}
 use mathlib.Core.Logic.{_⊎_, inl, inr}
-use Prim.Native.Nat.{ℕ, suc, _+_, _≤_, _<_}
+use Prim.Native.Nat.{ℕ, _+_, _≤_, _<_}
 use native.Mathlib.Omega.{arith}
-use lib.Dec.{eqb, ltb}
-use borrow.Author.Tests.{eq-eqb}
+use lib.Dec.{ltb}
 use Rattle.lists.specs.Tests.{case, true-false, on, on-le}
-use Rattle.lists.specs.Lists.{keep, elem, sum, In, here, there, in-nil, in-cons, in-append, in-map, map-in, keep-in, sum-append, sum-map, sum-kept, sum-le, sum-cong}
+use Rattle.lists.specs.Lists.{keep, elem, sum, In, here, there, in-append, in-map, map-in, keep-in, sum-append, sum-map, sum-kept, sum-le, sum-cong}
 use Rattle.scheduler.specs.declared.Kind.{Kind}
 use Rattle.scheduler.specs.declared.Kind.the-variants.{Conservative, Easy}
 use Rattle.scheduler.specs.declared.Job.{Job}

@@ -1,8 +1,8 @@
 -- Whose line a call prints: at a tick of those whose run the scheduler ends then, at an end of that job, at a submission of nobody.
 -- Assumes nothing.
 use mathlib.Core.Path.{_≡_, refl, sym, ap, _∙_}
-use mathlib.Core.Bool.{Bool, true, false}
-use mathlib.Core.List.{List, [], _∷_, _++_, append-nil}
+use mathlib.Core.Bool.{Bool, true}
+use mathlib.Core.List.{List, [], _∷_, append-nil}
 use Prim.Native.Nat.{ℕ, suc}
 use native.Mathlib.Omega.{arith}
 use borrow.Author.Tests.{eq-eqb}
@@ -24,8 +24,8 @@ use Rattle.conservative_laws.specs.Sentences as conservative
 use Rattle.easy_rules.specs.Easy as easy
 use Rattle.guarantees.specs.Rules.{rulesOf, call}
 use Rattle.guarantees.specs.Premise.{valid-sound}
-use Rattle.season_rules.specs.Season.{Season, textOf, rowsOf, rowOf, endedBy}
-use Rattle.season_laws.specs.Accepted.{tick-taken, complete-taken, tick-ends, complete-ends}
+use Rattle.season_rules.specs.Season.{Season, textOf, rowsOf, rowOf}
+use Rattle.season_laws.specs.Accepted.{complete-taken, tick-ends, complete-ends}
 use Rattle.season_laws.specs.Progress.{Ready}
 
 submit-by : (k : Kind) (m : Model) (o : Submission) → accepts (rulesOf k m (submit o) .reply .refusal) ≡ true → rulesOf k m (submit o) .reply .ended ≡ []

@@ -1,8 +1,8 @@
 -- Every season comes to its end: each turn leaves fewer turns.
 -- Assumes nothing.
 use mathlib.Core.Path.{_≡_, refl, sym, ap, subst, _∙_}
-use mathlib.Core.Bool.{Bool, true, false, cond}
-use mathlib.Core.List.{List, [], _∷_, _++_, append-nil}
+use mathlib.Core.Bool.{true, false, cond}
+use mathlib.Core.List.{List, [], _∷_, _++_}
 use mathlib.Core.Logic.{_⊎_, inl, inr}
 use mathlib.Core.Option.{Option, none, some}
 use Prim.Native.Nat.{ℕ, zero, suc, _+_, _-_, _*_, max, _≤_, _<_}
@@ -12,7 +12,6 @@ use lib.ListN.{length}
 use borrow.Author.Tests.{eq-eqb, eqb-false, leb-false, leb-true, ltb-false}
 use Rattle.lists.specs.Tests.{case, both, true-false}
 use Rattle.lists.specs.Lists.{first, first-in, elem, sum, In, here, in-nil, in-cons}
-use Rattle.lists.specs.FirstLaws.{first-none}
 use Rattle.scheduler.specs.declared.Job.{Job}
 use Rattle.scheduler.specs.declared.Refusal.{Refusal}
 use Rattle.scheduler.specs.declared.Refusal.the-variants as refusal
@@ -33,7 +32,7 @@ use Rattle.season_rules.specs.declared.Arrival.{Arrival}
 use Rattle.season_rules.specs.Reading.{arrivalOf}
 use Rattle.season_rules.specs.Season as season
 use Rattle.season_rules.specs.Season.{Season, Turn, ends, refuses, arrives, steps, over, endsNow, byJobs, byArrival, byLines, byEnd, turnOf, arrivalRefusal, orderOf}
-use Rattle.season_rules.specs.Season.{textBy, seasonBy, isOver, played, unended, turnsLeft, remaining, withJob, noted, nextLine, firstArrival, arrivalNext, highestWith}
+use Rattle.season_rules.specs.Season.{textBy, seasonBy, isOver, played, unended, turnsLeft, remaining, noted, nextLine, firstArrival, arrivalNext, highestWith}
 use Rattle.season_laws.specs.Accepted.{live-clock, tick-taken, complete-taken, complete-ends}
 use Rattle.season_laws.specs.Ended.{going, clock-is, depart-came, tick-came, unended-after, unended-less, leasts-after}
 

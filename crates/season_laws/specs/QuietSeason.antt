@@ -1,23 +1,20 @@
 -- Minutes in which nothing is due, no job is over and nobody arrives print nothing: with them passed over, a season has the same left to print.
 -- Assumes nothing.
 use mathlib.Core.Path.{_≡_, refl, sym, ap, subst, _∙_}
-use mathlib.Core.Bool.{true, false}
-use mathlib.Core.List.{List, [], _++_}
+use mathlib.Core.List.{[], _++_}
 use Prim.Native.Nat.{ℕ, zero, suc, _+_, _≤_, _<_}
 use native.Mathlib.Omega.{arith}
 use Rattle.lists.specs.Lists.{keep-none}
-use Rattle.scheduler.specs.declared.Job.{Job}
 use Rattle.scheduler.specs.declared.Refusal.the-variants as refusal
 use Rattle.scheduler.specs.Limits.{horizon}
 use Rattle.scheduler.specs.Model.{Model}
 use Rattle.scheduler.specs.Answers.{Result, refusing}
 use Rattle.history.specs.Calls.{tick}
 use Rattle.guarantees.specs.Rules.{call}
-use Rattle.guarantees.specs.Premise.{Valid}
 use Rattle.quiet_minutes.specs.DueMinutes.{Quiet}
 use Rattle.quiet_minutes.specs.QuietTicks.{passed, quiet-tick, quiet-next, quiet-rest, passed-none, passed-more}
 use Rattle.season_rules.specs.Season as season
-use Rattle.season_rules.specs.Season.{Season, Turn, steps, turnOf, textBy, seasonBy, isOver, textOf, endedBy, rowsOf, remaining}
+use Rattle.season_rules.specs.Season.{Season, steps, turnOf, textBy, seasonBy, isOver, textOf, rowsOf, remaining}
 use Rattle.season_laws.specs.Progress.{Ready, next-ready, remaining-next}
 
 -- k minutes later

@@ -1,22 +1,21 @@
 -- Where the player of a season stands, and the season that it stands for: each turn of the one is a turn of the other.
 -- Assumes nothing.
 use mathlib.Core.Path.{_≡_, refl, sym, ap, subst, _∙_}
-use mathlib.Core.Bool.{Bool, true, false, cond, _&&_}
+use mathlib.Core.Bool.{true, false, cond}
 use mathlib.Core.List.{List, [], _∷_, _++_}
 use mathlib.Core.Option.{Option, none, some}
-use Prim.Native.Nat.{ℕ, zero, suc, _+_, _-_, _*_, _≤_, _<_, min}
+use Prim.Native.Nat.{ℕ, suc, _+_, _-_, _≤_, _<_, min}
 use native.Mathlib.Omega.{arith}
-use lib.Dec.{eqb, leb, ltb}
-use lib.ListN.{length, take, drop, set, getD, length-set, drop-of-length-le}
-use lib.Seq.{take-suc-set, getD-take}
+use lib.Dec.{leb, ltb}
+use lib.ListN.{length, take, drop, set, length-set, drop-of-length-le}
+use lib.Seq.{take-suc-set}
 use borrow.Author.Tests.{leb-true, leb-false, ltb-true}
 use Rattle.lists.specs.Tests.{case, true-false}
-use Rattle.lists.specs.Lists.{In, in-nil}
+use Rattle.lists.specs.Lists.{In}
 use Rattle.scheduler.specs.declared.Job.{Job}
 use Rattle.scheduler.specs.declared.Scheduler.{Scheduler}
-use Rattle.scheduler.specs.Limits.{horizon}
 use Rattle.scheduler.specs.Model.{Model, view, store}
-use Rattle.scheduler.specs.Answers.{Reply, Result, accepts, outcome}
+use Rattle.scheduler.specs.Answers.{Reply, accepts, outcome}
 use Rattle.history.specs.Calls.{Call, submit, tick, complete}
 use Rattle.history.specs.News.{Newcomer}
 use Rattle.history.specs.Tickets.{nextAfter}
@@ -25,15 +24,14 @@ use Rattle.guarantees.specs.Rules.{call}
 use Rattle.guarantees.specs.Premise.{Premise, call-premise, valid-view, call-valid, premise-sound}
 use Rattle.script_rules.specs.Lines.{Line, linesOf}
 use Rattle.script_rules.specs.LineLaws.{past, lines-from, past-line}
-use Rattle.script_play.specs.declared.Stage.{Stage}
-use Rattle.script_play.specs.declared.Stage.the-variants.{First, Playing, Over}
+use Rattle.script_play.specs.declared.Stage.the-variants.{Playing, Over}
 use Rattle.paging.specs.Players.{Piece, piece}
 use Rattle.season_rules.specs.declared.Arrival.{Arrival}
 use Rattle.season_rules.specs.Reading.{mostLines, arrivalOf}
 use Rattle.season_rules.specs.Season as season
-use Rattle.season_rules.specs.Season.{Season, Turn, ends, refuses, arrives, steps, over, turnOf, textBy, seasonBy, isOver, turnsLeft, remaining, orderOf, arrivalNext, highestWith, noted, nextLine, printout}
-use Rattle.season_laws.specs.Ended.{next-is, depart-came, tick-came, submit-came, ticket-is, leasts-after}
-use Rattle.season_laws.specs.Progress.{Ready, Because, ending, refused, arriving, passing, gone, because, next-ready}
+use Rattle.season_rules.specs.Season.{Season, Turn, ends, refuses, arrives, steps, over, turnOf, textBy, seasonBy, isOver, orderOf, arrivalNext, highestWith, noted, nextLine}
+use Rattle.season_laws.specs.Ended.{next-is, depart-came, tick-came, submit-came, ticket-is}
+use Rattle.season_laws.specs.Progress.{Ready, Because, refused, arriving, because, next-ready}
 use Rattle.season_play.specs.declared.Standing.{Standing}
 
 pub record Place : Type 0 where
@@ -304,12 +302,9 @@ module _ (l : List ℕ) (p : Place) (q : InPlay l p) where
   back : (c : Call) → ((j : Job) → In j (call m c .model .jobs) → j .least ≡ 0) → (j : Job) → In j (view (store (call m c .model)) .jobs) → j .least ≡ 0
   back c f = subst (λ (x : Model). (j : Job) → In j (x .jobs) → j .least ≡ 0) (sym (model-after c)) f
 
-  by-play : (t : Turn) → Because s t → Ready (seasonBy s t) → InPlay l (placeBy l p t)
-  by-play (ends j) b r = call-play (complete (j .ticket)) (depart-came m (j .ticket)) (back (complete (j .ticket)) (r .no-least))
-  by-play (refuses y) (refused {l = x} {ls = xs} e) r = line-play x xs e (arrivalNext s)
-  by-play (arrives a) (arriving {l = x} {ls = xs} e f t k) r = arrival-play a x xs e f (back (submit (orderOf a)) (noted-least a (call m (submit (orderOf a)) .reply) (nextLine (season.after s (call m (submit (orderOf a))))) (r .no-least)))
-  by-play steps b r = call-play tick (tick-came m) (back tick (r .no-least))
-  by-play over b r = record {
+  -- where it is over too
+  pub closed-play : InPlay l (closed p)
+  closed-play = record {
     premise = q .premise;
     no-least = q .no-least;
     inside = q .inside;
@@ -318,6 +313,13 @@ module _ (l : List ℕ) (p : Place) (q : InPlay l p) where
     arrivals-whole = q .arrivals-whole;
     actuals-whole = q .actuals-whole;
   }
+
+  by-play : (t : Turn) → Because s t → Ready (seasonBy s t) → InPlay l (placeBy l p t)
+  by-play (ends j) b r = call-play (complete (j .ticket)) (depart-came m (j .ticket)) (back (complete (j .ticket)) (r .no-least))
+  by-play (refuses y) (refused {l = x} {ls = xs} e) r = line-play x xs e (arrivalNext s)
+  by-play (arrives a) (arriving {l = x} {ls = xs} e f t k) r = arrival-play a x xs e f (back (submit (orderOf a)) (noted-least a (call m (submit (orderOf a)) .reply) (nextLine (season.after s (call m (submit (orderOf a))))) (r .no-least)))
+  by-play steps b r = call-play tick (tick-came m) (back tick (r .no-least))
+  by-play over b r = closed-play
 
   pub place-play : InPlay l (placeBy l p (turnOf s))
   place-play = by-play (turnOf s) (because s (q .premise .holds)) (next-ready s (ready-of l p q))

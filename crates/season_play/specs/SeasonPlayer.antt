@@ -1,13 +1,13 @@
 -- A season played piece by piece: each piece is the next part of its printout, and leaves less to play.
 -- Assumes nothing.
 use mathlib.Core.Path.{_≡_, refl, sym, ap, subst, _∙_}
-use mathlib.Core.Bool.{true, false, cond}
-use mathlib.Core.List.{List, [], _∷_, _++_}
-use mathlib.Core.Option.{Option, some}
+use mathlib.Core.Bool.{true, false}
+use mathlib.Core.List.{List, [], _++_}
+use mathlib.Core.Option.{some}
 use Prim.Native.Nat.{ℕ, suc, _+_, _-_, _*_, _≤_, _<_}
 use native.Mathlib.Omega.{arith}
 use lib.Dec.{eqb, ltb}
-use lib.ListN.{length, take, drop, replicate, length-drop, length-replicate}
+use lib.ListN.{length, take, drop, length-drop}
 use borrow.Author.Tests.{lt-ltb, le-ltb}
 use Rattle.lists.specs.Tests.{case, true-false}
 use Rattle.lists.specs.Lists.{In, in-nil}
@@ -16,7 +16,6 @@ use Rattle.text.specs.Lines.{beginsOf}
 use Rattle.text.specs.LineLaws.{begins-inside}
 use Rattle.paging.specs.Players.{Piece, piece, Player}
 use Rattle.paging.specs.PageFilling.{Pages, pages-left}
-use Rattle.scheduler.specs.declared.Job.{Job}
 use Rattle.scheduler.specs.declared.Kind.the-variants.{Conservative}
 use Rattle.scheduler.specs.declared.Opening.{Opening}
 use Rattle.scheduler.specs.declared.Scheduler.{Scheduler}
@@ -39,10 +38,10 @@ use Rattle.script_play.specs.FirstPieces.{firstBy, first-left, first-holds}
 use Rattle.script_play.specs.Progress.{goesOn}
 use Rattle.season_rules.specs.Reading.{longestList, mostLines, openingIn}
 use Rattle.season_rules.specs.Season as season
-use Rattle.season_rules.specs.Season.{Season, Turn, ends, refuses, arrives, steps, over, orderOf, turnOf, textBy, seasonBy, isOver, turnsLeft, remaining, printout}
+use Rattle.season_rules.specs.Season.{Season, Turn, ends, refuses, arrives, steps, over, orderOf, turnOf, textBy, isOver, turnsLeft, remaining, printout}
 use Rattle.season_laws.specs.Progress.{next-less, some-left, over-silent, remaining-next, remaining-over}
 use Rattle.season_play.specs.declared.Standing.{Standing}
-use Rattle.season_play.specs.Places.{Place, place, seasonOf, going, closed, placeBy, laterPiece, InPlay, ready-of, place-season, place-play}
+use Rattle.season_play.specs.Places.{Place, place, seasonOf, going, closed, placeBy, laterPiece, InPlay, ready-of, place-season, closed-play, place-play}
 
 -- the first line
 abbrev pub starts : Place → ℕ → Scheduler → Place
@@ -144,18 +143,7 @@ module _ (l : List ℕ) where
     pub less : weight p ≤ w - 1
 
   closed-onward : (w : ℕ) (p : Place) → InPlay l p → Onward w (closed p)
-  closed-onward w p q = record {
-    ready = record {
-      premise = q .premise;
-      no-least = q .no-least;
-      inside = q .inside;
-      few = q .few;
-      most = q .most;
-      arrivals-whole = q .arrivals-whole;
-      actuals-whole = q .actuals-whole;
-    };
-    less = omega arith;
-  }
+  closed-onward w p q = record { ready = closed-play l p q; less = omega arith }
 
   first-onward : (p : Place) → InPlay l p → Onward (weightBy First l p) (firstPiece l p .play)
   first-onward p q =

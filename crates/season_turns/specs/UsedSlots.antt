@@ -1,13 +1,13 @@
 -- The live jobs stand first: past a slot that is not live there is none.
 -- Assumes nothing.
-use mathlib.Core.Path.{_≡_, refl, sym, ap, subst, _∙_}
+use mathlib.Core.Path.{_≡_, sym, ap, subst, _∙_}
 use mathlib.Core.Bool.{false}
-use mathlib.Core.List.{List, [], _∷_, _++_}
+use mathlib.Core.List.{List, _++_}
 use mathlib.Core.Logic.{_⊎_, inl, inr}
 use Prim.Native.Nat.{ℕ, zero, suc, _+_, _-_, _≤_}
 use native.Mathlib.Omega.{arith}
 use lib.ListN.{length, getD, take, drop, replicate}
-use lib.Seq.{take-append-add, drop-append-add, drop-nil}
+use lib.Seq.{take-append-add, drop-append-add}
 use Rattle.lists.specs.Lists.{In, in-nil, in-cons, in-left}
 use Rattle.scheduler.specs.declared.Job.{Job}
 use Rattle.scheduler.specs.declared.Scheduler.{Scheduler}
@@ -15,9 +15,7 @@ use Rattle.scheduler.specs.Limits.{slots}
 use Rattle.scheduler.specs.Jobs.{unused, isLive}
 use Rattle.scheduler.specs.Model.{view, store}
 use Rattle.lists.specs.Pads.{pad}
-use Rattle.jobs.specs.Premise.{Holds}
 use Rattle.jobs.specs.Slots.{past-live}
-use Rattle.jobs.specs.Soundness.{Sound}
 use Rattle.guarantees.specs.Premise.{Premise, premise-sound}
 
 -- of a list of one job repeated

@@ -1,6 +1,6 @@
 // One turn of a season: what comes next, and the parts of it that look at every job. The player's loop is in `season_filling`.
 ghost use mathlib.Core.Path.{_≡_};
-ghost use Prim.Native.Nat.{ℕ, _+_, _-_, _≤_, _<_};
+ghost use Prim.Native.Nat.{_+_, _-_, _≤_, _<_};
 ghost use lib.ListN.{length, set};
 ghost use Rattle.text.specs.WrittenBytes.{Wrote};
 ghost use Rattle.scheduler.specs.Limits.{horizon};

@@ -1,13 +1,13 @@
 -- `season_filling::fill` meets its contract, by the stage of the season.
 -- Assumes nothing.
-use mathlib.Core.Path.{_≡_, sym, ap, subst}
+use mathlib.Core.Path.{sym, ap, subst}
 use Prim.Native.Nat.{_<_}
 use native.Mathlib.Omega.{arith}
 use borrow.Author.Needs.{needs}
-use Rattle.paging.specs.Players.{Piece, turned-as}
+use Rattle.paging.specs.Players.{turned-as}
 use Rattle.paging.specs.PageFilling.{filling-none, filled-over, filled-once}
 use Rattle.script_play.specs.declared.Stage.{Stage}
-use Rattle.season_play.specs.Places.{Place, place}
+use Rattle.season_play.specs.Places.{place}
 use Rattle.season_play.specs.SeasonPlayer.{pieceBy, weightBy}
 use Rattle.season_filling.proofs.fill.Statement.{statement}
 use Rattle.season_filling.proofs.fill.Tie as tie

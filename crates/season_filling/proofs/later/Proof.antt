@@ -4,14 +4,12 @@ use mathlib.Core.Path.{_≡_, refl, sym, ap, subst, _∙_}
 use mathlib.Core.List.{List}
 use Prim.Native.Nat.{ℕ, _+_, _-_, _≤_, _<_}
 use native.Mathlib.Omega.{arith}
-use lib.ListN.{length, getD}
+use lib.ListN.{length}
 use borrow.Author.Needs.{needs}
 use Rattle.paging.specs.Players.{Turned, Skips}
 use Rattle.paging.specs.PageFilling.{Filled, Filling, filling-none, filling-skip, filling-less, filling-more, filled-full, filled-over}
 use Rattle.scheduler.specs.declared.Scheduler.{Scheduler}
-use Rattle.scheduler.specs.Jobs.{unused}
 use Rattle.scheduler.specs.Model.{view}
-use Rattle.guarantees.specs.Premise.{premise-sound}
 use Rattle.quiet_minutes.specs.QuietTicks.{passedOver}
 use Rattle.quiet_minutes.specs.QuietCount.{slots-whole, slot-ready}
 use Rattle.kept_calls.specs.KeptPoints.{KeptBeside, Passing, beside-handed}
@@ -21,14 +19,13 @@ use Rattle.season_reading.specs.Meaning.{Reads}
 use Rattle.season_rules.specs.Season.{turnsLeft}
 use Rattle.season_laws.specs.Progress.{some-left}
 use Rattle.season_play.specs.declared.Standing.{Standing}
-use Rattle.season_play.specs.Places.{Place, place, going, closed, laterPiece, seasonOf, InPlay}
+use Rattle.season_play.specs.Places.{Place, place, going, laterPiece, seasonOf, InPlay}
 use Rattle.season_play.specs.SeasonPlayer.{season-player}
 use Rattle.season_turns.specs.declared.Coming.{Coming}
-use Rattle.season_turns.specs.EndingSlot.{Ending}
 use Rattle.season_turns.specs.NextTurn.{comingOf}
 use Rattle.season_filling.specs.Turns.{some-live}
 use Rattle.season_filling.specs.Pieces.{ends-slot, ends-turned, refuses-turned, taken-turned, turned-away, ticket-range, steps-turned, over-turned}
-use Rattle.season_filling.specs.QuietMinutes.{steps-range, skipped, passes, passes-less}
+use Rattle.season_filling.specs.QuietMinutes.{steps-range, passes, passes-less}
 use Rattle.season_filling.proofs.later.Statement.{statement}
 use Rattle.season_filling.proofs.later.Tie as tie
 

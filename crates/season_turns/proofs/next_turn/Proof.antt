@@ -1,6 +1,5 @@
 -- `season_turns::next_turn` meets its contract.
 -- Assumes nothing.
-use mathlib.Core.Path.{_≡_, _∙_}
 use borrow.Author.Needs.{needs}
 use borrow.Author.Tests.{lt-ltb, le-ltb}
 use Rattle.season_turns.proofs.next_turn.Statement.{statement}

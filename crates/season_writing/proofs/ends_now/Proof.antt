@@ -1,7 +1,7 @@
 -- `season_writing::ends_now` meets its contract: where one of its tests fails, they do not all hold.
 -- Assumes nothing.
 use mathlib.Core.Path.{_≡_, sym, _∙_}
-use mathlib.Core.Bool.{Bool, false, _&&_, and-true}
+use mathlib.Core.Bool.{false, _&&_, and-true}
 use Prim.Native.Nat.{ℕ, _+_}
 use native.Mathlib.Omega.{arith}
 use lib.Dec.{eqb, ltb}
