@@ -1,17 +1,17 @@
 -- The slots of a scheduler that holds a sound model.
 -- Assumes nothing.
-use Prim.Native.Nat.{ℕ, zero, suc, _-_, _≤_, _<_}
+use Prim.Native.Nat.{ℕ, _-_, _≤_, _<_}
 use native.Mathlib.Omega.{arith}
-use mathlib.Core.Path.{_≡_, refl, sym, ap, subst, _∙_}
+use mathlib.Core.Path.{_≡_, sym, ap, subst, _∙_}
 use mathlib.Core.Bool.{true, false}
-use mathlib.Core.List.{List, [], _∷_, _++_}
+use mathlib.Core.List.{List}
 use lib.Dec.{leb}
 use lib.ListN.{length, getD, take, replicate, List·getD-append}
 use lib.Seq.{take-append-seam}
 use borrow.Author.Tests.{leb-true, leb-false}
 use Rattle.lists.specs.Tests.{case, true-false}
 use Rattle.lists.specs.Lists.{All, In, all-of, all-at, in-getD}
-use Rattle.lists.specs.Pads.{pad, all-pad}
+use Rattle.lists.specs.Pads.{pad, all-pad, pad-past}
 use Rattle.scheduler.specs.declared.Job.{Job}
 use Rattle.scheduler.specs.declared.Scheduler.{Scheduler}
 use Rattle.scheduler.specs.declared.Settings.{Settings}
@@ -21,13 +21,6 @@ use Rattle.scheduler.specs.Settings.{longest}
 use Rattle.scheduler.specs.Model.{Model, store, view, store-length}
 use Rattle.jobs.specs.Soundness.{Sound, start-until}
 use Rattle.jobs.specs.Premise.{Holds}
-
-past : (xs : List Job) (k i : ℕ) → length xs ≤ i → getD (xs ++ replicate k unused) i unused ≡ unused
-past [] zero i l = refl
-past [] (suc k) zero l = refl
-past [] (suc k) (suc i) l = past [] k i (omega arith)
-past (x ∷ xs) k zero l = absurd (omega arith)
-past (x ∷ xs) k (suc i) l = past xs k i (omega arith)
 
 -- its start and its end are minutes of the clock
 abbrev pub Low : Job → Type 0
@@ -77,7 +70,7 @@ module _ (d : Scheduler) (h : Holds Sound d) where
   live-low i w =
       case (leb (length L) i)
       (λ e. true-false (isLive (getD (d .jobs) i unused)) w
-      (ap isLive (ap (λ (xs : List Job). getD xs i unused) slots-are ∙ past L (slots - length L) i (leb-true (length L) i e))))
+      (ap isLive (ap (λ (xs : List Job). getD xs i unused) slots-are ∙ pad-past slots unused L i (leb-true (length L) i e))))
       (λ e. leb-false (length L) i e)
 
   -- a slot that is not live stands past them

@@ -4,5 +4,6 @@ pub mod Least
 pub mod Greatest
 pub mod Loops
 pub mod Pads
+pub mod Flat
 pub mod FirstLaws
 pub mod CopyLoop

@@ -5,7 +5,7 @@ use native.Mathlib.Omega.{arith}
 use mathlib.Core.Path.{_≡_, refl, sym, ap, _∙_}
 use mathlib.Core.Bool.{Bool, true, false}
 use mathlib.Core.List.{List, [], _∷_, _++_, map, map-append, append-assoc, append-nil}
-use lib.ListN.{length, set, replicate, length-append, length-map, length-set, length-replicate, replicate-append-replicate}
+use lib.ListN.{length, getD, set, replicate, length-append, length-map, length-set, length-replicate, replicate-append-replicate}
 use lib.Seq.{set-at, set-append-left}
 use Rattle.lists.specs.Lists.{keep, sum, All, In, here, there, keep-append, keep-none, keep-all, map-same, length-keep-le, sum-append, all-append}
 
@@ -48,13 +48,25 @@ module _ {A : Type 0} (n : ℕ) (b : A) where
       ∙ ap (λ (l : List A). keep p xs ++ l) (keep-none p (replicate (n - length xs) b) (λ a i. ap p (in-same (n - length xs) i) ∙ e))
       ∙ append-nil (keep p xs)
 
-  all-same : (P : A → Type 0) → P b → (k : ℕ) → All P (replicate k b)
+  pub all-same : (P : A → Type 0) → P b → (k : ℕ) → All P (replicate k b)
   all-same P h zero = tt
   all-same P h (suc k) = (h, all-same P h k)
 
   pub all-pad : (P : A → Type 0) (xs : List A) → P b → All P xs → All P (pad n b xs)
   unfolding pad
   all-pad P xs h a = all-append P xs (replicate (n - length xs) b) a (all-same P h (n - length xs))
+
+  -- what stands past the elements
+  past : (xs : List A) (k i : ℕ) → length xs ≤ i → getD (xs ++ replicate k b) i b ≡ b
+  past [] zero i l = refl
+  past [] (suc k) zero l = refl
+  past [] (suc k) (suc i) l = past [] k i (omega arith)
+  past (x ∷ xs) k zero l = absurd (omega arith)
+  past (x ∷ xs) k (suc i) l = past xs k i (omega arith)
+
+  pub pad-past : (xs : List A) (i : ℕ) → length xs ≤ i → getD (pad n b xs) i b ≡ b
+  unfolding pad
+  pad-past xs i l = past xs (n - length xs) i l
 
   -- a store among the elements
   pub pad-set : (xs : List A) (i : ℕ) (x : A) → i < length xs → set (pad n b xs) i x ≡ pad n b (set xs i x)

@@ -6,8 +6,10 @@ pub mod NumberLaws
 pub mod LeadingLaws
 pub mod WriterLaws
 pub mod WrittenBytes
+pub mod RightSet
 pub mod Letters
 pub mod Words
+pub mod Quoted
 pub mod WordLaws
 pub mod Lines
 pub mod LineLaws

@@ -12,6 +12,7 @@ use lib.ListN.{length, getD, drop, drop-of-length-le, length-append, List·getD-
 use lib.Seq.{drop-cons}
 use borrow.Author.Tests.{lt-ltb, le-ltb, le-leb, lt-leb, ne-eqb, ltb-true, ltb-false, leb-true}
 use Rattle.lists.specs.Tests.{case, both, le-or, and-right-false}
+use Rattle.lists.specs.Lists.{All, all-append}
 use Rattle.text.specs.declared.Parsed.the-variants.{Is, Not}
 use Rattle.text.specs.Numbers.{isDigit, digitsFrom, leadingZero, goodForm, numberOf, decimalBy, decimalOf}
 
@@ -115,6 +116,10 @@ decimal-most (suc k) v h =
     (λ low. rw (decimal-one v low) (omega arith))
     (le-or 10 v)
 
+pub decimal-five : (v : ℕ) → v ≤ 99999 → length (decimalOf v) ≤ 5
+unfolding ten
+decimal-five v h = decimal-most 4 v (omega arith)
+
 pub decimal-seven : (v : ℕ) → v ≤ 9999999 → length (decimalOf v) ≤ 7
 unfolding ten
 decimal-seven v h = decimal-most 6 v (omega arith)
@@ -122,6 +127,17 @@ decimal-seven v h = decimal-most 6 v (omega arith)
 pub decimal-ten : (v : ℕ) → v < 4294967296 → length (decimalOf v) ≤ 10
 unfolding ten
 decimal-ten v h = decimal-most 9 v (omega arith)
+
+-- all of it are digits
+pub decimal-digits : (v : ℕ) → All (λ (b : ℕ). (48 ≤ b) × (b ≤ 57)) (decimalOf v)
+decimal-digits =
+    by-tenths
+    (λ (v : ℕ). All Digit (decimalOf v))
+    (λ v h. rw (decimal-one v h) ((omega arith, omega arith), tt))
+    (λ v h a. rw (decimal-more v h) (all-append Digit (decimalOf (v / 10)) ((48 + v % 10) ∷ []) a ((omega arith, omega arith), tt)))
+  where
+    Digit : ℕ → Type 0
+    Digit b = (48 ≤ b) × (b ≤ 57)
 
 -- a number that is read has at most seven digits
 digits-below : (s : List ℕ) (u v k : ℕ) → k + length s ≤ 7 → u < ten k → digitsFrom u s ≡ Is v → v ≤ 9999999

@@ -2,7 +2,7 @@
 ghost use mathlib.Core.Path.{_≡_};
 ghost use mathlib.Core.List.{[], _∷_};
 ghost use Prim.Native.Nat.{_+_, _≤_};
-ghost use lib.ListN.{length, drop};
+ghost use lib.ListN.{length, drop, replicate};
 ghost use lib.Seq.{sets};
 ghost use Rattle.text.specs.Fields.{fieldsOf, fieldOf, fieldsFrom};
 ghost use Rattle.text.specs.Prefixes.{upto};
@@ -10,10 +10,14 @@ ghost use Rattle.text.specs.Lines.{lineAt, beginsOf};
 ghost use Rattle.text.specs.Numbers.{digitsFrom, numberOf, numbersFrom, decimalOf};
 ghost use Rattle.text.specs.Words.{isWord};
 ghost use Rattle.text.specs.Letters.{capitalOf};
+ghost use Rattle.text.specs.WrittenBytes.{Wrote};
+ghost use Rattle.text.specs.RightSet.{space, rightSet};
 
 const TAB: u8 = 9;
 
 const NEWLINE: u8 = 10;
+
+const SPACE: u8 = 32;
 
 // The place of the first such byte at or after a place, or the end. A place past the end is given back.
 fn find_byte(s: &[u8], from: usize, byte: u8) -> usize
@@ -239,6 +243,35 @@ pub fn put_number(out: &mut [u8], at: usize, v: u32) -> usize
     }
     out[i] = 48 + (rest as u8);
     end
+}
+
+pub fn put_spaces(out: &mut [u8], at: usize, count: usize) -> usize
+    requires { ⌜ at + count ≤ length (now out) ⌝ }
+    ensures { λ r. ⌜ Wrote count (now (out .entry)) at (replicate count space) (now (out .exit)) r ⌝ }
+{
+    let mut i: usize = 0;
+    while i < count {
+        out[at + i] = SPACE;
+        i += 1;
+    }
+    at + i
+}
+
+// Right-set in so many columns.
+pub fn put_word_right(out: &mut [u8], at: usize, width: usize, word: &[u8]) -> usize
+    requires { ⌜ (length (now word) ≤ width) × (at + width ≤ length (now out)) ⌝ }
+    ensures { λ r. ⌜ Wrote width (now (out .entry)) at (rightSet width (now (word .entry))) (now (out .exit)) r ⌝ }
+{
+    let p = put_spaces(out, at, width - word.len());
+    put_word(out, p, word)
+}
+
+pub fn put_number_right(out: &mut [u8], at: usize, width: usize, v: u32) -> usize
+    requires { ⌜ (length (decimalOf v) ≤ width) × (at + width ≤ length (now out)) ⌝ }
+    ensures { λ r. ⌜ Wrote width (now (out .entry)) at (rightSet width (decimalOf v)) (now (out .exit)) r ⌝ }
+{
+    let p = put_spaces(out, at, width - number_len(v));
+    put_number(out, p, v)
 }
 
 // Where a line ends, and whether byte 10 closes it there.
