@@ -157,6 +157,7 @@ joins-valid m o v f l = record {
       (omega (arith, held-used S now (m .jobs ++ (j ∷ [])) each, sum-append held (m .jobs) (j ∷ []), room now (omega arith)));
   room = room;
   promised = λ k i. by-place (λ (x : Job). x .start ≤ x .promise) (v .promised) (omega arith) k i;
+  promise-to = λ k i. by-place (λ (x : Job). x .promise ≤ horizon S) (v .promise-to) (omega arith) k i;
   ahead = λ k i. by-place (λ (x : Job). isWaiting x ≡ true → now < x .start) (v .ahead) (λ w. state-waits now s (E .later) w) k i;
 }
   where
@@ -241,22 +242,26 @@ leaves-valid m c s ks v l g = record {
       let b = beside k i in
       omega (
         arith,
-        kept (b .0) (b .1),
+        kept _≤_ (v .promised) (b .0) (b .1),
         follows-start c (b .0) k (b .2),
         follows-promise c (b .0) k (b .2),
       );
+  promise-to = λ k i.
+      let b = beside k i in
+      omega (arith, kept (λ s p. p ≤ horizon (m .settings)) (v .promise-to) (b .0) (b .1), follows-promise c (b .0) k (b .2));
   ahead = λ k i w. let b = beside k i in follows-ahead c (b .0) k (b .2) w;
 }
   where
     js : List Job
     js = remaining (m .settings) c s (m .jobs)
 
-    kept : (j : Job) → In j js → j .start ≤ j .promise
-    kept j i = go (remaining-in (m .settings) c s (m .jobs) i)
+    -- who remains has its start and its promise still
+    kept : (P : ℕ → ℕ → Type 0) → ((j : Job) → In j (m .jobs) → P (j .start) (j .promise)) → (j : Job) → In j js → P (j .start) (j .promise)
+    kept P f j i = go (remaining-in (m .settings) c s (m .jobs) i)
       where
-        go : (k : Job) × In k (m .jobs) × (table.leaves (m .settings) s k ≡ false) × (j ≡ ceased c s k) → j .start ≤ j .promise
+        go : (k : Job) × In k (m .jobs) × (table.leaves (m .settings) s k ≡ false) × (j ≡ ceased c s k) → P (j .start) (j .promise)
         go (k, a, n, e) =
-            subst (λ (x : Job). x .start ≤ x .promise) (sym e) (case (ends s k) (λ q. rw q (v .promised k a)) (λ q. rw q (v .promised k a)))
+            subst (λ (x : Job). P (x .start) (x .promise)) (sym e) (case (ends s k) (λ q. rw q (f k a)) (λ q. rw q (f k a)))
 
     old : Sound (without m c s)
     old = sound-leave m c s (v .sound) l

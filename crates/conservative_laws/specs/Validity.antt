@@ -27,7 +27,7 @@ use Rattle.scheduler.specs.declared.Select.{Select}
 use Rattle.scheduler.specs.States.{live?, waiting?, running?, cleaning?, holding?}
 use Rattle.scheduler.specs.Jobs.{isWaiting, isRunning, isHolding, cleaning, held}
 use Rattle.scheduler.specs.declared.Settings.{Settings}
-use Rattle.scheduler.specs.Settings.{refusedSettings, holdTime, until}
+use Rattle.scheduler.specs.Settings.{refusedSettings, horizon, holdTime, until}
 use Rattle.scheduler.specs.Times.{run-pos, hold-pos, end-is, until-is, until-end, until-cleaned, until-at, until-still}
 use Rattle.scheduler.specs.Table as table
 use Rattle.scheduler.specs.Table.{nodesHeld, liveOf, ticketsOf, ends, staying, ceased, remaining}
@@ -45,6 +45,8 @@ pub record Valid (m : Model) : Type 0 where
   pub room : (t : ℕ) → m .clock ≤ t → used t (spans (m .settings) (m .jobs)) ≤ m .settings .nodes
   -- no job is planned for later than promised, and a waiting one for later than now
   pub promised : (j : Job) → In j (m .jobs) → j .start ≤ j .promise
+  -- a promise is a minute of the clock
+  pub promise-to : (j : Job) → In j (m .jobs) → j .promise ≤ horizon (m .settings)
   pub ahead : (j : Job) → In j (m .jobs) → isWaiting j ≡ true → m .clock < j .start
 
 -- ## Two lists of jobs, side by side
@@ -303,6 +305,7 @@ empty-valid S c t e s = record {
   sound = s;
   room = λ t a. omega arith;
   promised = λ j i. in-nil i;
+  promise-to = λ j i. in-nil i;
   ahead = λ j i w. in-nil i;
 }
 
