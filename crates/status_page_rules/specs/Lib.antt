@@ -1,0 +1,2 @@
+pub mod StatusPage
+pub mod Computed
