@@ -5,6 +5,7 @@ use mathlib.Core.Path.{_≡_}
 use mathlib.Core.Bool.{cond}
 use mathlib.Core.List.{List, []}
 use Prim.Native.Nat.{ℕ, _≤_, _<_}
+use native.Mathlib.Omega.{arith}
 use lib.Dec.{ltb}
 use lib.ListN.{length, getD}
 use borrow.Author.Tests.{lt-ltb, le-ltb}
@@ -21,11 +22,15 @@ use Rattle.conservative_index.specs.declared.Blocks.{Blocks}
 use Rattle.conservative_index.specs.StoredIndex.{noBlock, storedBlocks}
 use Rattle.conservative_rules.specs.Conservative.{points}
 use Rattle.calls.specs.declared.IndexOutcome.{IndexOutcome}
-use Rattle.calls.specs.ListCall.{listRefusal, written, refusal-of, written-of}
+use Rattle.calls.specs.ListCall.{listRefusal, written, ofConservative, items-of}
 
 -- the index of a conservative scheduler's profile
+abbrev pub indexed : Model → List Block
+indexed m = index (points m)
+
+-- of a scheduler of either kind
 abbrev pub blocksOf : Model → List Block
-blocksOf m = index (points m)
+blocksOf m = ofConservative indexed m
 
 -- a refusal and the blocks that are written
 unfoldable pub indexing : Refusal → List Block → IndexOutcome
@@ -55,11 +60,10 @@ unfolding indexIn
 all-blocks p room h = rw (le-ltb room (p .count) h)
 
 module _ (d : Scheduler) (room : ℕ) where
-  pub index-conservative : d .settings .kind ≡ Conservative → indexIn (storedBlocks (blocksOf (view d))) room ≡ indexOutcome (view d) room
-  unfolding indexIn indexing storedBlocks verdict
-  index-conservative e =
-      rw (refusal-of blocksOf d room Conservative e, written-of blocksOf d room Conservative e)
-      (case (ltb room (length (blocksOf (view d)))) (λ q. rw q) (λ q. rw q))
+  pub index-conservative : d .settings .kind ≡ Conservative → indexIn (storedBlocks (indexed (view d))) room ≡ indexOutcome (view d) room
+  unfolding indexIn indexing storedBlocks written verdict
+  index-conservative e = rw (items-of indexed d Conservative e) (case (ltb room (length (indexed (view d)))) (λ q. rw q) (λ q. rw q))
 
   pub index-easy : d .settings .kind ≡ Easy → indexing refusal.None [] ≡ indexOutcome (view d) room
-  index-easy e = rw (refusal-of blocksOf d room Easy e, written-of blocksOf d room Easy e)
+  unfolding written verdict
+  index-easy e = rw (items-of indexed d Easy e, le-ltb room 0 (omega arith))

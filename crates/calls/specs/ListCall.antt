@@ -1,13 +1,14 @@
--- What a question gives that fills a list which the caller lends, with the points or the blocks of a conservative scheduler. Document 01, 10:
--- "the lent list .. is shorter than what goes into it"; "The Loose Desk has no profile".
+-- What a question gives that fills what the caller lends, a list or a page: its elements, by the kind of the scheduler. Document 01, 10: "the
+-- lent list, page or text is shorter than what goes into it"; "Places past the last point (or past the end of what is written in a lent text)
+-- keep what they held"; "A refusal gives .. any lent list unchanged".
 -- Assumes nothing.
 use mathlib.Core.Path.{_≡_, refl}
-use mathlib.Core.Bool.{cond}
-use mathlib.Core.List.{List, [], _∷_}
+use mathlib.Core.Bool.{false, cond}
+use mathlib.Core.List.{List, [], _∷_, _++_}
 use Prim.Native.Nat.{ℕ, _≤_}
 use native.Mathlib.Omega.{arith}
 use lib.Dec.{ltb}
-use lib.ListN.{length}
+use lib.ListN.{length, drop}
 use borrow.Author.Tests.{ltb-false}
 use Rattle.lists.specs.Tests.{case}
 use Rattle.scheduler.specs.declared.Kind.{Kind}
@@ -21,55 +22,65 @@ use Rattle.jobs.specs.Premise.{Holds}
 use Rattle.guarantees.specs.Premise.{ValidBy, Premise, premise-of}
 use Rattle.calls.specs.declared.Shown.{Shown}
 
--- the elements of a conservative scheduler's list
+module _ {A : Type 0} where
+  -- elements written over the front of a list
+  abbrev pub over : List A → List A → List A
+  over xs lent = xs ++ drop (length xs) lent
+
 module _ {A : Type 0} (items : Model → List A) where
   -- what a list with so much room is refused by: the whole of its answer in a history of calls (`unchanged`)
-  abbrev pub refusalBy : Kind → Model → ℕ → Refusal
-  refusalBy Conservative m room = verdict ((ltb room (length (items m)), refusal.TooShort) ∷ [])
-  refusalBy Easy m room = refusal.None
-
   abbrev pub listRefusal : Model → ℕ → Refusal
-  listRefusal m room = refusalBy (m .settings .kind) m room
-
-  abbrev pub itemsBy : Kind → Model → List A
-  itemsBy Conservative m = items m
-  itemsBy Easy m = []
+  listRefusal m room = verdict ((ltb room (length (items m)), refusal.TooShort) ∷ [])
 
   -- the elements that are written: all, or none where the call is refused
   unfoldable pub written : Model → ℕ → List A
-  written m room = cond (accepts (listRefusal m room)) (itemsBy (m .settings .kind) m) []
+  written m room = cond (accepts (listRefusal m room)) (items m) []
 
   -- the refusal and how many are written
   abbrev pub shown : Model → ℕ → Shown
   shown m room = record { refusal = listRefusal m room; count = length (written m room) }
 
+  -- the answer a, and the list after the call where `lent` was lent: the elements at its front, and as it was where the call is refused
+  pub record Shows (d : Scheduler) (lent : List A) (a : Shown) (after : List A) : Type 0 where
+    pub answers : a ≡ shown (view d) (length lent)
+    pub writes : after ≡ over (written (view d) (length lent)) lent
+    pub refused : accepts (a .refusal) ≡ false → after ≡ lent
+
   -- ## Laws
+
+  pub refused-over : (d : Scheduler) (lent : List A) → accepts (shown (view d) (length lent) .refusal) ≡ false
+      → over (written (view d) (length lent)) lent ≡ lent
+  unfolding written
+  refused-over d lent e = rw e
 
   -- what is written fits the list
   pub written-fit : (m : Model) (room : ℕ) → length (written m room) ≤ room
   unfolding written verdict
-  written-fit m room = by (m .settings .kind)
-    where
-      by : (k : Kind) → length (cond (accepts (refusalBy k m room)) (itemsBy k m) []) ≤ room
-      by Conservative = let n = length (items m) in case (ltb room n) (λ e. rw e (omega arith)) (λ e. rw e (ltb-false room n e))
-      by Easy = omega arith
+  written-fit m room = let n = length (items m) in case (ltb room n) (λ e. rw e (omega arith)) (λ e. rw e (ltb-false room n e))
 
   -- and has places in an array that has them for all
-  pub written-few : (places : ℕ) → ((d : Scheduler) → Holds (ValidBy Conservative) d → length (items (view d)) ≤ places)
-      → (d : Scheduler) (room : ℕ) → Premise d → length (written (view d) room) ≤ places
-  unfolding written view
-  written-few places f d room h = case (accepts (listRefusal (view d) room)) (λ e. rw e (by (d .settings .kind) refl)) (λ e. rw e (omega arith))
-    where
-      by : (k : Kind) → d .settings .kind ≡ k → length (itemsBy k (view d)) ≤ places
-      by Conservative e = f d (premise-of d Conservative e h)
-      by Easy e = omega arith
+  pub written-few : (m : Model) (room places : ℕ) → length (items m) ≤ places → length (written m room) ≤ places
+  unfolding written
+  written-few m room places l = case (accepts (listRefusal m room)) (λ e. rw e l) (λ e. rw e (omega arith))
 
-  -- a scheduler of a kind
-  pub refusal-of : (d : Scheduler) (room : ℕ) (k : Kind) → d .settings .kind ≡ k → listRefusal (view d) room ≡ refusalBy k (view d) room
+-- ## Elements that a conservative scheduler has, and EASY does not. Document 01: "The Loose Desk has no profile."
+
+module _ {A : Type 0} (items : Model → List A) where
+  abbrev pub itemsBy : Kind → Model → List A
+  itemsBy Conservative m = items m
+  itemsBy Easy m = []
+
+  abbrev pub ofConservative : Model → List A
+  ofConservative m = itemsBy (m .settings .kind) m
+
+  pub items-of : (d : Scheduler) (k : Kind) → d .settings .kind ≡ k → ofConservative (view d) ≡ itemsBy k (view d)
   unfolding view
-  refusal-of d room k e = rw e
+  items-of d k e = rw e
 
-  pub written-of : (d : Scheduler) (room : ℕ) (k : Kind) → d .settings .kind ≡ k
-      → written (view d) room ≡ cond (accepts (refusalBy k (view d) room)) (itemsBy k (view d)) []
-  unfolding written view
-  written-of d room k e = rw e
+  pub items-few : (places : ℕ) → ((d : Scheduler) → Holds (ValidBy Conservative) d → length (items (view d)) ≤ places) → (d : Scheduler) → Premise d
+      → length (ofConservative (view d)) ≤ places
+  items-few places f d h = by (d .settings .kind) refl
+    where
+      by : (k : Kind) → d .settings .kind ≡ k → length (ofConservative (view d)) ≤ places
+      by Conservative e = rw (items-of d Conservative e) (f d (premise-of d Conservative e h))
+      by Easy e = rw (items-of d Easy e) (omega arith)

@@ -5,6 +5,7 @@ use mathlib.Core.Path.{_≡_}
 use mathlib.Core.Bool.{cond}
 use mathlib.Core.List.{List, []}
 use Prim.Native.Nat.{ℕ, _≤_, _<_}
+use native.Mathlib.Omega.{arith}
 use lib.Dec.{ltb}
 use lib.ListN.{length, getD}
 use borrow.Author.Tests.{lt-ltb, le-ltb}
@@ -20,14 +21,18 @@ use Rattle.conservative_profile.specs.declared.Profile.{Profile}
 use Rattle.conservative_profile.specs.StoredProfile.{noPoint, stored}
 use Rattle.conservative_rules.specs.Conservative.{points}
 use Rattle.calls.specs.declared.ProfileOutcome.{ProfileOutcome}
-use Rattle.calls.specs.ListCall.{listRefusal, written, refusal-of, written-of}
+use Rattle.calls.specs.ListCall.{listRefusal, written, ofConservative, items-of}
+
+-- of a scheduler of either kind
+abbrev pub pointsOf : Model → List Point
+pointsOf m = ofConservative points m
 
 -- a refusal and the points that are written
 unfoldable pub showing : Refusal → List Point → ProfileOutcome
 showing r ps = record { count = length ps; answer = record { refusal = r; count = length ps }; points = stored ps .points }
 
 abbrev pub profileOutcome : Model → ℕ → ProfileOutcome
-profileOutcome m room = showing (listRefusal points m room) (written points m room)
+profileOutcome m room = showing (listRefusal pointsOf m room) (written pointsOf m room)
 
 abbrev pub pointAt : ProfileOutcome → ℕ → Point
 pointAt p i = getD (p .points) i noPoint
@@ -51,10 +56,9 @@ all-shown p room h = rw (le-ltb room (p .count) h)
 
 module _ (d : Scheduler) (room : ℕ) where
   pub show-conservative : d .settings .kind ≡ Conservative → showIn (stored (points (view d))) room ≡ profileOutcome (view d) room
-  unfolding showIn showing stored verdict
-  show-conservative e =
-      rw (refusal-of points d room Conservative e, written-of points d room Conservative e)
-      (case (ltb room (length (points (view d)))) (λ q. rw q) (λ q. rw q))
+  unfolding showIn showing stored written verdict
+  show-conservative e = rw (items-of points d Conservative e) (case (ltb room (length (points (view d)))) (λ q. rw q) (λ q. rw q))
 
   pub show-easy : d .settings .kind ≡ Easy → showing refusal.None [] ≡ profileOutcome (view d) room
-  show-easy e = rw (refusal-of points d room Easy e, written-of points d room Easy e)
+  unfolding written verdict
+  show-easy e = rw (items-of points d Easy e, le-ltb room 0 (omega arith))

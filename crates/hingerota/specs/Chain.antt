@@ -22,8 +22,8 @@ use Rattle.guarantees.specs.Premise.{Valid, valid-view}
 use Rattle.guarantees.specs.Replies.{reply-back}
 use Rattle.guarantees.specs.Chain.{answerOf, MadeAll, unchanged-refuses, made-keeps}
 use Rattle.guarantees.specs.Statement.{bookOf}
-use Rattle.conservative_rules.specs.Conservative.{points}
 use Rattle.calls.specs.ListCall.{listRefusal}
+use Rattle.calls.specs.ProfileCall.{pointsOf}
 use Rattle.calls.specs.IndexCall.{blocksOf}
 use Rattle.calls.specs.LongestCall.{longestOf}
 use Rattle.hingerota.specs.declared.Desk.{Desk}
@@ -56,7 +56,7 @@ pub data HostMade (d : Desk) : Call → Answer → Desk → Type 0 where
   onLent : {c : Call} {a : Answer} {e : Desk} → HostLeaves d c a e → HostMade d c a e
   -- a profile counts as a call that leaves the desk as it is, by the refusal that it answers
   profileOnLent : {lent after : List Point} {s : Shown} → HostShowsPoints d lent s after
-      → HostMade d (unchanged (listRefusal points (view (read d)) (length lent))) (refusedBy (s .refusal)) d
+      → HostMade d (unchanged (listRefusal pointsOf (view (read d)) (length lent))) (refusedBy (s .refusal)) d
   -- and so does the index
   indexOnLent : {lent after : List Block} {s : Shown} → HostShowsBlocks d lent s after
       → HostMade d (unchanged (listRefusal blocksOf (view (read d)) (length lent))) (refusedBy (s .refusal)) d
@@ -83,7 +83,7 @@ module _ (m : Model) (v : Valid m) (w : m .settings .longest ≡ longestEstimate
         ∙ ap (λ (x : Model). mirrorAnswer (answer (call x c .reply))) desk-view,
   )
   made-is (profileOnLent {lent} {after} {s} w) =
-      rw (unchanged-refuses m (listRefusal points (view (read (mirror (store m)))) (length lent))) (refl, ap (λ (x : Shown). refusedBy (x .refusal)) (w .answers))
+      rw (unchanged-refuses m (listRefusal pointsOf (view (read (mirror (store m)))) (length lent))) (refl, ap (λ (x : Shown). refusedBy (x .refusal)) (w .answers))
   made-is (indexOnLent {lent} {after} {s} w) =
       rw (unchanged-refuses m (listRefusal blocksOf (view (read (mirror (store m)))) (length lent))) (refl, ap (λ (x : Shown). refusedBy (x .refusal)) (w .answers))
   made-is (earliestAsked ticket q) =

@@ -12,8 +12,7 @@ use Rattle.scheduler.specs.Model.{view}
 use Rattle.conservative_profile.specs.StoredProfile.{places, noPoint, stored}
 use Rattle.calls.specs.declared.ProfileOutcome as calls-outcome
 use Rattle.calls.specs.ListCall.{written}
-use Rattle.conservative_rules.specs.Conservative.{points}
-use Rattle.calls.specs.ProfileCall.{showing, profileOutcome}
+use Rattle.calls.specs.ProfileCall.{pointsOf, showing, profileOutcome}
 use Rattle.lent_lemmas.specs.Lists.{tabulate}
 use Rattle.lent_calls.specs.ProfileContract.{points-fits, points-few}
 use Rattle.hingerota.specs.declared.Desk.{Desk}
@@ -32,7 +31,7 @@ pub point-back : (p : spans-point.Point) → _≡_ {A = spans-point.Point} (reco
 point-back p = refl
 
 abbrev pub HostShowsPoints : Desk → (lent : List Point) → Shown → (after : List Point) → Type 0
-HostShowsPoints d lent a after = HostShows points mirrorPoint d lent a after
+HostShowsPoints d lent a after = HostShows pointsOf mirrorPoint d lent a after
 
 -- ## By value
 
@@ -55,9 +54,9 @@ pub points-written : (d : Desk) (lent : List Point) (p : ProfileOutcome) → p �
     → HostShowsPoints d lent (p .answer) (tabulate (p .count) (pointAt p) ++ drop (p .count) lent)
 unfolding showing stored pad
 points-written d lent p e =
-    let xs = written points (view (read d)) (length lent) in
+    let xs = written pointsOf (view (read d)) (length lent) in
     subst (λ (q : ProfileOutcome). HostShowsPoints d lent (q .answer) (tabulate (q .count) (pointAt q) ++ drop (q .count) lent)) (sym e)
-    (shows-by points mirrorPoint d lent (pointAt (pointsIn d (length lent))) (tabulate-front mirrorPoint noPoint xs (replicate (places - length xs) noPoint)))
+    (shows-by pointsOf mirrorPoint d lent (pointAt (pointsIn d (length lent))) (tabulate-front mirrorPoint noPoint xs (replicate (places - length xs) noPoint)))
 
 pub host-points-fits : (d : Desk) (room : ℕ) (p : ProfileOutcome) → p ≡ pointsIn d room → p .count ≤ room
 host-points-fits d room p e = subst (λ (q : ProfileOutcome). q .count ≤ room) (sym e) (points-fits (read d) room (profileOutcome (view (read d)) room) refl)

@@ -15,10 +15,10 @@ use Rattle.conservative_plan.specs.PlannedSlots.{blocks-fit}
 use Rattle.guarantees.specs.Premise.{Premise}
 use Rattle.calls.specs.declared.Shown.{Shown}
 use Rattle.calls.specs.declared.IndexOutcome.{IndexOutcome}
-use Rattle.calls.specs.ListCall.{written, written-few, written-fit}
-use Rattle.calls.specs.IndexCall.{blocksOf, indexing, indexOutcome, blockAt}
+use Rattle.calls.specs.ListCall.{written, Shows, written-few, written-fit, items-few}
+use Rattle.calls.specs.IndexCall.{indexed, blocksOf, indexing, indexOutcome, blockAt}
 use Rattle.lent_lemmas.specs.Lists.{tabulate}
-use Rattle.lent_calls.specs.ListContract.{Shows, tabulate-front, shows-by}
+use Rattle.lent_calls.specs.ListContract.{tabulate-front, shows-by}
 
 abbrev pub ShowsBlocks : Scheduler → (lent : List Block) → Shown → (after : List Block) → Type 0
 ShowsBlocks d lent a after = Shows blocksOf d lent a after
@@ -38,4 +38,4 @@ blocks-fits d room p e = omega (arith, ap (λ (q : IndexOutcome). q .count) e, w
 
 pub blocks-few : (d : Scheduler) (room : ℕ) (p : IndexOutcome) → Premise d → p ≡ indexOutcome (view d) room → p .count ≤ blockPlaces
 unfolding indexing
-blocks-few d room p h e = omega (arith, ap (λ (q : IndexOutcome). q .count) e, written-few blocksOf blockPlaces blocks-fit d room h)
+blocks-few d room p h e = omega (arith, ap (λ (q : IndexOutcome). q .count) e, written-few blocksOf (view d) room blockPlaces (items-few indexed blockPlaces blocks-fit d h))

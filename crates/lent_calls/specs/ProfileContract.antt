@@ -15,28 +15,28 @@ use Rattle.conservative_plan.specs.PlannedSlots.{points-fit}
 use Rattle.guarantees.specs.Premise.{Premise}
 use Rattle.calls.specs.declared.Shown.{Shown}
 use Rattle.calls.specs.declared.ProfileOutcome.{ProfileOutcome}
-use Rattle.calls.specs.ListCall.{written, written-few, written-fit}
+use Rattle.calls.specs.ListCall.{written, Shows, written-few, written-fit, items-few}
 use Rattle.conservative_rules.specs.Conservative.{points}
-use Rattle.calls.specs.ProfileCall.{showing, profileOutcome, pointAt}
+use Rattle.calls.specs.ProfileCall.{pointsOf, showing, profileOutcome, pointAt}
 use Rattle.lent_lemmas.specs.Lists.{tabulate}
-use Rattle.lent_calls.specs.ListContract.{Shows, tabulate-front, shows-by}
+use Rattle.lent_calls.specs.ListContract.{tabulate-front, shows-by}
 
 abbrev pub ShowsPoints : Scheduler → (lent : List Point) → Shown → (after : List Point) → Type 0
-ShowsPoints d lent a after = Shows points d lent a after
+ShowsPoints d lent a after = Shows pointsOf d lent a after
 
 -- what the call by value gives, written into the list
 pub points-given : (d : Scheduler) (lent : List Point) (p : ProfileOutcome) → p ≡ profileOutcome (view d) (length lent)
     → ShowsPoints d lent (p .answer) (tabulate (p .count) (pointAt p) ++ drop (p .count) lent)
 unfolding showing stored pad
 points-given d lent p e =
-    let xs = written points (view d) (length lent) in
+    let xs = written pointsOf (view d) (length lent) in
     subst (λ (q : ProfileOutcome). ShowsPoints d lent (q .answer) (tabulate (q .count) (pointAt q) ++ drop (q .count) lent)) (sym e)
-    (shows-by points d lent (pointAt (profileOutcome (view d) (length lent))) (tabulate-front noPoint xs (replicate (places - length xs) noPoint)))
+    (shows-by pointsOf d lent (pointAt (profileOutcome (view d) (length lent))) (tabulate-front noPoint xs (replicate (places - length xs) noPoint)))
 
 pub points-fits : (d : Scheduler) (room : ℕ) (p : ProfileOutcome) → p ≡ profileOutcome (view d) room → p .count ≤ room
 unfolding showing
-points-fits d room p e = omega (arith, ap (λ (q : ProfileOutcome). q .count) e, written-fit points (view d) room)
+points-fits d room p e = omega (arith, ap (λ (q : ProfileOutcome). q .count) e, written-fit pointsOf (view d) room)
 
 pub points-few : (d : Scheduler) (room : ℕ) (p : ProfileOutcome) → Premise d → p ≡ profileOutcome (view d) room → p .count ≤ places
 unfolding showing
-points-few d room p h e = omega (arith, ap (λ (q : ProfileOutcome). q .count) e, written-few points places points-fit d room h)
+points-few d room p h e = omega (arith, ap (λ (q : ProfileOutcome). q .count) e, written-few pointsOf (view d) room places (items-few points places points-fit d h))
