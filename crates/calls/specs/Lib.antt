@@ -2,3 +2,4 @@ pub mod ListCall
 pub mod ProfileCall
 pub mod IndexCall
 pub mod LongestCall
+pub mod PageCall

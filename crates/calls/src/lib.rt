@@ -14,6 +14,7 @@ ghost use Rattle.guarantees.specs.Premise.{Premise};
 ghost use Rattle.calls.specs.ProfileCall.{showing, showIn, profileOutcome, pointAt};
 ghost use Rattle.calls.specs.IndexCall.{indexing, indexIn, indexOutcome, blockAt};
 ghost use Rattle.calls.specs.LongestCall.{longestOf};
+ghost use Rattle.calls.specs.PageCall.{ShowsPage};
 use conservative_index::Blocks;
 use conservative_profile::Profile;
 use scheduler::Departure;
@@ -74,7 +75,7 @@ pub fn tick(d: Scheduler) -> Outcome
     call(d, Request::Tick)
 }
 
-// What a profile call answers: how many points it wrote.
+// What a call answers that fills what is lent to it: how many elements it wrote.
 pub struct Shown {
     pub refusal: Refusal,
     pub count: usize,
@@ -234,6 +235,24 @@ pub fn longest_estimate(d: Scheduler, q: Inquiry) -> Longest
             refusal: Refusal::None,
             estimate: 0,
         },
+    }
+}
+
+// The status page (document 02, No. 8: "the board in the corridor") of a scheduler of either kind, into the front of the page lent.
+pub fn status_page(d: Scheduler, page: &mut [u8]) -> Shown
+    requires { ⌜ Premise d ⌝ }
+    ensures { λ r. ⌜ ShowsPage d (now (page .entry)) r (now (page .exit)) ⌝ }
+{
+    if page.len() < status_page::PAGE {
+        return Shown {
+            refusal: Refusal::TooShort,
+            count: 0,
+        };
+    }
+    let count = status_page::put_page(page, d);
+    Shown {
+        refusal: Refusal::None,
+        count: count,
     }
 }
 

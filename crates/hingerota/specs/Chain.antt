@@ -26,6 +26,7 @@ use Rattle.calls.specs.ListCall.{listRefusal}
 use Rattle.calls.specs.ProfileCall.{pointsOf}
 use Rattle.calls.specs.IndexCall.{blocksOf}
 use Rattle.calls.specs.LongestCall.{longestOf}
+use Rattle.status_page_rules.specs.StatusPage.{statusPage}
 use Rattle.hingerota.specs.declared.Desk.{Desk}
 use Rattle.hingerota.specs.declared.Answer.{Answer}
 use Rattle.hingerota.specs.declared.Point.{Point}
@@ -41,6 +42,7 @@ use Rattle.hingerota.specs.ProfileContract.{HostShowsPoints}
 use Rattle.hingerota.specs.IndexContract.{HostShowsBlocks}
 use Rattle.hingerota.specs.EarliestContract.{earliestOn}
 use Rattle.hingerota.specs.LongestContract.{askedBy, longestOn}
+use Rattle.hingerota.specs.PageContract.{HostShowsPage}
 use Rattle.hingerota.specs.Waits.{waitRefusalOn, waitNumber}
 
 -- the reply that an answer in numbers says
@@ -66,6 +68,9 @@ pub data HostMade (d : Desk) : Call → Answer → Desk → Type 0 where
   -- and that for a longest estimate
   longestAsked : {l : Longest} (q : Inquiry) → l ≡ longestOn d q
       → HostMade d (unchanged (longestOf (view (read d)) (askedBy q) .refusal)) (refusedBy (l .refusal)) d
+  -- and the status page
+  pageOnLent : {lent after : List ℕ} {s : Shown} → HostShowsPage d lent s after
+      → HostMade d (unchanged (listRefusal statusPage (view (read d)) (length lent))) (refusedBy (s .refusal)) d
   -- and a wait which is refused; one that is not is as many ticks
   waitRefused : {n : ℕ} (minutes : ℕ) → n ≡ waitNumber d minutes → eqb n 0 ≡ false → HostMade d (unchanged (waitRefusalOn d minutes)) (refusedBy n) d
 
@@ -90,6 +95,8 @@ module _ (m : Model) (v : Valid m) (w : m .settings .longest ≡ longestEstimate
       rw (unchanged-refuses m (earliestStart (view (read (mirror (store m)))) ticket .refusal)) (refl, ap (λ (x : Earliest). refusedBy (x .refusal)) q)
   made-is (longestAsked q e) =
       rw (unchanged-refuses m (longestOf (view (read (mirror (store m)))) (askedBy q) .refusal)) (refl, ap (λ (x : Longest). refusedBy (x .refusal)) e)
+  made-is (pageOnLent {lent} {after} {s} w) =
+      rw (unchanged-refuses m (listRefusal statusPage (view (read (mirror (store m)))) (length lent))) (refl, ap (λ (x : Shown). refusedBy (x .refusal)) (w .answers))
   made-is (waitRefused {n} minutes e q) = rw (unchanged-refuses m (waitRefusalOn (mirror (store m)) minutes)) (refl, ap refusedBy e)
 
 -- From the desk that an opening hands back, a refused one too: desk and answers are those of the list of calls, and the book of the calls

@@ -7,4 +7,5 @@ pub mod IndexContract
 pub mod Waits
 pub mod EarliestContract
 pub mod LongestContract
+pub mod PageContract
 pub mod Chain

@@ -15,6 +15,7 @@ ghost use Rattle.hingerota.specs.ProfileContract.{mirrorPoint, pointsIn,
 ghost use Rattle.hingerota.specs.IndexContract.{mirrorBlock, blocksIn, blockAt, HostShowsBlocks};
 ghost use Rattle.hingerota.specs.EarliestContract.{earliestOn};
 ghost use Rattle.hingerota.specs.LongestContract.{longestOn};
+ghost use Rattle.hingerota.specs.PageContract.{HostShowsPage};
 ghost use Rattle.hingerota.specs.Waits.{waitNumber};
 use scheduler::Job;
 use scheduler::Kind;
@@ -117,7 +118,7 @@ pub struct Block {
     pub most: u32,
 }
 
-// What a call for the profile or the index answers; the refusal is document 01's number.
+// What a call for the profile, the index or the status page answers; the refusal is document 01's number.
 #[repr(C)]
 pub struct Shown {
     pub refusal: u32,
@@ -475,6 +476,13 @@ fn longest_estimate(d: Desk, inquiry: Inquiry) -> Longest
     }
 }
 
+fn status_page(d: Desk, page: &mut [u8]) -> Shown
+    requires { ⌜ Handed d ⌝ }
+    ensures { λ r. ⌜ HostShowsPage d (now (page .entry)) r (now (page .exit)) ⌝ }
+{
+    mirror_shown(calls::status_page(read(d), page))
+}
+
 fn wait_refusal(d: Desk, minutes: u32) -> u32
     requires { ⌜ Handed d ⌝ }
     ensures { λ r. ⌜ r ≡ waitNumber d minutes ⌝ }
@@ -614,6 +622,15 @@ pub extern "C" fn hingerota_longest_estimate(d: &Desk, inquiry: Inquiry) -> Long
     ensures { λ r. ⌜ r ≡ longestOn (now (d .entry)) inquiry ⌝ }
 {
     longest_estimate(*d, inquiry)
+}
+
+// The status page of a desk of either kind, into the front of the page lent.
+#[no_mangle]
+pub extern "C" fn hingerota_status_page(d: &Desk, page: &mut [u8]) -> Shown
+    requires { ⌜ Handed (now d) ⌝ }
+    ensures { λ r. ⌜ HostShowsPage (now (d .entry)) (now (page .entry)) r (now (page .exit)) ⌝ }
+{
+    status_page(*d, page)
 }
 
 // Why a wait of `minutes` is refused, by number, or 0: it is then that number of ticks. The desk is only read.

@@ -35,6 +35,7 @@ use Rattle.easy_rules.specs.EarliestStart.{earliestStart}
 use Rattle.scheduler.specs.declared.Inquiry.{Inquiry}
 use Rattle.scheduler.specs.declared.Longest.{Longest}
 use Rattle.calls.specs.LongestCall.{longestOf}
+use Rattle.calls.specs.PageCall.{ShowsPage}
 use Rattle.lent_calls.specs.CallContract.{Leaves}
 use Rattle.lent_calls.specs.ProfileContract.{ShowsPoints}
 use Rattle.lent_calls.specs.IndexContract.{ShowsBlocks}
@@ -55,6 +56,8 @@ pub data Made (d : Scheduler) : Call → Answer → Scheduler → Type 0 where
   earliestAsked : {e : Earliest} (ticket : ℕ) → e ≡ earliestStart (view d) ticket → Made d (unchanged (e .refusal)) (refusedAnswer (e .refusal)) d
   -- and that for a longest estimate
   longestAsked : {l : Longest} (q : Inquiry) → l ≡ longestOf (view d) q → Made d (unchanged (l .refusal)) (refusedAnswer (l .refusal)) d
+  -- and the status page, by value or on what is lent
+  pageShown : {lent after : List ℕ} {s : Shown} → ShowsPage d lent s after → Made d (unchanged (s .refusal)) (refusedAnswer (s .refusal)) d
   -- and a wait which is refused; one that is not is as many ticks
   waitRefused : {r : Refusal} (minutes : ℕ) → r ≡ waitRefusal (view d) minutes → accepts r ≡ false → Made d (unchanged r) (refusedAnswer r) d
 
@@ -77,6 +80,7 @@ module _ (m : Model) (v : Valid m) where
   made-is (indexOnLent {lent} {after} {s} w) = unchanged-is (s .refusal)
   made-is (earliestAsked {e} ticket q) = unchanged-is (e .refusal)
   made-is (longestAsked {l} q e) = unchanged-is (l .refusal)
+  made-is (pageShown {lent} {after} {s} w) = unchanged-is (s .refusal)
   made-is (waitRefused {r} minutes e n) = unchanged-is r
 
 -- From the scheduler that an opening hands back, a refused one too: scheduler and answers are those of the list of calls, and the book of

@@ -6,6 +6,7 @@ ghost use Rattle.history.specs.Calls as calls;
 ghost use Rattle.easy_rules.specs.EarliestStart.{earliestStart};
 ghost use Rattle.guarantees.specs.Premise.{Premise};
 ghost use Rattle.calls.specs.LongestCall.{longestOf};
+ghost use Rattle.calls.specs.PageCall.{ShowsPage};
 ghost use Rattle.lent_calls.specs.CallContract.{Leaves};
 ghost use Rattle.lent_calls.specs.ProfileContract.{ShowsPoints};
 ghost use Rattle.lent_calls.specs.IndexContract.{ShowsBlocks};
@@ -97,4 +98,12 @@ pub fn index(d: &Scheduler, blocks: &mut [Block]) -> Shown
         i += 1;
     }
     p.answer
+}
+
+// The status page, into the front of the page lent.
+pub fn status_page(d: &Scheduler, page: &mut [u8]) -> Shown
+    requires { ⌜ Premise (now d) ⌝ }
+    ensures { λ r. ⌜ ShowsPage (now (d .entry)) (now (page .entry)) r (now (page .exit)) ⌝ }
+{
+    calls::status_page(*d, page)
 }
