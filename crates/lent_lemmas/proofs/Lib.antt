@@ -3,6 +3,7 @@ pub mod Fills
 pub mod Fills_ds
 pub mod Own0
 pub mod Own1
+pub mod OwnPasses_ds
 pub mod OwnSlice_ds
 pub mod Params
 pub mod Passes_ds

@@ -1,8 +1,10 @@
-// Calls over what is lent, on both kinds of scheduler: what each answers, refusals too, and what stands in a list lent for the profile or the index.
+// Calls over what is lent, on both kinds of scheduler: what each answers, refusals too, and what stands in a list lent for the profile or the index,
+// or in a page lent for the status page.
 ghost use Rattle.jobs.specs.Soundness.{Sound};
 ghost use Rattle.jobs.specs.Premise.{Holds};
 ghost use Rattle.history.specs.Calls as calls;
 ghost use Rattle.guarantees.specs.Premise.{Premise};
+ghost use Rattle.calls.specs.PageCall.{ShowsPage};
 ghost use Rattle.lent_calls.specs.CallContract.{Leaves};
 ghost use Rattle.lent_calls.specs.ProfileContract.{ShowsPoints};
 ghost use Rattle.lent_calls.specs.IndexContract.{ShowsBlocks};
@@ -120,6 +122,13 @@ fn into_two(d: Scheduler, blocks: [Block; 2]) -> ListOfTwo
         answer: a,
         blocks: list,
     }
+}
+
+fn lent_page(d: Scheduler, page: &mut [u8]) -> Shown
+    requires { ⌜ Premise d ⌝ }
+    ensures { λ r. ⌜ ShowsPage d (now (page .entry)) r (now (page .exit)) ⌝ }
+{
+    lent_calls::status_page(&d, page)
 }
 
 fn print(n: u32) {
@@ -278,6 +287,49 @@ fn longest(d: Scheduler, nodes: u32, tenant: Tenant, minute: u32)
     io::write_all(STDOUT_FILENO, b"\n");
 }
 
+// How many of its bytes are this one.
+fn count_of(page: &[u8], byte: u8) -> usize {
+    let mut n: usize = 0;
+    let mut i: usize = 0;
+    while i < page.len() {
+        if page[i] == byte {
+            n += 1;
+        }
+        i += 1;
+    }
+    n
+}
+
+// The refusal and the count of a call for the status page, and of the bytes then in the page how many are as they were, line ends and spaces.
+fn page_into(d: Scheduler, page: &mut [u8])
+    requires { ⌜ Premise d ⌝ }
+{
+    print_shown(lent_page(d, page));
+    print_count(count_of(page, b'x'));
+    print_count(count_of(page, b'\n'));
+    print_count(count_of(page, b' '));
+    io::write_all(STDOUT_FILENO, b"\n");
+}
+
+fn print_lines(page: &[u8]) {
+    if 438 <= page.len() {
+        io::write_all(STDOUT_FILENO, &page[..438]);
+    }
+}
+
+// Into a page that is a byte too short, into one just long enough, and into a longer one; and the first six lines of that.
+fn status_page(d: Scheduler)
+    requires { ⌜ Premise d ⌝ }
+{
+    let mut short = [b'x'; 4817];
+    page_into(d, &mut short);
+    let mut exact = [b'x'; 4818];
+    page_into(d, &mut exact);
+    let mut longer = [b'x'; 4822];
+    page_into(d, &mut longer);
+    print_lines(&longer);
+}
+
 fn print_kind(kind: Kind) {
     match kind {
         Kind::Conservative => io::write_all(STDOUT_FILENO, b"conservative "),
@@ -363,6 +415,7 @@ fn main() {
     longest(d3, 5, Tenant::A, 29);
     longest(d3, 11, Tenant::Nobody, 0);
     longest(d3, 11, Tenant::A, 0);
+    status_page(d3);
     let d4 = submit(d3, 1, 5, Tenant::A);
     show(d4);
     let d5 = submit(d4, 11, 5, Tenant::A);
@@ -425,6 +478,8 @@ fn main() {
     let l3 = submit(l2, 1, 5, Tenant::B);
     let l4 = submit(l3, 1, 5, Tenant::A);
     let l5 = submit(l4, 11, 5, Tenant::Nobody);
+    let l6 = submit(l5, 10, 121, Tenant::A);
+    status_page(l6);
     // a longest estimate outside its range is refused ahead of all else
     open_up_to(Kind::Conservative, 10, 5, 7, 63, 0);
     open_up_to(Kind::Easy, 0, 5, 31, 62, 10081);
