@@ -13,12 +13,12 @@
  * The premise. Every call is proved for desks that meet it, and says nothing of others:
  *   - a desk is made by hingerota_open_promise or hingerota_open_loose alone, and changed by the calls of this header alone;
  *   - nobody else writes to it, and no two calls use it at the same time (read it as you like between calls);
- *   - a pointer handed to a call points to a whole desk, or to `room` points or blocks, and the two do not overlap. It is never
+ *   - a pointer handed to a call points to a whole desk, or to `room` points, blocks or bytes, and the two do not overlap. It is never
  *     NULL, also where `room` is 0.
  * Openings and calls, refused ones too, are proved to hand back a desk that meets the premise. A copy of a desk is a desk; calls on the
  * one say nothing of the other.
  *
- * What is proved. Each call gives exactly what its definition says (docs/ARCHITECTURE.md): answer, desk, points and blocks. Over every
+ * What is proved. Each call gives exactly what its definition says (docs/ARCHITECTURE.md): answer, desk, points, blocks and page. Over every
  * list of calls on a desk: a job of a Promise Desk starts no later than its promise; a job of a Loose Desk starts no later than its bound,
  * the minute of its submission + 10,080 and the cleanup for each job that waited then and for itself; every head of a Loose Desk hears a
  * forecast and starts no later; the jobs that run, with those that ended fewer minutes ago than the cleanup has, never hold more nodes
@@ -48,10 +48,13 @@ enum {
     HINGEROTA_LAST_TICKET = 999999,
     HINGEROTA_MOST_POINTS = 129, /* a list of this length is never too short */
     HINGEROTA_MOST_BLOCKS = 9,   /* nor is one of so many blocks */
-    HINGEROTA_BLOCK_POINTS = 16  /* the points of a block; the last may have fewer */
+    HINGEROTA_BLOCK_POINTS = 16, /* the points of a block; the last may have fewer */
+    HINGEROTA_PAGE_LINES = 66,   /* of a status page */
+    HINGEROTA_PAGE_COLUMNS = 72, /* of each, and then byte 10 */
+    HINGEROTA_PAGE_BYTES = 4818  /* together */
 };
 
-/* Why a call is refused. A refused call gives its number and nothing else, and leaves the desk and the list lent as they were. */
+/* Why a call is refused. A refused call gives its number and nothing else, and leaves the desk and what is lent as they were. */
 enum {
     HINGEROTA_TAKEN = 0,
     HINGEROTA_NODES_OUT_OF_RANGE = 1,    /* an opening outside 1 to 1,024; a job with 0, or more than the machine has */
@@ -62,7 +65,7 @@ enum {
     HINGEROTA_PAST_LAST_MINUTE = 6,      /* a job whose nodes could be taken after minute 1,000,000; a tick or a wait past it */
     HINGEROTA_NOT_RUNNING = 7,           /* the ticket is of no running job; one in cleanup runs no more */
     /* 8 is given no more: a profile never has more than 129 points */
-    HINGEROTA_TOO_SHORT = 10,            /* the points, or the blocks, do not fit into the list lent */
+    HINGEROTA_TOO_SHORT = 10,            /* the points, the blocks or the page do not fit into what is lent */
     HINGEROTA_NOT_WAITING = 11,          /* the ticket is of no waiting job */
     HINGEROTA_CLEANUP_OUT_OF_RANGE = 12, /* an opening with a cleanup above 30 */
     HINGEROTA_QUOTAS_OUT_OF_RANGE = 13,  /* an opening with quotas that are not 64 together, or with one of 0 */
@@ -231,6 +234,14 @@ hingerota_earliest hingerota_earliest_start(const hingerota_desk *d, uint32_t ti
  * Refused by 21, and then by what refuses a submission of estimate 1: 14, 1, 15, 5 or 6, the first of these that applies. A Loose Desk
  * promises nothing: nothing is refused, and the estimate is 0. The desk is only read. */
 hingerota_longest hingerota_longest_estimate(const hingerota_desk *d, hingerota_inquiry inquiry);
+
+/* The status page of a desk of either kind, for people to read: HINGEROTA_PAGE_BYTES bytes are written into `page`, which has places for
+ * `room`; those past them keep what they held. Each of the 66 lines has 72 characters and is closed by byte 10. Text stands at the right end
+ * of its columns, and everything else is spaces. The first line has the machine's nodes, the clock and the next ticket, in 8 columns each;
+ * then each live job has a line, in the order of tickets: ticket 7 columns, the letter of its tenant 2, nodes 5, start 8, promise 8, the
+ * estimate rounded up 6, `waiting`, `running` or `clearing` 10. On a Loose Desk the promise, and the start of a job that waits, is `-`. No
+ * number is ever wider than its columns. Refused by 10. The desk is only read. */
+hingerota_shown hingerota_status_page(const hingerota_desk *d, uint8_t *page, size_t room);
 
 #ifdef __cplusplus
 }

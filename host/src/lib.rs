@@ -18,6 +18,11 @@ pub const BLOCK_POINTS: usize = 16;
 /// The list of blocks that always suffices.
 pub const MOST_BLOCKS: usize = MOST_POINTS.div_ceil(BLOCK_POINTS);
 
+/// The lines of a status page, the characters of each, and the bytes of all, with byte 10 after each line.
+pub const PAGE_LINES: usize = 66;
+pub const PAGE_COLUMNS: usize = 72;
+pub const PAGE_BYTES: usize = PAGE_LINES * (PAGE_COLUMNS + 1);
+
 /// The two tenants of a machine, by their letters.
 pub const TENANT_A: u32 = b'A' as u32;
 pub const TENANT_B: u32 = b'B' as u32;
@@ -112,6 +117,12 @@ impl Desk {
         unsafe { raw::hingerota_longest_estimate(&self.raw, inquiry) }
     }
 
+    /// The status page, `PAGE_BYTES` bytes for people to read, into the front of the bytes lent; refused by 10. Bytes past the page keep what
+    /// they held.
+    pub fn status_page(&self, page: &mut [u8]) -> Shown {
+        unsafe { raw::hingerota_status_page(&self.raw, page.as_mut_ptr(), page.len()) }
+    }
+
     pub fn kind(&self) -> Kind {
         match self.raw.kind {
             0 => Kind::Promise,
@@ -183,7 +194,7 @@ pub fn reason(refusal: u32) -> &'static str {
         5 => "ticket 999,999 has been given",
         6 => "past the last minute, 1,000,000",
         7 => "the ticket is not running",
-        10 => "the list is too short",
+        10 => "the list, or the page, is too short",
         11 => "the ticket is not waiting",
         12 => "opened with a cleanup above 30",
         13 => "opened with places that are not 64 together, or with none for a house",

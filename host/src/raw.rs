@@ -152,4 +152,5 @@ extern "C" {
     pub fn hingerota_wait_refusal(d: *const Desk, minutes: u32) -> u32;
     pub fn hingerota_earliest_start(d: *const Desk, ticket: u32) -> Earliest;
     pub fn hingerota_longest_estimate(d: *const Desk, inquiry: Inquiry) -> Longest;
+    pub fn hingerota_status_page(d: *const Desk, page: *mut u8, room: usize) -> Shown;
 }

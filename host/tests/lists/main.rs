@@ -1,8 +1,9 @@
 //! Random lists of calls, on the library and on a model written from document 01's words: after every call the answers, every field of
-//! the desk and of its 64 records, the points, the blocks and an earliest start are compared, and now and then how long a job may be; the
-//! guarantees are watched by the calls and their answers, and the rule on gaps by the records and the points. The lists are the same in
+//! the desk and of its 64 records, the points, the blocks and an earliest start are compared, and now and then how long a job may be and the
+//! status page; the guarantees are watched by the calls and their answers, and the rule on gaps by the records and the points. The lists are the same in
 //! every run; LISTS says how many, and LIST plays one alone.
 
+mod board;
 mod book;
 mod gaps;
 mod model;
@@ -10,7 +11,7 @@ mod random;
 
 use book::{Book, Call, Tried};
 use hingerota_host::{
-    Answer, Block, Desk, Earliest, Inquiry, Kind, Longest, Opening, Order, Point, Record, Shown, MOST_BLOCKS, MOST_POINTS,
+    Answer, Block, Desk, Earliest, Inquiry, Kind, Longest, Opening, Order, Point, Record, Shown, MOST_BLOCKS, MOST_POINTS, PAGE_BYTES,
 };
 use model::{Job, Model, Scan, Search, State};
 use random::Random;
@@ -23,6 +24,9 @@ const LISTS: u64 = 40_000;
 
 /// After so many of a hundred steps it is asked how long a job may be.
 const QUESTIONS: u32 = 5;
+
+/// And after so many the status page is asked for.
+const PAGES: u32 = 3;
 
 /// How long the jobs of a list are.
 #[derive(Clone, Copy, PartialEq)]
@@ -161,6 +165,10 @@ struct Count {
     longest_estimates_below: u64,
     longest_estimates_none: u64,
     longest_estimates_by_intake: u64,
+    /// Of these, those with a job in cleanup, and those with a job that waits.
+    pages: u64,
+    pages_in_cleanup: u64,
+    pages_waiting: u64,
     most_live: usize,
     most_points: usize,
     most_blocks: usize,
@@ -198,6 +206,9 @@ impl Count {
         self.longest_estimates_below += other.longest_estimates_below;
         self.longest_estimates_none += other.longest_estimates_none;
         self.longest_estimates_by_intake += other.longest_estimates_by_intake;
+        self.pages += other.pages;
+        self.pages_in_cleanup += other.pages_in_cleanup;
+        self.pages_waiting += other.pages_waiting;
         self.most_live = self.most_live.max(other.most_live);
         self.most_points = self.most_points.max(other.most_points);
         self.most_blocks = self.most_blocks.max(other.most_blocks);
@@ -440,6 +451,26 @@ impl Played {
         self.book.index(&points[..profile.count], &blocks[..index.count])
     }
 
+    /// The status page into bytes of the exact length, longer and too short.
+    fn status_page(&mut self, random: &mut Random) -> Result<(), String> {
+        self.done.push("status page".to_string());
+        let page = board::page(&self.model);
+        let exact = PAGE_BYTES as u32;
+        let some = random.below(exact);
+        let too_short = random.one_of(&[0, some, exact - 1]);
+        for room in [exact, exact + random.between(1, 100), too_short] {
+            let held = |i| (i % 251) as u8;
+            self.lent("status page", &page, room as usize, held, Desk::status_page)?;
+        }
+        self.count.pages += 1;
+        let has = |state| u64::from(self.model.jobs.iter().any(|j| j.state == state));
+        self.count.pages_in_cleanup += has(State::Cleanup);
+        self.count.pages_waiting += has(State::Waiting);
+        let mut bytes = [0; PAGE_BYTES];
+        let shown = self.desk.status_page(&mut bytes);
+        board::shaped(&bytes[..shown.count])
+    }
+
     /// Asked, and not waited.
     fn wait_refusal(&mut self, minutes: u32) -> Result<(), String> {
         self.done.push(format!("refusal of a wait of {minutes}"));
@@ -650,7 +681,8 @@ fn play(list: u64) -> Result<Count, String> {
         let done = step(&plan, &mut played, random)
             .and_then(|()| played.index(random))
             .and_then(|()| played.earliest_start(some_ticket(&played, State::Waiting, random)))
-            .and_then(|()| if random.percent(QUESTIONS) { ask_longest(&plan, &mut played, random) } else { Ok(()) });
+            .and_then(|()| if random.percent(QUESTIONS) { ask_longest(&plan, &mut played, random) } else { Ok(()) })
+            .and_then(|()| if random.percent(PAGES) { played.status_page(random) } else { Ok(()) });
         done.map_err(|e| format!("list {list}: {}\n{e}", played.done.join(", ")))?;
     }
     played.count.tried = played.book.tried;
@@ -668,6 +700,7 @@ fn main() {
     };
     book::finds_broken_claims();
     gaps::finds_gaps();
+    board::finds_broken_pages();
     let (began, total, shown) = (Instant::now(), end - first, std::io::stderr().is_terminal());
     let (next, all) = (AtomicU64::new(first), Mutex::new(Count::default()));
     let work = || loop {
@@ -718,6 +751,10 @@ fn main() {
     println!(
         "and {} longest estimates asked for: {} below 10,080, {} none; {} by the answers of the model's intake to every estimate",
         all.longest_estimates, all.longest_estimates_below, all.longest_estimates_none, all.longest_estimates_by_intake
+    );
+    println!(
+        "and {} status pages, into bytes just enough, more and too few; {} with jobs in cleanup, {} with jobs that wait",
+        all.pages, all.pages_in_cleanup, all.pages_waiting
     );
     println!(
         "{} completions in the minute of the start, {} of jobs in cleanup, refused",

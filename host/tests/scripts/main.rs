@@ -143,6 +143,7 @@ fn arguments() {
         "index",
         "reads",
         "soonest TICKET",
+        "board",
         "longest NODES HOUSE MINUTE",
     ] {
         assert!(help.output.contains(word), "{word}");

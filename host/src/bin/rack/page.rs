@@ -82,6 +82,11 @@ impl Page {
         Ok(())
     }
 
+    /// As the library wrote it, line ends too.
+    pub fn status_page(&mut self, page: &[u8]) {
+        self.text += std::str::from_utf8(page).expect("proved to be spaces and visible characters of ASCII");
+    }
+
     /// A Loose Desk promises no minute, and prints nothing.
     pub fn longest_estimate(&mut self, desk: &Desk, longest: &Longest) -> Done {
         taken(longest.refusal)?;

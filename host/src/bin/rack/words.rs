@@ -3,7 +3,7 @@
 use crate::fields::{letter, number, numbers};
 use crate::page::{taken, Done, Page, Refusal, LACKS_THE_FORM};
 use crate::script::Rack;
-use hingerota_host::{Block, Inquiry, Order, Point, MOST_BLOCKS, MOST_POINTS};
+use hingerota_host::{Block, Inquiry, Order, Point, MOST_BLOCKS, MOST_POINTS, PAGE_BYTES};
 
 struct Word {
     /// The word, and the fields after it as the usage shows them.
@@ -96,6 +96,18 @@ const WORDS: &[Word] = &[
         play: |rack, fields, page| {
             let [ticket] = numbers(fields)?;
             page.earliest_start(ticket, &rack.desk.earliest_start(ticket))
+        },
+    },
+    Word {
+        form: "board",
+        does: "prints the page of the rack: 66 lines, a heading and a line a job",
+        play: |rack, fields, page| {
+            let [] = numbers(fields)?;
+            let mut bytes = [0; PAGE_BYTES];
+            let shown = rack.desk.status_page(&mut bytes);
+            taken(shown.refusal)?;
+            page.status_page(&bytes[..shown.count]);
+            Ok(())
         },
     },
     Word {
