@@ -58,9 +58,12 @@ placed-still now j w l n = λ i. record {
   state = state-is i;
   tenant = j .tenant;
   least = j .least;
+  rank = j .rank;
   start = j .start;
   promise = j .promise;
   end = sym n i;
+  submitted = j .submitted;
+  forecast = j .forecast;
 }
   where
     state-is : stateAt now (j .start) ≡ j .state

@@ -30,7 +30,8 @@ use Rattle.jobs.specs.Soundness as soundness
 use Rattle.history.specs.Calls.{Call, submit}
 use Rattle.history.specs.News.{Newcomer, News, newsOf, clockAfter, came-stays}
 use Rattle.history.specs.Book.{running, fateAfter, lowest}
-use Rattle.history_proof.specs.Obligations.{shown, fateBy, live, remark, Tells, by, Kept, Queued, Comes, For, Lawful}
+use Rattle.history.specs.Beginning.{fateBy}
+use Rattle.history_proof.specs.Obligations.{shown, live, remark, Tells, by, Kept, Queued, Comes, For, Lawful, Seeded}
 use Rattle.history_proof.specs.Departures.{shown-with, queued-by, lives, Departs, departs-live, departs-shown, tells-leave, tells-stay, tells-nothing, kept-by}
 use Rattle.conservative_rules.specs.Conservative.{planned, stateAt, newJob, submitted, placed, begun, advanced, call}
 use Rattle.conservative_laws.specs.Validity.{Valid, Zip, zip-map, zip-left, Follows, stays, moves, follows-ticket, follows-start}
@@ -350,3 +351,12 @@ conservative-lawful = record {
     kept : (m : Model) (c : Call) (u b : ℕ) → elem u (newsOf c (call m c .reply) .withdrew) ≡ false → StartsBy u b (call m c)
         → Kept (by b) (For OnCourse b) u (newsOf c (call m c .reply)) (call m c .model)
     kept m c u b = kept-by (newsOf c (call m c .reply)) (by b) (For OnCourse b) (call m c .model) u
+
+-- from any valid model on
+pub conservative-seeded : Seeded Conservative Valid OnCourse
+conservative-seeded = record {
+  waiting = λ m j v i w. record { job = j; inside = i; waits = w; is-u = refl; by = v .promised j i };
+  started = λ q m j v i. v .promised j i;
+  forecasts = λ m j v i w f. absurd (omega (arith, v .unranked j i));
+  heads = λ k. absurd (let z : _≡_ {A = ℕ} 0 1 = cc in omega arith);
+}

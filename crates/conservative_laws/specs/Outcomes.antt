@@ -22,7 +22,7 @@ use Rattle.scheduler.specs.declared.Departure.the-variants.{Complete, Cancel}
 use Rattle.scheduler.specs.declared.Select.{Select}
 use Rattle.scheduler.specs.declared.Select.the-variants as select
 use Rattle.scheduler.specs.States.{running?, cleaning?, holding?}
-use Rattle.scheduler.specs.Jobs.{isWaiting, held, picks}
+use Rattle.scheduler.specs.Jobs.{isWaiting, cleaning, held, picks}
 use Rattle.scheduler.specs.declared.Settings.{Settings}
 use Rattle.scheduler.specs.Settings.{horizon, holdTime, until}
 use Rattle.scheduler.specs.Times.{run-pos, hold-pos, end-is, until-fresh}
@@ -41,9 +41,9 @@ use Rattle.history.specs.News.{News, newsOf, clockAfter, nothing, refused-news,
 use Rattle.history_proof.specs.Departures.{Departs}
 use Rattle.conservative_rules.specs.Conservative.{span, spans, planned, stateAt, newJob, withNew, submitRefusal, submitted}
 use Rattle.conservative_rules.specs.Conservative.{advanced, compressed, departed, turned, ticked, call}
-use Rattle.conservative_laws.specs.Validity.{Valid, zip-right, zip-length, zip-live, zip-tickets, used-append, used-remaining, held-used, room-with}
+use Rattle.conservative_laws.specs.Validity.{Unranked, Valid, zip-right, zip-length, zip-live, zip-tickets, used-append, used-remaining, held-used, room-with}
 use Rattle.conservative_laws.specs.Validity.{Follows, state-live, state-now, state-clean, state-waits, follows-ticket, follows-tenant, follows-promise}
-use Rattle.conservative_laws.specs.Validity.{follows-start, follows-ahead, follows-sound, Moved, turns-follow, turns-used}
+use Rattle.conservative_laws.specs.Validity.{follows-start, follows-ahead, follows-unranked, follows-sound, Moved, turns-follow, turns-used}
 use Rattle.conservative_laws.specs.Compression.{left-compressible, compressed-is}
 
 -- ## How a call comes out
@@ -159,6 +159,7 @@ joins-valid m o v f l = record {
   promised = λ k i. by-place (λ (x : Job). x .start ≤ x .promise) (v .promised) (omega arith) k i;
   promise-to = λ k i. by-place (λ (x : Job). x .promise ≤ horizon S) (v .promise-to) (omega arith) k i;
   ahead = λ k i. by-place (λ (x : Job). isWaiting x ≡ true → now < x .start) (v .ahead) (λ w. state-waits now s (E .later) w) k i;
+  unranked = λ k i. by-place Unranked (v .unranked) (refl, refl, refl) k i;
 }
   where
     S : Settings
@@ -227,6 +228,7 @@ leaves-valid m c s ks v l g = record {
     longest-to = old .longest-to;
     cleanup-to = old .cleanup-to;
     quotas = old .quotas;
+    one-each = old .one-each;
     clock-to = old .clock-to;
     next-from = old .next-from;
     next-to = old .next-to;
@@ -242,26 +244,26 @@ leaves-valid m c s ks v l g = record {
       let b = beside k i in
       omega (
         arith,
-        kept _≤_ (v .promised) (b .0) (b .1),
+        kept (λ (x : Job). x .start ≤ x .promise) (λ x p. p) (v .promised) (b .0) (b .1),
         follows-start c (b .0) k (b .2),
         follows-promise c (b .0) k (b .2),
       );
   promise-to = λ k i.
       let b = beside k i in
-      omega (arith, kept (λ s p. p ≤ horizon (m .settings)) (v .promise-to) (b .0) (b .1), follows-promise c (b .0) k (b .2));
+      omega (arith, kept (λ (x : Job). x .promise ≤ horizon (m .settings)) (λ x p. p) (v .promise-to) (b .0) (b .1), follows-promise c (b .0) k (b .2));
   ahead = λ k i w. let b = beside k i in follows-ahead c (b .0) k (b .2) w;
+  unranked = λ k i. let b = beside k i in follows-unranked c (b .0) k (b .2) (kept Unranked (λ x p. p) (v .unranked) (b .0) (b .1));
 }
   where
     js : List Job
     js = remaining (m .settings) c s (m .jobs)
 
-    -- who remains has its start and its promise still
-    kept : (P : ℕ → ℕ → Type 0) → ((j : Job) → In j (m .jobs) → P (j .start) (j .promise)) → (j : Job) → In j js → P (j .start) (j .promise)
-    kept P f j i = go (remaining-in (m .settings) c s (m .jobs) i)
+    -- what holds of a job, and of it once its run has ended, holds of who remains
+    kept : (P : Job → Type 0) → ((k : Job) → P k → P (cleaning c k)) → ((k : Job) → In k (m .jobs) → P k) → (j : Job) → In j js → P j
+    kept P e f j i = go (remaining-in (m .settings) c s (m .jobs) i)
       where
-        go : (k : Job) × In k (m .jobs) × (table.leaves (m .settings) s k ≡ false) × (j ≡ ceased c s k) → P (j .start) (j .promise)
-        go (k, a, n, e) =
-            subst (λ (x : Job). P (x .start) (x .promise)) (sym e) (case (ends s k) (λ q. rw q (f k a)) (λ q. rw q (f k a)))
+        go : (k : Job) × In k (m .jobs) × (table.leaves (m .settings) s k ≡ false) × (j ≡ ceased c s k) → P j
+        go (k, a, n, q) = subst P (sym q) (case (ends s k) (λ z. rw z (e k (f k a))) (λ z. rw z (f k a)))
 
     old : Sound (without m c s)
     old = sound-leave m c s (v .sound) l

@@ -38,6 +38,10 @@ use Rattle.jobs.specs.Soundness.{SoundJob, Sound, opening-sound, Leaving, runni
 use Rattle.history_proof.specs.Departures.{waits-runs}
 use Rattle.conservative_rules.specs.Conservative.{span, spans, stateAt, placed, moved, pass, turned}
 
+-- document 02, No. 11: "Loose records now keep intake minute, .. r at intake .. and any forecast"; here a record lacks these three
+abbrev pub Unranked : Job → Type 0
+Unranked j = (j .submitted ≡ 0) × (j .rank ≡ 0) × (j .forecast ≡ 0)
+
 pub record Valid (m : Model) : Type 0 where
   pub kind : m .settings .kind ≡ Conservative
   pub sound : Sound m
@@ -48,6 +52,7 @@ pub record Valid (m : Model) : Type 0 where
   -- a promise is a minute of the clock
   pub promise-to : (j : Job) → In j (m .jobs) → j .promise ≤ horizon (m .settings)
   pub ahead : (j : Job) → In j (m .jobs) → isWaiting j ≡ true → m .clock < j .start
+  pub unranked : (j : Job) → In j (m .jobs) → Unranked j
 
 -- ## Two lists of jobs, side by side
 
@@ -195,6 +200,10 @@ pub follows-promise : (now : ℕ) (j k : Job) → Follows now j k → k .promise
 follows-promise now j k (stays e) = refl
 follows-promise now j k (moves s e a b) = refl
 
+pub follows-unranked : (now : ℕ) (j k : Job) → Follows now j k → Unranked j → Unranked k
+follows-unranked now j k (stays e) u = u
+follows-unranked now j k (moves s e a b) u = u
+
 pub follows-start : (now : ℕ) (j k : Job) → Follows now j k → k .start ≤ j .start
 follows-start now j k (stays e) = omega arith
 follows-start now j k (moves s e a b) = b
@@ -307,6 +316,7 @@ empty-valid S c t e s = record {
   promised = λ j i. in-nil i;
   promise-to = λ j i. in-nil i;
   ahead = λ j i w. in-nil i;
+  unranked = λ j i. in-nil i;
 }
 
 pub opening-valid : (o : Opening) → o .settings .kind ≡ Conservative → Valid (opening o)

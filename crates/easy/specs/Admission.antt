@@ -51,7 +51,7 @@ module _ (d : Scheduler) (s : Submission) (h : Holds Valid d) where
   m = view d
 
   abbrev job : Job
-  job = newJob (d .next) s
+  job = newJob m s
 
   -- early on, the last of a full queue ends in time
   early-latest : d .clock ≤ 332740 → latestEnd m (s .estimate) ≤ horizon

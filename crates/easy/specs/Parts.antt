@@ -19,7 +19,7 @@ use Rattle.job_table.specs.Parts.{Own, coming, judgedOwn, departing, ticking}
 -- ## The own part
 
 abbrev pub own : Model → Request → Own
-own m (request.Submit s) = judgedOwn m (submitRefusal m s) (coming (m .next) (joined m (newJob (m .next) s)))
+own m (request.Submit s) = judgedOwn m (submitRefusal m s) (coming (m .next) (joined m (newJob m s)))
 own m (request.Depart h t) = departing m h t
 own m request.Tick = ticking m
 

@@ -426,32 +426,32 @@ leave-keeps m c p s r (in-time l) u b n o = eased m _ u b s r (leave-eases m _ _
 
 -- a job joins at the end of the queue
 module _ (m : Model) (o : Submission) where
-  pub join-eases : Eases m (joined m (newJob (m .next) o))
+  pub join-eases : Eases m (joined m (newJob m o))
   join-eases = record {
     settings = refl;
     soon = omega arith;
-    last = newJob (m .next) o ∷ [];
-    queued = keep-append isWaiting (m .jobs) (newJob (m .next) o ∷ []);
-    nodes = λ t. omega (arith, sum-append held (m .jobs) (newJob (m .next) o ∷ []), sum-append (freed (m .settings) t) (m .jobs) (newJob (m .next) o ∷ []));
-    fewer = λ u l. let z : before u (newJob (m .next) o) ≡ 0 = rw (le-ltb (m .next) u (omega arith)) in
-        omega (arith, sum-append (before u) (m .jobs) (newJob (m .next) o ∷ []));
-    stay = λ j i w. in-left (newJob (m .next) o ∷ []) i;
+    last = newJob m o ∷ [];
+    queued = keep-append isWaiting (m .jobs) (newJob m o ∷ []);
+    nodes = λ t. omega (arith, sum-append held (m .jobs) (newJob m o ∷ []), sum-append (freed (m .settings) t) (m .jobs) (newJob m o ∷ []));
+    fewer = λ u l. let z : before u (newJob m o) ≡ 0 = rw (le-ltb (m .next) u (omega arith)) in
+        omega (arith, sum-append (before u) (m .jobs) (newJob m o ∷ []));
+    stay = λ j i w. in-left (newJob m o ∷ []) i;
   }
 
   -- and is on course for its bound: "the clock at intake + r × 10,080", by document 02, No. 3, "r × (10,080 + clearing)"
-  pub join-course : OnCourse (joined m (newJob (m .next) o)) (m .next) (m .clock + rank m * unit (m .settings))
+  pub join-course : OnCourse (joined m (newJob m o)) (m .next) (m .clock + rank m * unit (m .settings))
   join-course = record {
-    waits = record { job = newJob (m .next) o; isin = in-right (m .jobs) (here refl); waits = refl; named = refl };
+    waits = record { job = newJob m o; isin = in-right (m .jobs) (here refl); waits = refl; named = refl };
     by = λ h q x.
-        let z : before (m .next) (newJob (m .next) o) ≡ 0 = rw (le-ltb (m .next) (m .next) (omega arith)) in
-        let a = sum-append (before (m .next)) (m .jobs) (newJob (m .next) o ∷ []) in
+        let z : before (m .next) (newJob m o) ≡ 0 = rw (le-ltb (m .next) (m .next) (omega arith)) in
+        let a = sum-append (before (m .next)) (m .jobs) (newJob m o ∷ []) in
         let d = sum-le (before (m .next)) (λ (j : Job). on (isWaiting j) 1) (m .jobs) (λ j i. less j) in
-        let f : ahead (m .next) (joined m (newJob (m .next) o) .jobs) ≤ length (queue (m .jobs)) = omega (arith, length-keep isWaiting (m .jobs)) in
+        let f : ahead (m .next) (joined m (newJob m o) .jobs) ≤ length (queue (m .jobs)) = omega (arith, length-keep isWaiting (m .jobs)) in
         omega (
           arith,
-          mul-le-mul-right {m = ahead (m .next) (joined m (newJob (m .next) o) .jobs)} {n = length (queue (m .jobs))}
+          mul-le-mul-right {m = ahead (m .next) (joined m (newJob m o) .jobs)} {n = length (queue (m .jobs))}
               (unit (m .settings)) f,
-          shadow-to (joined m (newJob (m .next) o)) (h .nodes),
+          shadow-to (joined m (newJob m o)) (h .nodes),
         );
   }
     where

@@ -1,6 +1,7 @@
 pub mod Settling
 pub mod Remaining
 pub mod Course
+pub mod Noted
 pub mod Validity
 pub mod Obligations
 pub mod EngineLaws

@@ -4,7 +4,7 @@ use Prim.Native.Nat.{ℕ, suc, _≤_, _<_, min}
 use native.Mathlib.Omega.{arith}
 use mathlib.Core.Path.{_≡_, refl, sym, ap, ap₂, subst, _∙_}
 use mathlib.Core.Bool.{true, false, not, cond}
-use mathlib.Core.Option.{none, some}
+use mathlib.Core.Option.{Option, none, some}
 use mathlib.Core.List.{List, [], _∷_, _++_, map, foldr, map-map, map-append}
 use mathlib.Core.Logic.{_⊎_, inl, inr, ⊎-elim}
 use lib.Dec.{eqb}
@@ -33,16 +33,18 @@ use Rattle.jobs.specs.Soundness.{Sound, early, in-time, ceased-ticket, ceased-w
 use Rattle.history.specs.Calls.{Call}
 use Rattle.history.specs.News.{Newcomer, News, newsOf, clockAfter, came-stays}
 use Rattle.history.specs.Book.{waiting}
-use Rattle.history_proof.specs.Obligations.{JobShown, shown, fateBy, isLive, remark, shownAfter, newly, comers, Tells, boundAt}
-use Rattle.history_proof.specs.Obligations.{lowestWaiting, Queued, Comes, by, Kept, For, Lawful}
+use Rattle.history.specs.Beginning.{fateBy}
+use Rattle.history_proof.specs.Obligations.{JobShown, shown, isLive, remark, shownAfter, newly, comers, Tells, boundAt}
+use Rattle.history_proof.specs.Obligations.{lowestWaiting, Queued, Comes, by, Kept, For, Lawful, Seeded}
 use Rattle.history_proof.specs.Departures.{lives, Departs, departs-live, departs-shown, stay-live, stay-shown, tells-by, tells-leave, tells-nothing}
 use Rattle.history_proof.specs.Departures.{kept-by, queued-by}
-use Rattle.easy_rules.specs.Easy.{queue, head, shadow, headIs, forecast, newJob, call}
-use Rattle.easy_laws.specs.Settling.{marks, settles-clock, settles-settings, settles-jobs}
+use Rattle.easy_rules.specs.Easy.{queue, head, shadow, headIs, forecast, noted, newJob, call}
+use Rattle.easy_laws.specs.Settling.{marks, settles-clock, settles-jobs}
 use Rattle.easy_laws.specs.Course.{Waits, OnCourse, Head, head-in, head-lowest, head-course, course-rest, settles-waited, join-course}
 use Rattle.easy_laws.specs.Validity.{Valid, OwnPart, submits, departs, ticks, moved-ready, moved-settings, moved-keeps, settles-keeps}
 use Rattle.easy_laws.specs.Validity.{joiner, leaver, in-one, Joins, moved-waited, moved-stays, moved-withdraws}
-use Rattle.easy_laws.specs.Validity.{CallAccepted, taken-came, taken-withdrew, Unchanged, quiet-news, called, call-valid}
+use Rattle.easy_laws.specs.Noted.{notes, noted-jobs, notes-by, forecast-says}
+use Rattle.easy_laws.specs.Validity.{CallAccepted, taken-head, taken-clock, taken-settings, taken-course, taken-came, taken-withdrew, Unchanged, quiet-news, called, call-valid}
 
 -- ## The clock and the settings
 
@@ -95,7 +97,7 @@ module _ (k now : ℕ) (e : News) where
 
 -- the jobs that a call's own part leaves, and who comes, as they were before it
 abbrev kept : {m : Model} {c : Call} {mid : Model} {t : ℕ} {ts : List ℕ} → OwnPart m c mid t ts → List Job
-kept {m} (submits o f room) = m .jobs ++ newJob (m .next) o ∷ []
+kept {m} (submits o f room) = m .jobs ++ newJob m o ∷ []
 kept {m} (departs h t a) = staying (m .settings) (select.Departing h t) (m .jobs)
 kept {m} (ticks l) = staying (m .settings) (ending m) (m .jobs)
 
@@ -106,7 +108,7 @@ leftAs {m} (departs h t a) j = ceased (m .clock) (select.Departing h t) j
 leftAs {m} (ticks l) j = ceased (suc (m .clock)) (ending m) j
 
 moved-jobs : {m : Model} {c : Call} {mid : Model} {t : ℕ} {ts : List ℕ} (x : OwnPart m c mid t ts) → mid .jobs ≡ map (leftAs x) (kept x)
-moved-jobs {m} (submits o f room) = sym (map-same (λ (j : Job). j) (m .jobs ++ newJob (m .next) o ∷ []) (λ j i. refl))
+moved-jobs {m} (submits o f room) = sym (map-same (λ (j : Job). j) (m .jobs ++ newJob m o ∷ []) (λ j i. refl))
 moved-jobs (departs h t a) = refl
 moved-jobs (ticks l) = refl
 
@@ -141,7 +143,7 @@ module _ (m : Model) (e : News) (s : Sound m) where
       }
 
   -- who comes is live, and waits
-  comes-left : (o : Submission) → e .withdrew ≡ [] → Left lasts (m .clock) e (newJob (m .next) o) (newJob (m .next) o)
+  comes-left : (o : Submission) → e .withdrew ≡ [] → Left lasts (m .clock) e (newJob m o) (newJob m o)
   comes-left o w = record {
     ticket = refl;
     same = λ q. refl;
@@ -153,7 +155,7 @@ module _ (m : Model) (e : News) (s : Sound m) where
       → (j : Job) → In j (kept x) → Left lasts (mid .clock) e j (leftAs x j)
   moved-left (submits o f room) d w j i = by (in-append (m .jobs) i)
     where
-      by : In j (m .jobs) ⊎ In j (newJob (m .next) o ∷ []) → Left lasts (m .clock) e j j
+      by : In j (m .jobs) ⊎ In j (newJob m o ∷ []) → Left lasts (m .clock) e j j
       by (inl i) = record { ticket = refl; same = λ q. refl; live = stay-live m e s d w j i; still = stay-shown m e s d w j i }
       by (inr i) = subst (λ (x : Job). Left lasts (m .clock) e x x) (sym (in-one i)) (comes-left o w)
   moved-left (departs h t a) d w j i = departs-left (m .clock) (select.Departing h t) (departing h t a d w) j i
@@ -166,7 +168,7 @@ module _ (m : Model) (e : News) (s : Sound m) where
   moved-tells (submits o f room) d w q after h =
       let js = m .jobs in
       let now = m .clock in
-      let new : Job = newJob (m .next) o in
+      let new : Job = newJob m o in
       let one : map (remark lasts now e) (shown new ∷ []) ≡ keep isLive (map (remark lasts now e) (shown new ∷ [])) =
       rw (comes-left o w .live) in
       tells-by lasts now e (λ (j : Job). false) js after (stay-live m e s d w)
@@ -180,20 +182,26 @@ module _ (m : Model) (e : News) (s : Sound m) where
       let c = suc (m .clock) in
       tells-leave lasts c e (leaves (m .settings) (ending m)) (m .jobs) after (departs-live m c (ending m) e s (ticking l d w)) q r
 
+-- no answer shows what a record keeps of a forecast
+shown-noted : (f : Option Forecast) (m : Model) → map shown (noted f m .jobs) ≡ map shown (m .jobs)
+shown-noted f m =
+    ap (map shown) (noted-jobs f m) ∙ map-map shown (notes f) (m .jobs)
+    ∙ map-cong (λ (j : Job). shown (notes f j)) shown (m .jobs) (λ j i. notes-by shown (λ t k. refl) f j)
+
 module _ (m : Model) (c : Call) (o : Result) (v : Valid m) where
   taken-tells : CallAccepted m c o → Tells m (newsOf c (o .reply)) (o .model)
   taken-tells t =
       let e = newsOf c (o .reply) in
       let s = v .ready .sound in
       let w = taken-withdrew m c o t in
-      let q : o .model .jobs ≡ map (marks (t .mid .clock) (o .reply .started)) (map (leftAs (t .moved)) (kept (t .moved))) =
+      let q : t .last .jobs ≡ map (marks (t .mid .clock) (o .reply .started)) (map (leftAs (t .moved)) (kept (t .moved))) =
       settles-jobs (t .trace) ∙ ap (map (marks (t .mid .clock) (o .reply .started))) (moved-jobs (t .moved)) in
       moved-tells m e s (t .moved) refl w (taken-came m c o t) (o .model .jobs)
-      (ap (map shown) q
+      (ap (λ (x : Model). map shown (x .jobs)) (t .model-is) ∙ shown-noted (forecast m (t .last)) (t .last) ∙ ap (map shown) q
       ∙ shown-after (cleanup (m .settings)) (t .mid .clock) e (leftAs (t .moved)) (kept (t .moved)) (moved-left m e s (t .moved) refl w) starters)
       ∙ ap₂ (λ (k now : ℕ). shownAfter k now e (map shown (m .jobs) ++ comers e))
-      (ap cleanup (sym (settles-settings (t .trace) ∙ moved-settings (t .moved))))
-      (sym (settles-clock (t .trace)))
+      (ap cleanup (sym (taken-settings m c o t)))
+      (sym (taken-clock m c o t))
     where
       -- who starts waits before the settling
       starters : (j : Job) → In j (kept (t .moved)) → elem (leftAs (t .moved) j .ticket) (o .reply .started) ≡ true → isWaiting (leftAs (t .moved) j) ≡ true
@@ -216,7 +224,7 @@ moved-joins : {m : Model} {c : Call} {mid : Model} {t : ℕ} {ts : List ℕ} (x 
 moved-joins {m} (submits w f room) o i = one (in-cons i)
   where
     Joins : Newcomer → Type 0
-    Joins x = (x .ticket ≡ m .next) × OnCourse (joined m (newJob (m .next) w)) (x .ticket) (boundAt m)
+    Joins x = (x .ticket ≡ m .next) × OnCourse (joined m (newJob m w)) (x .ticket) (boundAt m)
 
     one : (o ≡ record { ticket = m .next; nodes = w .nodes; promise = 0; tenant = w .tenant; least = w .least }) ⊎ In o [] → Joins o
     one (inl q) = subst Joins (sym q) (refl, join-course m w)
@@ -240,24 +248,6 @@ lowest-head m t a l = by (queue (m .jobs)) refl
     by : (q : List Job) → queue (m .jobs) ≡ q → (h : Head m) × (h .job .ticket ≡ t)
     by [] e = absurd (let x : none ≡ some t = rw e at l in let z : _≡_ {A = ℕ} 0 1 = cc in omega arith)
     by (h ∷ later) e = let x : some (h .ticket) ≡ some t = sym (lowest-is m h later a e) ∙ l in (record { job = h; later = later; first = e }, cc)
-
--- a forecast is the shadow of the head
-pub forecast-says : (b m : Model) (f : Forecast) → forecast b m ≡ some f → (h : Head m) × (f .ticket ≡ h .job .ticket) × (f .minute ≡ shadow m (h .job .nodes))
-unfolding forecast
-forecast-says b m f e = by (queue (m .jobs)) refl
-  where
-    by : (q : List Job) → queue (m .jobs) ≡ q → (h : Head m) × (f .ticket ≡ h .job .ticket) × (f .minute ≡ shadow m (h .job .nodes))
-    by [] x = absurd (let y : none ≡ some f = rw x at e in let z : _≡_ {A = ℕ} 0 1 = cc in omega arith)
-    by (k ∷ later) x = told (rw x at e)
-      where
-        told : cond (headIs (head b) k) none (some (record { ticket = k .ticket; minute = shadow m (k .nodes) })) ≡ some f
-            → (h : Head m) × (f .ticket ≡ h .job .ticket) × (f .minute ≡ shadow m (h .job .nodes))
-        told y =
-            case (headIs (head b) k)
-            (λ p. absurd (let w : none ≡ some f = rw p at y in let z : _≡_ {A = ℕ} 0 1 = cc in omega arith))
-            (λ p. let w : some (record { ticket = k .ticket; minute = shadow m (k .nodes) }) ≡ some f = rw p at y in
-            let z : record { ticket = k .ticket; minute = shadow m (k .nodes) } ≡ f = cc in
-            (record { job = k; later = later; first = x }, ap (λ (g : Forecast). g .ticket) (sym z), ap (λ (g : Forecast). g .minute) (sym z)))
 
 -- a head of another ticket than before hears one
 forecast-told : (b m : Model) (h : Head m) → Asc 1 (b .jobs) → (lowestWaiting b ≡ some (h .job .ticket) → ⊥)
@@ -283,7 +273,11 @@ module _ (m : Model) (c : Call) (o : Result) (v : Valid m) where
       → Kept (by b) (For OnCourse b) u (newsOf c (o .reply)) (o .model)
   settled-keeps u b t n x =
       kept-by (newsOf c (o .reply)) (by b) (For OnCourse b) (o .model) u n
-      (settles-keeps u b (t .trace) (moved-ready (t .moved) v) x)
+      (⊎-elim
+      (λ (p : (elem u (o .reply .started) ≡ true) × (t .last .clock ≤ b)).
+      inl (p .0, omega (arith, p .1, taken-clock m c o t, settles-clock (t .trace))))
+      (λ (p : (elem u (o .reply .started) ≡ false) × OnCourse (t .last) u b). inr (p .0, taken-course m c o t u b (p .1)))
+      (settles-keeps u b (t .trace) (moved-ready (t .moved) v) x))
 
   taken-keeps : (u b : ℕ) → CallAccepted m c o → OnCourse m u b → elem u (newsOf c (o .reply) .withdrew) ≡ false
       → Kept (by b) (For OnCourse b) u (newsOf c (o .reply)) (o .model)
@@ -311,7 +305,7 @@ module _ (m : Model) (c : Call) (o : Result) (v : Valid m) where
 
   forecast-kept : (f : Forecast) → CallAccepted m c o → Valid (o .model) → o .reply .head ≡ some f → OnCourse (o .model) (f .ticket) (f .minute)
   forecast-kept f t w e =
-      let x = forecast-says m (o .model) f (sym (t .head) ∙ e) in on (x .0) (x .1) (x .2)
+      let x = forecast-says m (o .model) f (sym (taken-head m c o t) ∙ e) in on (x .0) (x .1) (x .2)
     where
       on : (h : Head (o .model)) → f .ticket ≡ h .job .ticket → f .minute ≡ shadow (o .model) (h .job .nodes) → OnCourse (o .model) (f .ticket) (f .minute)
       on h p q = rw (p, q) (head-course (o .model) (h .job) (h .later) (h .first) (w .ready .sound))
@@ -321,7 +315,7 @@ module _ (m : Model) (c : Call) (o : Result) (v : Valid m) where
   head-hears h t w e n =
       let x = lowest-head (o .model) h (w .ready .sound .asc) e in (
         record { ticket = x .0 .job .ticket; minute = shadow (o .model) (x .0 .job .nodes) },
-        t .head ∙ forecast-told m (o .model) (x .0) (v .ready .sound .asc) (λ y. n (y ∙ ap some (x .1))),
+        taken-head m c o t ∙ forecast-told m (o .model) (x .0) (v .ready .sound .asc) (λ y. n (y ∙ ap some (x .1))),
         x .1,
       )
 
@@ -338,10 +332,10 @@ easy-lawful = record {
   shares = λ m v t. v .ready .sound .shares t;
   valid = call-valid;
   settings = λ m c v. either m c v
-      (λ (t : CallAccepted m c (call m c)). settles-settings (t .trace) ∙ moved-settings (t .moved))
+      (λ (t : CallAccepted m c (call m c)). taken-settings m c (call m c) t)
       (λ (q : Unchanged m c (call m c)). ap (λ (o : Result). o .model .settings) (q .same));
   clock = λ m c v. either m c v
-      (λ (t : CallAccepted m c (call m c)). settles-clock (t .trace) ∙ moved-clock (t .moved) (call m c .reply) (t .accepted))
+      (λ (t : CallAccepted m c (call m c)). taken-clock m c (call m c) t ∙ moved-clock (t .moved) (call m c .reply) (t .accepted))
       (λ (q : Unchanged m c (call m c)). ap (λ (o : Result). o .model .clock) (q .same)
       ∙ ap (λ (e : News). clockAfter e (m .clock)) (sym (quiet-news m c (call m c) q)));
   tells = λ m c v. either m c v (taken-tells m c (call m c) v) (quiet-tells m c (call m c) v);
@@ -377,3 +371,16 @@ easy-lawful = record {
   where
     either : {A : Type 0} (m : Model) (c : Call) → Valid m → (CallAccepted m c (call m c) → A) → (Unchanged m c (call m c) → A) → A
     either m c v f g = ⊎-elim f g (called m c v)
+
+-- from any valid model on
+pub easy-seeded : Seeded Easy Valid OnCourse
+easy-seeded = record {
+  waiting = λ m j v i w. v .ready .room j i w .0;
+  started = λ q. absurd (let z : _≡_ {A = ℕ} 0 1 = cc in omega arith);
+  forecasts = λ m j v i w f. v .ready .kept j i w f;
+  heads = λ q m j v i w l.
+      let h = lowest-head m (j .ticket) (v .ready .sound .asc) l in
+      let x = head-in m (h .0 .job) (h .0 .later) (h .0 .first) in
+      let z : h .0 .job ≡ j = asc-one 1 (m .jobs) (h .0 .job) j (v .ready .sound .asc) (x .0) i (h .1) in
+      omega (arith, v .heard (h .0 .job) (h .0 .later) (h .0 .first), ap (λ (k : Job). k .forecast) z);
+}

@@ -21,7 +21,7 @@ use Rattle.scheduler.specs.Refusals.{tickRefusal}
 use Rattle.scheduler.specs.declared.Refusal.the-variants as refusal
 use Rattle.jobs.specs.Soundness.{Sound, all-remain}
 use Rattle.history.specs.Calls.{tick}
-use Rattle.easy_rules.specs.Easy.{queue, head, free, avail, shadow, extra, qualifies, pick, choice, Settling, forecast, finished, advanced, call}
+use Rattle.easy_rules.specs.Easy.{queue, head, free, avail, shadow, extra, qualifies, pick, choice, Settling, forecast, noted, finished, advanced, call}
 use Rattle.easy_laws.specs.Settling.{shadow-min, sound-releasing, shadow-holds, none-starts}
 use Rattle.easy_laws.specs.Course.{head-in, rest-shadow}
 use Rattle.easy_laws.specs.Validity.{Valid, ticks, moved-ready}
@@ -110,8 +110,9 @@ module _ (m : Model) (v : Valid m) (l : suc (m .clock) ≤ horizon (m .settings)
   quiet-finish : finished m (later m) 0 [] ≡ record { reply = refusing refusal.None; model = later m }
   unfolding finished
   quiet-finish =
-      ap (λ (s : Settling). record { reply = replied (s .started) (forecast m (s .model)); model = s .model }) (settle-rests (later m) later-rests)
-      ∙ ap (λ (o : Option Forecast). record { reply = replied [] o; model = later m }) no-forecast
+      ap (λ (s : Settling). record { reply = replied (s .started) (forecast m (s .model)); model = noted (forecast m (s .model)) (s .model) })
+      (settle-rests (later m) later-rests)
+      ∙ ap (λ (o : Option Forecast). record { reply = replied [] o; model = noted o (later m) }) no-forecast
 
   pub quiet-tick : call m tick ≡ record { reply = refusing refusal.None; model = later m }
   unfolding call tickRefusal verdict advanced

@@ -39,12 +39,13 @@ use Rattle.history.specs.Calls.{Call, submit, depart, complete, cancel, tick, u
 use Rattle.history.specs.News.{Newcomer, News, newsOf}
 use Rattle.history.specs.Tickets.{nextAfter}
 use Rattle.easy_rules.specs.Easy.{queue, head, free, freed, avail, shadow, extra, qualifies, pick, choice, begin, Settling, onChoice, settled}
-use Rattle.easy_rules.specs.Easy.{headIs, forecast, finished, newJob, submitRefusal, advanced, call}
+use Rattle.easy_rules.specs.Easy.{headIs, forecast, noted, finished, newJob, submitRefusal, advanced, call}
 use Rattle.easy_laws.specs.Settling.{shadow-from, shadow-min, shadow-holds, none-starts, How, how, Chosen, chosen, sum-mark}
 use Rattle.easy_laws.specs.Settling.{queue-mark, one-fewer, asc-begin, each-begin, idle, marks, Settles, rest, start, settles}
 use Rattle.easy_laws.specs.Settling.{settles-jobs, settles-next}
 use Rattle.easy_laws.specs.Course.{Waits, head-lowest, settles-waited}
-use Rattle.easy_laws.specs.Validity.{Valid, latestEnd, OwnPart, submits, departs, ticks, joiner, CallAccepted, taken-came}
+use Rattle.easy_laws.specs.Validity.{Valid, latestEnd, OwnPart, submits, departs, ticks, joiner, CallAccepted, taken-next, taken-came}
+use Rattle.easy_laws.specs.Noted.{waited-noted, forecast-noted}
 use Rattle.easy_laws.specs.Validity.{Unchanged, quiet-news, called, call-valid, Joins, joins-ticket, moved-waited}
 
 -- ## The shadow
@@ -242,7 +243,7 @@ finished-none m mid t ts = refl
 
 pub refusal-is : (m : Model) (c : Call) → call m c .reply .refusal ≡ refusalOf m c
 unfolding call advanced
-refusal-is m (submit o) = judged-refusal m (submitRefusal m o) (finished m (joined m (newJob (m .next) o)) (m .next) []) (finished-none m _ _ _)
+refusal-is m (submit o) = judged-refusal m (submitRefusal m o) (finished m (joined m (newJob m o)) (m .next) []) (finished-none m _ _ _)
 refusal-is m (depart h t) = judged-refusal m (departRefusal m h t) (advanced m (m .clock) (select.Departing h t)) (finished-none m _ _ _)
 refusal-is m tick = judged-refusal m (tickRefusal m) (advanced m (suc (m .clock)) (ending m)) (finished-none m _ _ _)
 refusal-is m (unchanged r) = refl
@@ -250,7 +251,7 @@ refusal-is m (unchanged r) = refl
 -- A refused call leaves the model as it was, and gives its number and nothing else.
 pub refused-same : (m : Model) (c : Call) → accepts (call m c .reply .refusal) ≡ false → call m c ≡ refuse m (call m c .reply .refusal)
 unfolding call advanced
-refused-same m (submit o) a = judged-refused m (submitRefusal m o) (finished m (joined m (newJob (m .next) o)) (m .next) []) (finished-none m _ _ _) a
+refused-same m (submit o) a = judged-refused m (submitRefusal m o) (finished m (joined m (newJob m o)) (m .next) []) (finished-none m _ _ _) a
 refused-same m (depart h t) a = judged-refused m (departRefusal m h t) (advanced m (m .clock) (select.Departing h t)) (finished-none m _ _ _) a
 refused-same m tick a = judged-refused m (tickRefusal m) (advanced m (suc (m .clock)) (ending m)) (finished-none m _ _ _) a
 refused-same m (unchanged r) a = refl
@@ -298,6 +299,8 @@ Because m o refusal.NoRunLength = ⊥
 Because m o refusal.LeastAboveMost = o .estimate < o .least
 Because m o refusal.BeforeLeast = ⊥
 Because m o refusal.WantedMinutePast = ⊥
+Because m o refusal.TextMalformed = ⊥
+Because m o refusal.TextRejected = ⊥
 
 pub submit-because : (m : Model) (o : Submission) → Because m o (submitRefusal m o)
 unfolding submitRefusal verdict
@@ -421,12 +424,15 @@ Announces m r = Forecasts m (r .model) (r .reply .head)
 
 finished-forecasts : (m mid : Model) (t : ℕ) (ts : List ℕ) → Announces m (finished m mid t ts)
 unfolding finished
-finished-forecasts m mid t ts = forecasts m (settled mid .model)
+finished-forecasts m mid t ts =
+    let l = settled mid .model in
+    let f = forecast m l in
+    subst (Forecasts m (noted f l)) (forecast-noted m f l) (forecasts m (noted f l))
 
 -- Of every call, refused ones too.
 pub call-forecasts : (m : Model) (c : Call) → Announces m (call m c)
 unfolding call advanced
-call-forecasts m (submit o) = judged-by (Announces m) m (submitRefusal m o) (finished m (joined m (newJob (m .next) o)) (m .next) [])
+call-forecasts m (submit o) = judged-by (Announces m) m (submitRefusal m o) (finished m (joined m (newJob m o)) (m .next) [])
     (λ a. finished-forecasts m _ _ _) (λ a. same-heads m)
 call-forecasts m (depart h t) = judged-by (Announces m) m (departRefusal m h t) (advanced m (m .clock) (select.Departing h t))
     (λ a. finished-forecasts m _ _ _) (λ a. same-heads m)
@@ -507,7 +513,9 @@ call-starts m c v =
     ⊎-elim
     (λ (t : CallAccepted m c (call m c)). record {
       waited = λ u e. came u t (moved-waited (t .moved) u (settles-waited u (t .trace) e));
-      runs = λ u e. settles-runs u (t .trace) e;
+      runs = λ u e w.
+          settles-runs u (t .trace) e
+          (waited-noted (forecast m (t .last)) (t .last) u (subst (λ (x : Model). Waits x u) (t .model-is) w));
       once = settles-distinct (t .trace);
     })
     (λ (q : Unchanged m c (call m c)). subst (λ (o : Result). Starts m c o) (sym (q .same))
@@ -528,7 +536,7 @@ moved-next (ticks l) = refl
 pub call-next : (m : Model) (c : Call) → Valid m → call m c .model .next ≡ nextAfter (newsOf c (call m c .reply) .came) (m .next)
 call-next m c v =
     ⊎-elim
-    (λ (t : CallAccepted m c (call m c)). settles-next (t .trace) ∙ moved-next (t .moved)
+    (λ (t : CallAccepted m c (call m c)). taken-next m c (call m c) t ∙ moved-next (t .moved)
     ∙ ap (λ (os : List Newcomer). nextAfter os (m .next)) (sym (taken-came m c (call m c) t)))
     (λ (q : Unchanged m c (call m c)). ap (λ (o : Result). o .model .next) (q .same)
     ∙ ap (λ (e : News). nextAfter (e .came) (m .next)) (sym (quiet-news m c (call m c) q)))
@@ -538,4 +546,4 @@ call-next m c v =
 pub submit-ticket : (m : Model) (o : Submission) → accepts (call m (submit o) .reply .refusal) ≡ true → call m (submit o) .reply .ticket ≡ m .next
 unfolding call finished
 submit-ticket m o a = ap (λ (r : Result). r .reply .ticket)
-    (judged-accepted m (submitRefusal m o) (finished m (joined m (newJob (m .next) o)) (m .next) []) a .1)
+    (judged-accepted m (submitRefusal m o) (finished m (joined m (newJob m o)) (m .next) []) a .1)

@@ -233,6 +233,7 @@ sound-begin m j s c room = record {
   longest-to = s .longest-to;
   cleanup-to = s .cleanup-to;
   quotas = s .quotas;
+  one-each = s .one-each;
   clock-to = s .clock-to;
   next-from = s .next-from;
   next-to = s .next-to;

@@ -5,11 +5,11 @@ use Prim.Native.Nat.{ℕ, suc, _+_, _-_}
 use native.Mathlib.Omega.{arith}
 use mathlib.Core.Path.{_≡_, refl, sym, ap, _∙_}
 use mathlib.Core.Bool.{Bool, true, false, not, _&&_, _||_}
-use mathlib.Core.Option.{none}
+use mathlib.Core.Option.{Option, none}
 use mathlib.Core.List.{List, [], _∷_, head?}
 use mathlib.Core.Logic.{⊎-elim}
 use lib.Dec.{leb, eqb}
-use borrow.Author.Tests.{lt-leb, ne-eqb}
+use borrow.Author.Tests.{lt-leb, eq-eqb, ne-eqb}
 use Rattle.lists.specs.Tests.{true-false}
 use Rattle.lists.specs.Lists.{keep, first, In, here, there, keep-in}
 use Rattle.scheduler.specs.declared.Departure.the-variants.{Cancel}
@@ -17,7 +17,7 @@ use Rattle.scheduler.specs.declared.Job.{Job}
 use Rattle.scheduler.specs.declared.Select.the-variants as select
 use Rattle.scheduler.specs.Settings.{holdTime}
 use Rattle.scheduler.specs.Model.{Model, ending, joined}
-use Rattle.scheduler.specs.Answers.{Result, accepts}
+use Rattle.scheduler.specs.Answers.{Result, Forecast, accepts}
 use Rattle.scheduler.specs.Refusals.{departRefusal, tickRefusal}
 use Rattle.jobs.specs.Judgement.{judged-by, judged-accepted}
 use Rattle.jobs.specs.Departing.{left-ran, ticked-ran}
@@ -25,7 +25,7 @@ use Rattle.jobs.specs.Soundness.{Sound}
 use Rattle.history.specs.Calls.{Call, submit, depart, cancel, tick, unchanged}
 use Rattle.history_proof.specs.Obligations.{Ticketed}
 use Rattle.history_proof.specs.Departures.{Ended}
-use Rattle.easy_rules.specs.Easy.{queue, head, free, avail, shadow, extra, qualifies, pick, choice, Settling, finished, newJob, submitRefusal, advanced, call}
+use Rattle.easy_rules.specs.Easy.{queue, head, free, avail, shadow, extra, qualifies, pick, choice, Settling, forecast, noted, finished, newJob, submitRefusal, advanced, call}
 use Rattle.easy_laws.specs.Settling.{none-starts}
 use Rattle.easy_laws.specs.Course.{OnCourse, left, queue-left, free-left, avail-left, shadow-left}
 use Rattle.easy_laws.specs.EngineLaws.{settle-rests}
@@ -69,6 +69,11 @@ module _ (m : Model) (t : ℕ) (v : Valid m) (h : Job) (later : List Job) (e : q
       ∙ rw l (first-of-none (qualifies (left m t (v .ready .sound)) h) others
       (λ j i. qualifies-left j ∙ x .1 j (keep-in (λ (j : Job). not (eqb (j .ticket) t)) later i .0)))
 
+  -- who was head is head, and hears nothing new
+  still-head : queue (left m t (v .ready .sound) .jobs) ≡ h ∷ others → forecast m (left m t (v .ready .sound)) ≡ none
+  unfolding forecast
+  still-head q = rw (q, e, eq-eqb (h .ticket) (h .ticket) refl)
+
   pub record Undisturbed : Type 0 where
     pub none-starts : call m (cancel t) .reply .started ≡ []
     pub head-stays : head (call m (cancel t) .model) ≡ head m
@@ -81,7 +86,9 @@ module _ (m : Model) (t : ℕ) (v : Valid m) (h : Job) (later : List Job) (e : q
       let l = left m t (v .ready .sound) in
       let j = judged-accepted m (departRefusal m Cancel t) (advanced m (m .clock) (select.Departing Cancel t)) a .1 in
       let s = settle-rests l withdrawn-rests in
-      let q : call m (cancel t) .model ≡ l = ap (λ (o : Result). o .model) j ∙ ap (λ (x : Settling). x .model) s in
+      let n : forecast m l ≡ none = still-head queue-others in
+      let q : call m (cancel t) .model ≡ l =
+      ap (λ (o : Result). o .model) j ∙ ap (λ (x : Settling). noted (forecast m (x .model)) (x .model)) s ∙ ap (λ (f : Option Forecast). noted f l) n in
       record {
         none-starts = ap (λ (o : Result). o .reply .started) j ∙ ap (λ (x : Settling). x .started) s;
         head-stays = ap head q ∙ ap head? queue-others ∙ sym (ap head? e);
@@ -94,7 +101,7 @@ module _ (m : Model) (t : ℕ) (v : Valid m) (h : Job) (later : List Job) (e : q
 ended-ran : (m : Model) (c : Call) (u : ℕ) → Sound m → Ended m c u (call m c)
 unfolding call advanced finished
 ended-ran m (submit o) u s =
-    judged-by (Ended m (submit o) u) m (submitRefusal m o) (finished m (joined m (newJob (m .next) o)) (m .next) [])
+    judged-by (Ended m (submit o) u) m (submitRefusal m o) (finished m (joined m (newJob m o)) (m .next) [])
     (λ a e. true-false false e refl) (λ a e. true-false false e refl)
 ended-ran m (depart h t) u s =
     judged-by (Ended m (depart h t) u) m (departRefusal m h t) (advanced m (m .clock) (select.Departing h t))

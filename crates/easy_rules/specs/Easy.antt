@@ -16,11 +16,11 @@ use Rattle.scheduler.specs.declared.Refusal.{Refusal}
 use Rattle.scheduler.specs.declared.Refusal.the-variants as refusal
 use Rattle.scheduler.specs.declared.Select.{Select}
 use Rattle.scheduler.specs.declared.Select.the-variants as select
-use Rattle.scheduler.specs.Jobs.{isWaiting, isHolding, fresh, jobAt}
+use Rattle.scheduler.specs.Jobs.{isWaiting, isHolding, fresh, entered, foretold, jobAt}
 use Rattle.scheduler.specs.declared.Settings.{Settings}
 use Rattle.scheduler.specs.Settings.{horizon, holdTime, unit, until}
 use Rattle.scheduler.specs.Table.{nodesHeld, endedOf}
-use Rattle.scheduler.specs.Model.{Model, ending, joined, without}
+use Rattle.scheduler.specs.Model.{Model, ending, joined, without, withModelJobs}
 use Rattle.scheduler.specs.Answers.{Result, Forecast, verdict, refuse}
 use Rattle.scheduler.specs.Refusals.{judged, submitTests, departRefusal, tickRefusal}
 use Rattle.history.specs.Calls.{Rules, submit, depart, tick, unchanged}
@@ -118,10 +118,19 @@ forecast before after =
     onChoice (head after) none λ h.
     cond (headIs (head before) h) none (some (record { ticket = h .ticket; minute = shadow after (h .nodes) }))
 
+-- document 02, No. 11: "Loose records now keep .. any forecast, until they leave"
+abbrev pub noting : Forecast → Job → Job
+noting f j = cond (eqb (j .ticket) (f .ticket)) (foretold (f .minute) j) j
+
+abbrev pub noted : Option Forecast → Model → Model
+noted none m = m
+noted (some f) m = withModelJobs m (map (noting f) (m .jobs))
+
 -- a call that found the scheduler as `before` and has done its own part: it settles, and answers
 unfoldable pub finished : Model → Model → ℕ → List ℕ → Result
 finished before m ticket ended =
     let s = settled m in
+    let f = forecast before (s .model) in
     record {
       reply = record {
         refusal = refusal.None;
@@ -130,18 +139,19 @@ finished before m ticket ended =
         reads = 0;
         ended = ended;
         started = s .started;
-        head = forecast before (s .model);
+        head = f;
       };
-      model = s .model;
+      model = noted f (s .model);
     }
-
--- "on the Loose Desk the promise, and a waiting stack's start, are 0"
-abbrev pub newJob : ℕ → Submission → Job
-newJob t o = fresh t o Waiting 0 0
 
 -- "r being the number waiting before plus one"
 abbrev pub rank : Model → ℕ
 rank m = suc (length (queue (m .jobs)))
+
+-- "on the Loose Desk the promise, and a waiting stack's start, are 0"; document 02, No. 11: "Loose records now keep intake minute, .. r at
+-- intake"
+abbrev pub newJob : Model → Submission → Job
+newJob m o = entered (m .clock) (rank m) (fresh (m .next) o Waiting 0 0)
 
 -- "intake 1, 2, .. 5, 6", and by document 02, No. 4, 14 first and 15 "in place of 4"; 6: "now + r × 10,080 + held above it", and by No. 3,
 -- "r × (10,080 + clearing)" and "Held time plus clearing"
@@ -159,7 +169,7 @@ advanced m clock s = finished m (without m clock s) 0 (endedOf s (m .jobs))
 -- "After an intake (at the end of the queue), an early end or a minute step as above, the desk settles"; document 02, No. 1: of a withdrawal,
 -- "the Loose Desk settles."
 unfoldable pub call : Rules
-call m (submit o) = judged m (submitRefusal m o) (finished m (joined m (newJob (m .next) o)) (m .next) [])
+call m (submit o) = judged m (submitRefusal m o) (finished m (joined m (newJob m o)) (m .next) [])
 call m (depart h t) = judged m (departRefusal m h t) (advanced m (m .clock) (select.Departing h t))
 call m tick = judged m (tickRefusal m) (advanced m (suc (m .clock)) (ending m))
 call m (unchanged r) = refuse m r

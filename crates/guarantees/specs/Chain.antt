@@ -7,22 +7,20 @@ use mathlib.Core.List.{List, [], _∷_, map}
 use Rattle.scheduler.specs.declared.Kind.{Kind}
 use Rattle.scheduler.specs.declared.Kind.the-variants.{Conservative, Easy}
 use Rattle.scheduler.specs.declared.Answer.{Answer}
-use Rattle.scheduler.specs.declared.Opening.{Opening}
 use Rattle.scheduler.specs.declared.Outcome.{Outcome}
 use Rattle.scheduler.specs.declared.Refusal.{Refusal}
 use Rattle.scheduler.specs.declared.Scheduler.{Scheduler}
 use Rattle.scheduler.specs.declared.Settings.{Settings}
 use Rattle.scheduler.specs.Model.{Model, store, view}
 use Rattle.scheduler.specs.Answers.{Reply, answer, outcome, refuse}
-use Rattle.scheduler.specs.Opening.{opening}
 use Rattle.history.specs.Calls.{Call, unchanged, Event, after, events, eventsOf}
 use Rattle.history.specs.Guarantee.{Guarantee}
 use Rattle.conservative_rules.specs.Conservative as conservative
 use Rattle.easy_rules.specs.Easy as easy
 use Rattle.guarantees.specs.Rules.{rulesOf, call}
-use Rattle.guarantees.specs.Premise.{Valid, Premise, call-premise, opening-valid, valid-view, call-valid}
-use Rattle.guarantees.specs.Statement.{bookOf}
-use Rattle.guarantees.specs.Proof.{demand3}
+use Rattle.guarantees.specs.Premise.{Valid, Premise, call-premise, valid-view, call-valid}
+use Rattle.guarantees.specs.Statement.{bookOf, Start, startOf}
+use Rattle.guarantees.specs.Proof.{start-valid, demand3}
 use Rattle.guarantees.specs.Cleanup.{settings-stay}
 
 -- what a call's contract says that it gives
@@ -77,10 +75,10 @@ module _ {D A : Type 0} (Made : D → Call → A → D → Type 0) (desk : Model
       let t : said a ≡ call m c .reply = ap said (r .1) ∙ back m c v in
       (s .0, λ i. r .1 i ∷ s .1 i, λ i. record { call = c; reply = t i } ∷ s .2 i)
 
-  -- from an opening on, the book of the calls made and the answers received has the guarantees (document 01: "demand 3")
-  pub made-keeps : (o : Opening) {cs : List Call} {xs : List A} {e : D} → opening o .settings ≡ S → MadeAll Made (desk (opening o)) cs xs e
-      → (e ≡ desk (after call (opening o) cs)) × (xs ≡ map (λ (x : Event). answered (x .reply)) (events call (opening o) cs))
-      × Guarantee (o .settings .kind) (opening o .settings) (bookOf (opening o) (eventsOf cs (map said xs)))
-  made-keeps o {cs} w l =
-      let r = made-all-is (opening o) (opening-valid o) w refl l in
-      (r .0, r .1, rw (r .2) (demand3 o cs))
+  -- from every start on, the book of the calls made and the answers received has the guarantees (document 01: "demand 3")
+  pub made-keeps : (s : Start) {cs : List Call} {xs : List A} {e : D} → startOf s .settings ≡ S → MadeAll Made (desk (startOf s)) cs xs e
+      → (e ≡ desk (after call (startOf s) cs)) × (xs ≡ map (λ (x : Event). answered (x .reply)) (events call (startOf s) cs))
+      × Guarantee (startOf s .settings .kind) (startOf s .settings) (bookOf (startOf s) (eventsOf cs (map said xs)))
+  made-keeps s {cs} w l =
+      let r = made-all-is (startOf s) (start-valid s) w refl l in
+      (r .0, r .1, rw (r .2) (demand3 s cs))

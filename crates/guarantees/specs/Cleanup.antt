@@ -26,7 +26,8 @@ use Rattle.jobs.specs.Soundness.{cleaning-holds}
 use Rattle.jobs.specs.NoCleanup.{none-cleans}
 use Rattle.history.specs.Calls.{Call, after}
 use Rattle.history.specs.Book.{Fate, waiting, running, cleaning, ended, withdrawn}
-use Rattle.history_proof.specs.Obligations.{JobShown, fateBy, shown}
+use Rattle.history.specs.Beginning.{fateBy}
+use Rattle.history_proof.specs.Obligations.{JobShown, shown}
 use Rattle.history_proof.specs.Cleaning as history
 use Rattle.history_proof.specs.Cleaning.{cleans, cleans-job}
 use Rattle.conservative_laws.specs.Obligations.{conservative-lawful}

@@ -28,7 +28,8 @@ use Rattle.jobs.specs.Order.{asc-one}
 use Rattle.jobs.specs.Soundness.{Sound}
 use Rattle.history.specs.Calls.{Call, Event, after, events}
 use Rattle.history.specs.Book.{Entry, Book, Fate, waiting, running, cleaning, ended, withdrawn, start, fateAfter, fateFrom}
-use Rattle.history_proof.specs.Obligations.{JobShown, fateBy, shown, live, remark, said, Aim, Meets, Keeps, Lawful, Ticketed}
+use Rattle.history.specs.Beginning.{fateBy}
+use Rattle.history_proof.specs.Obligations.{JobShown, shown, live, remark, said, Aim, Meets, Keeps, Lawful, Ticketed}
 use Rattle.history_proof.specs.Departures.{kept-by}
 use Rattle.history_proof.specs.Cleaning.{clock-rises, lives-shown}
 use Rattle.history_proof.specs.LeastHolds.{beyond, leastHeld, allHeld, held-stays}

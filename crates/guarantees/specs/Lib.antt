@@ -11,3 +11,4 @@ pub mod Cleanup
 pub mod Quotas
 pub mod EarliestStart
 pub mod NoGaps
+pub mod Restored

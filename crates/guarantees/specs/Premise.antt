@@ -19,11 +19,11 @@ use Rattle.conservative_laws.specs.Validity as conservative
 use Rattle.conservative_laws.specs.Obligations.{conservative-lawful}
 use Rattle.easy_laws.specs.Validity as easy
 use Rattle.easy_laws.specs.Obligations.{easy-lawful}
+use Rattle.checkpoint_laws.specs.Restored.{ValidAs}
 use Rattle.guarantees.specs.Rules.{rulesOf, call}
 
 abbrev pub ValidBy : Kind → Model → Type 0
-ValidBy Conservative m = conservative.Valid m
-ValidBy Easy m = easy.Valid m
+ValidBy k m = ValidAs k m
 
 abbrev pub Valid : Model → Type 0
 Valid m = ValidBy (m .settings .kind) m

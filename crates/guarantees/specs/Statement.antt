@@ -5,7 +5,6 @@ use mathlib.Core.Path.{_≡_, refl, ap, subst, _∙_}
 use mathlib.Core.List.{List, [], _∷_}
 use Prim.Native.Nat.{ℕ, _+_}
 use lib.ListN.{take}
-use Rattle.lists.specs.Lists.{in-nil}
 use Rattle.walltime.specs.WallTime.{wallTime}
 use Rattle.scheduler.specs.declared.Kind.{Kind}
 use Rattle.scheduler.specs.declared.Opening.{Opening}
@@ -14,24 +13,23 @@ use Rattle.scheduler.specs.Settings.{longest, cleanup, runTime, unit}
 use Rattle.scheduler.specs.Times.{longest-is, cleanup-is, hold-is}
 use Rattle.scheduler.specs.Model.{Model}
 use Rattle.scheduler.specs.Opening.{opening}
+use Rattle.checkpoint_rules.specs.Texts.{restored}
 use Rattle.jobs.specs.Soundness.{opening-sound}
 use Rattle.history.specs.Calls.{Call, Command, Event, events, allCalls}
 use Rattle.history.specs.Book.{Book, enterAll}
+use Rattle.history.specs.Beginning.{beginning}
 use Rattle.history.specs.Guarantee.{Guarantee}
-use Rattle.history_proof.specs.Obligations.{Lawful}
+use Rattle.history_proof.specs.Obligations.{Lawful, Seeded}
+use Rattle.history_proof.specs.Beginnings.{beginning-agrees}
 use Rattle.history_proof.specs.Proof.{Agrees, guaranteed, settings-after}
 use Rattle.guarantees.specs.Rules.{rulesOf, call}
 
--- "It starts from the desk that an opening hands back": nothing has been taken in
-abbrev pub blank : Model → Book
-blank m = record { clock = m .clock; entries = []; strays = [] }
-
--- what calls and their answers say: from a model and a book on, and from an opening on
+-- what calls and their answers say: from a model and a book on, and from a model on, whose jobs count as it has them
 abbrev pub bookFrom : Model → Book → List Event → Book
 bookFrom m b es = enterAll (unit (m .settings)) (cleanup (m .settings)) b es
 
 abbrev pub bookOf : Model → List Event → Book
-bookOf m es = bookFrom m (blank m) es
+bookOf m es = bookFrom m (beginning m) es
 
 -- "Its bound is the clock at intake + r × 10,080": with clearing, "r × (10,080 + clearing)"; and by document 02, No. 6, "the bound and
 -- last-minute rule of the Loose Desk read its held time", that of the longest estimate. Of every opening, since one with more than 30 minutes of
@@ -57,17 +55,29 @@ longest-is-set o = longest-is (opening o .settings) (opening-sound o .longest-to
 pub cleanup-is-set : (o : Opening) → cleanup (opening o .settings) ≡ opening o .settings .cleanup
 cleanup-is-set o = cleanup-is (opening o .settings) (opening-sound o .cleanup-to)
 
--- For every opening, a refused one too, and every list of calls: with the words by the calls and their answers, promises are kept,
--- bounds and forecasts are kept, every head hears one, and running jobs never hold more nodes than the machine has. ("After every
--- call": every front of a list is a list.)
+-- "It starts from the desk that an opening hands back, a refused opening too, or from another that a later request names": document 02, No. 11,
+-- "A list of demand 3 may also start from a desk read back", of a refused reading too
+pub data Start : Type 0 where
+  opens : Opening → Start
+  reads : (text : List ℕ) → Start
+
+abbrev pub startOf : Start → Model
+startOf (opens o) = opening o
+startOf (reads t) = restored t .model
+
+-- For every start and every list of calls: with the words by the calls and their answers, promises are kept, bounds and forecasts are kept, every
+-- head hears one, and running jobs never hold more nodes than the machine has. ("After every call": every front of a list is a list.) Of a job
+-- that waits in the lines that a list starts from, the promise, the bound and the forecast that they give it are kept (`beginning`).
 abbrev pub Demand3 : Type 0
-Demand3 = (o : Opening) (cs : List Call) → Guarantee (o .settings .kind) (opening o .settings) (bookOf (opening o) (events call (opening o) cs))
+Demand3 =
+    (s : Start) (cs : List Call)
+    → Guarantee (startOf s .settings .kind) (startOf s .settings) (bookOf (startOf s) (events call (startOf s) cs))
 
 -- the same with waits, "as its steps or as one refused call", after each single step
 abbrev pub Demand3WithWaits : Type 0
 Demand3WithWaits =
-    (o : Opening) (qs : List Command) (i : ℕ)
-    → Guarantee (o .settings .kind) (opening o .settings) (bookOf (opening o) (events call (opening o) (take i (allCalls call (opening o) qs))))
+    (s : Start) (qs : List Command) (i : ℕ)
+    → Guarantee (startOf s .settings .kind) (startOf s .settings) (bookOf (startOf s) (events call (startOf s) (take i (allCalls call (startOf s) qs))))
 
 module _ {k : Kind} {Valid : Model → Type 0} {OnCourse : Model → ℕ → ℕ → Type 0} (L : Lawful k (rulesOf k) Valid OnCourse) where
   -- a valid model of the kind goes by the kind's rules
@@ -85,14 +95,6 @@ module _ {k : Kind} {Valid : Model → Type 0} {OnCourse : Model → ℕ → ℕ
       let g = guaranteed L (unit (m .settings)) (cleanup (m .settings)) m b cs (record { valid = v; agrees = a; unit-is = refl; cleanup-is = refl }) in
       rw (same-events m cs v) (subst (λ (S : Settings). Guarantee k S (bookFrom m b (events (rulesOf k) m cs))) (settings-after L m cs v) g)
 
-  -- a model with no job agrees with the blank book
-  pub from-blank : (m : Model) (cs : List Call) → Valid m → m .jobs ≡ [] → Guarantee k (m .settings) (bookOf m (events call m cs))
-  from-blank m cs v e = from-seed m (blank m) cs v (record {
-    clock-is = refl;
-    jobs-are = rw e;
-    deadlines = λ x i. in-nil i;
-    forecasts = λ x f i q. in-nil i;
-    heard-one = λ q x i h. in-nil i;
-    heads = λ x i w h. in-nil i;
-    none-stray = refl;
-  })
+  -- from any valid model, with the book that it begins with
+  pub from-valid : Seeded k Valid OnCourse → (m : Model) (cs : List Call) → Valid m → Guarantee k (m .settings) (bookOf m (events call m cs))
+  from-valid G m cs v = from-seed m (beginning m) cs v (beginning-agrees L G m v)

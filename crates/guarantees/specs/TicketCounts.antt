@@ -97,7 +97,7 @@ fits-by Conservative m (depart i t) h = judged-by FitsAnswer m (departRefusal m 
 fits-by Conservative m tick h = judged-by FitsAnswer m (tickRefusal m) (conservative.ticked m) (λ a. advanced-fits m _ _ _ (h .few)) (λ a. refused-fits m _)
 fits-by Conservative m (unchanged r) h = refused-fits m _
 fits-by Easy m (submit o) h =
-    let j = easy.newJob (m .next) o in
+    let j = easy.newJob m o in
     judged-by FitsAnswer m (easy.submitRefusal m o) (easy.finished m (joined m j) (m .next) [])
     (λ a. finished-fits m (joined m j) (m .next) [] (omega arith) (omega (arith, fit-room m o h (submit-fit m o _ a .0), length-append (m .jobs) (j ∷ []))))
     (λ a. refused-fits m _)

@@ -21,7 +21,7 @@ use Rattle.guarantees.specs.Rules.{call}
 use Rattle.guarantees.specs.Premise.{Valid, valid-view}
 use Rattle.guarantees.specs.Replies.{reply-back}
 use Rattle.guarantees.specs.Chain.{answerOf, MadeAll, unchanged-refuses, made-keeps}
-use Rattle.guarantees.specs.Statement.{bookOf}
+use Rattle.guarantees.specs.Statement.{bookOf, Start, startOf}
 use Rattle.calls.specs.ListCall.{listRefusal}
 use Rattle.calls.specs.ProfileCall.{pointsOf}
 use Rattle.calls.specs.IndexCall.{blocksOf}
@@ -99,14 +99,13 @@ module _ (m : Model) (v : Valid m) (w : m .settings .longest ≡ longestEstimate
       rw (unchanged-refuses m (listRefusal statusPage (view (read (mirror (store m)))) (length lent))) (refl, ap (λ (x : Shown). refusedBy (x .refusal)) (w .answers))
   made-is (waitRefused {n} minutes e q) = rw (unchanged-refuses m (waitRefusalOn (mirror (store m)) minutes)) (refl, ap refusedBy e)
 
--- From the desk that an opening hands back, a refused one too: desk and answers are those of the list of calls, and the book of the calls
--- made and the answers received has the guarantees (document 01: "demand 3"). Of openings with the longest estimate that hosts have.
-pub host-keeps : (o : Opening) (cs : List Call) (xs : List Answer) (e : Desk) → o .settings .longest ≡ longestEstimate
-    → MadeAll HostMade (opens o .desk) cs xs e
-    → (e ≡ mirror (store (after call (opening o) cs))) × (xs ≡ map (λ (x : Event). mirrorAnswer (answerOf x)) (events call (opening o) cs))
-    × Guarantee (o .settings .kind) (opening o .settings) (bookOf (opening o) (eventsOf cs (map hostReply xs)))
-unfolding opened
-host-keeps o cs xs e h l =
-    made-keeps HostMade (λ m. mirror (store m)) (λ r. mirrorAnswer (answer r)) hostReply (opening o .settings)
-    (λ m c a d v w. made-is m v (ap (λ (S : Settings). S .longest) w ∙ opening-longest o h))
-    (λ m c v. ap replyOf (read-answer (answer (call m c .reply))) ∙ reply-back m c v) o refl l
+-- From the desk that an opening or a reading hands back, a refused one too: desk and answers are those of the list of calls, and the book of the
+-- calls made and the answers received has the guarantees (document 01: "demand 3"). Of starts with the longest estimate that hosts have.
+pub host-keeps : (s : Start) (cs : List Call) (xs : List Answer) (e : Desk) → startOf s .settings .longest ≡ longestEstimate
+    → MadeAll HostMade (mirror (store (startOf s))) cs xs e
+    → (e ≡ mirror (store (after call (startOf s) cs))) × (xs ≡ map (λ (x : Event). mirrorAnswer (answerOf x)) (events call (startOf s) cs))
+    × Guarantee (startOf s .settings .kind) (startOf s .settings) (bookOf (startOf s) (eventsOf cs (map hostReply xs)))
+host-keeps s cs xs e h l =
+    made-keeps HostMade (λ m. mirror (store m)) (λ r. mirrorAnswer (answer r)) hostReply (startOf s .settings)
+    (λ m c a d v w. made-is m v (ap (λ (S : Settings). S .longest) w ∙ h))
+    (λ m c v. ap replyOf (read-answer (answer (call m c .reply))) ∙ reply-back m c v) s refl l

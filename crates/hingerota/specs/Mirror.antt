@@ -59,6 +59,9 @@ mirrorJob j = record {
   start = j .start;
   promise = j .promise;
   end = j .end;
+  submitted = j .submitted;
+  rank = j .rank;
+  forecast = j .forecast;
 }
 
 -- an unused slot is all zero here too
@@ -100,6 +103,9 @@ readRecord r = record {
   start = r .start;
   promise = r .promise;
   end = r .end;
+  submitted = r .submitted;
+  rank = r .rank;
+  forecast = r .forecast;
 }
 
 -- and the longest estimate, which a desk has no number for, as 10,080 (document 02, No. 6: "elsewhere 10,080")
@@ -146,6 +152,9 @@ job-back j = λ i. record {
   start = j .start;
   promise = j .promise;
   end = j .end;
+  submitted = j .submitted;
+  rank = j .rank;
+  forecast = j .forecast;
 }
 
 jobs-back : (js : List Job) → map readRecord (map mirrorJob js) ≡ js
@@ -207,7 +216,9 @@ refusalOf n =
     (cond (eqb n 18) refusal.NoRunLength
     (cond (eqb n 19) refusal.LeastAboveMost
     (cond (eqb n 20) refusal.BeforeLeast
-    (cond (eqb n 21) refusal.WantedMinutePast refusal.None))))))))))))))))))
+    (cond (eqb n 21) refusal.WantedMinutePast
+    (cond (eqb n 22) refusal.TextMalformed
+    (cond (eqb n 23) refusal.TextRejected refusal.None))))))))))))))))))))
 
 abbrev pub readTickets : Tickets → scheduler-tickets.Tickets
 readTickets t = record { count = t .count; list = t .list }
@@ -245,6 +256,8 @@ refusal-back refusal.NoRunLength = refl
 refusal-back refusal.LeastAboveMost = refl
 refusal-back refusal.BeforeLeast = refl
 refusal-back refusal.WantedMinutePast = refl
+refusal-back refusal.TextMalformed = refl
+refusal-back refusal.TextRejected = refl
 
 pub read-answer : (a : scheduler-answer.Answer) → readAnswer (mirrorAnswer a) ≡ a
 read-answer a = λ i. record {

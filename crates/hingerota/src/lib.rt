@@ -58,6 +58,9 @@ pub struct Record {
     pub start: u32,
     pub promise: u32,
     pub end: u32,
+    pub submitted: u32,
+    pub rank: u32,
+    pub forecast: u32,
 }
 
 // A scheduler in numbers: kind 0 conservative, 1 EASY.
@@ -216,6 +219,9 @@ fn read_record(r: Record) -> Job
         start: r.start,
         promise: r.promise,
         end: r.end,
+        submitted: r.submitted,
+        rank: r.rank,
+        forecast: r.forecast,
     }
 }
 
@@ -234,6 +240,9 @@ fn mirror_job(j: Job) -> Record
         start: j.start,
         promise: j.promise,
         end: j.end,
+        submitted: j.submitted,
+        rank: j.rank,
+        forecast: j.forecast,
     }
 }
 

@@ -32,8 +32,8 @@ pub record Entry : Type 0 where
   -- the house and the least that its intake named
   pub tenant : Tenant
   pub least : ℕ
-  -- "Its bound is the clock at intake + r × 10,080."
-  pub bound : ℕ
+  -- "Its bound is the clock at intake + r × 10,080."; none of a job that had started before the list began
+  pub bound : Option ℕ
   pub fate : Fate
   -- it has been head after a call
   pub headed : Bool
@@ -90,7 +90,7 @@ entry u b o = record {
   promise = o .promise;
   tenant = o .tenant;
   least = o .least;
-  bound = b .clock + rank (b .entries) * u;
+  bound = some (b .clock + rank (b .entries) * u);
   fate = waiting;
   headed = false;
   forecast = none;

@@ -73,7 +73,7 @@ promise-late-ended g = too-late _ 1 refl (g .promises refl _ (here refl) .starts
 
 -- one that waits on, minute after minute
 late : Entry
-late = record { ticket = 1; nodes = 4; promise = 0; tenant = A; least = 0; bound = 10080; fate = waiting; headed = true; forecast = none }
+late = record { ticket = 1; nodes = 4; promise = 0; tenant = A; least = 0; bound = some 10080; fate = waiting; headed = true; forecast = none }
 
 abbrev waiting-at : ℕ → Book
 waiting-at c = record { clock = c; entries = late ∷ []; strays = [] }
@@ -95,14 +95,14 @@ pub bound-broken : Guarantee Easy ten at-bound → ⊥
 unfolding late
 bound-broken g =
     let h : Guarantee Easy ten (waiting-at 10080) = subst (Guarantee Easy ten) at-bound-is g in
-    never late 10080 refl (h .bounds refl late (here refl) .starts refl (omega arith))
+    never late 10080 refl (h .bounds refl late 10080 (here refl) refl .starts refl (omega arith))
 
 pub bound-late : Guarantee Easy ten (enter 10080 0 at-bound (news (ticked (1 ∷ [])))) → ⊥
 unfolding enter late
 bound-late g =
     let h : Guarantee Easy ten (enter 10080 0 (waiting-at 10080) (news (ticked (1 ∷ [])))) =
     subst (λ (b : Book). Guarantee Easy ten (enter 10080 0 b (news (ticked (1 ∷ []))))) at-bound-is g in
-    too-late _ 10080 refl (h .bounds refl _ (here refl) .starts refl (omega arith))
+    too-late _ 10080 refl (h .bounds refl _ 10080 (here refl) refl .starts refl (omega arith))
 
 abbrev soon : Option Forecast
 soon = some (record { ticket = 1; minute = 1 })
@@ -135,7 +135,7 @@ unfolding enter late
 bound-withdrawn g =
     let h : Guarantee Easy ten (enter 10080 0 (waiting-at 10080) (news (dropped 1 []))) =
     subst (λ (b : Book). Guarantee Easy ten (enter 10080 0 b (news (dropped 1 [])))) at-bound-is g in
-    let l : 10080 < 10080 = h .bounds refl _ (here refl) .before 10080 refl in
+    let l : 10080 < 10080 = h .bounds refl _ 10080 (here refl) refl .before 10080 refl in
     omega arith
 
 pub forecast-withdrawn : Guarantee Easy ten (book (taken 1 4 0 [] soon ∷ idle ∷ dropped 1 [] ∷ [])) → ⊥

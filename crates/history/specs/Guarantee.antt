@@ -42,7 +42,7 @@ pub record Guarantee (kind : Kind) (S : Settings) (b : Book) : Type 0 where
   -- on the Promise Desk, once the clock has reached its promise, a job has started, no later than promised
   pub promises : kind ≡ Conservative → (x : Entry) → In x (b .entries) → Kept (b .clock) x (x .promise)
   -- on the Loose Desk, once the clock has reached its bound, it has started within it
-  pub bounds : kind ≡ Easy → (x : Entry) → In x (b .entries) → Kept (b .clock) x (x .bound)
+  pub bounds : kind ≡ Easy → (x : Entry) (d : ℕ) → In x (b .entries) → x .bound ≡ some d → Kept (b .clock) x d
   -- and once the clock has reached its forecast, it has started no later
   pub forecasts : kind ≡ Easy → (x : Entry) (f : ℕ) → In x (b .entries) → x .forecast ≡ some f → Kept (b .clock) x f
   -- and whoever is head hears a forecast

@@ -17,7 +17,8 @@ use Rattle.scheduler.specs.Model.{Model}
 use Rattle.history.specs.Calls.{Call, Rules}
 use Rattle.history.specs.News.{News, clockAfter}
 use Rattle.history.specs.Book.{Fate, waiting, running, cleaning, ended, withdrawn, fateAfter}
-use Rattle.history_proof.specs.Obligations.{JobShown, fateBy, shown, isLive, live, remark, comers, said, Lawful}
+use Rattle.history.specs.Beginning.{fateBy}
+use Rattle.history_proof.specs.Obligations.{JobShown, shown, isLive, live, remark, comers, said, Lawful}
 use Rattle.history_proof.specs.Departures.{shown-with}
 
 -- its nodes are not free yet

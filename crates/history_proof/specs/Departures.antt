@@ -32,7 +32,8 @@ use Rattle.jobs.specs.Soundness.{SoundJob, Sound, Leaving, early, in-time, with
 use Rattle.history.specs.Calls.{Call}
 use Rattle.history.specs.News.{Newcomer, News, newsOf, nothing, clockAfter}
 use Rattle.history.specs.Book.{Fate, waiting, cleaning, ended, over, fateAfter}
-use Rattle.history_proof.specs.Obligations.{JobShown, shown, fateBy, live, isLive, remark, shownAfter, newly, comers, Tells, Aim, Kept}
+use Rattle.history.specs.Beginning.{fateBy}
+use Rattle.history_proof.specs.Obligations.{JobShown, shown, live, isLive, remark, shownAfter, newly, comers, Tells, Aim, Kept}
 use Rattle.history_proof.specs.Obligations.{Queued}
 
 pub shown-with : (x : JobShown) (f : Fate) → f ≡ x .fate

@@ -27,7 +27,8 @@ use Rattle.history.specs.Calls.{Call, Rules, Event, events}
 use Rattle.history.specs.News.{Newcomer, News, news, clockAfter}
 use Rattle.history.specs.Tickets.{nextAfter}
 use Rattle.history.specs.Book.{over, fateAfter}
-use Rattle.history_proof.specs.Obligations.{JobShown, fateBy, shown, live, isLive, remark, newly, comers, said, Queued, Comes, Lawful, Ticketed}
+use Rattle.history.specs.Beginning.{fateBy}
+use Rattle.history_proof.specs.Obligations.{JobShown, shown, live, isLive, remark, newly, comers, said, Queued, Comes, Lawful, Ticketed}
 use Rattle.history_proof.specs.Departures.{lives, withdrawn-dies}
 use Rattle.history_proof.specs.Cleaning.{cleans, cleans-job}
 

@@ -20,7 +20,8 @@ use Rattle.jobs.specs.Order.{asc-one}
 use Rattle.history.specs.Calls.{Call, Rules}
 use Rattle.history.specs.News.{News}
 use Rattle.history.specs.Book.{Fate, waiting, running, cleaning, ended, withdrawn, over, fateAfter}
-use Rattle.history_proof.specs.Obligations.{JobShown, fateBy, shown, live, isLive, remark, newly, comers, said, Lawful, Ticketed}
+use Rattle.history.specs.Beginning.{fateBy}
+use Rattle.history_proof.specs.Obligations.{JobShown, shown, live, isLive, remark, newly, comers, said, Lawful, Ticketed}
 use Rattle.history_proof.specs.Cleaning.{clock-rises}
 
 -- its nodes are taken beyond the minute u at the least, the clock being c, and nodes staying taken for k minutes after the end of a run

@@ -2,6 +2,7 @@ pub mod Obligations
 pub mod Departures
 pub mod Seen
 pub mod Proof
+pub mod Beginnings
 pub mod Cleaning
 pub mod Gone
 pub mod LeastHolds

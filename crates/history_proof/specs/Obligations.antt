@@ -11,12 +11,10 @@ use lib.ListN.{length}
 use Rattle.lists.specs.Lists.{keep, elem, All, In}
 use Rattle.scheduler.specs.declared.Kind.{Kind}
 use Rattle.scheduler.specs.declared.Kind.the-variants.{Conservative, Easy}
-use Rattle.scheduler.specs.declared.State.{State}
-use Rattle.scheduler.specs.declared.State.the-variants.{Unused, Waiting, Running, Cleanup}
 use Rattle.scheduler.specs.declared.Job.{Job}
 use Rattle.scheduler.specs.declared.Tenant.{Tenant}
 use Rattle.scheduler.specs.Jobs.{isWaiting}
-use Rattle.scheduler.specs.Settings.{cleanup, unit, quota}
+use Rattle.scheduler.specs.Settings.{cleanup, unit, boundOf, quota}
 use Rattle.scheduler.specs.Table.{nodesHeld, liveOf, ticketsOf}
 use Rattle.scheduler.specs.Model.{Model, Live}
 use Rattle.scheduler.specs.Answers.{Forecast}
@@ -26,6 +24,7 @@ use Rattle.history.specs.Calls.{Call, Rules}
 use Rattle.history.specs.News.{Newcomer, News, newsOf, clockAfter}
 use Rattle.history.specs.Tickets.{nextAfter}
 use Rattle.history.specs.Book.{Fate, waiting, running, cleaning, ended, withdrawn, fateAfter, lowest}
+use Rattle.history.specs.Beginning.{fateBy}
 
 -- ## What calls and answers can show of a job
 
@@ -36,12 +35,6 @@ pub record JobShown : Type 0 where
   pub tenant : Tenant
   pub least : ℕ
   pub fate : Fate
-
-abbrev pub fateBy : State → (start end : ℕ) → Fate
-fateBy Unused s e = waiting
-fateBy Waiting s e = waiting
-fateBy Running s e = running s
-fateBy Cleanup s e = cleaning s e
 
 abbrev pub shown : Job → JobShown
 shown j = record {
@@ -188,3 +181,12 @@ pub record Ticketed (R : Rules) (Valid : Model → Type 0) (OnCourse : Model →
   -- whose run ends ran, for its least or longer; and who is on course waits
   pub ends : (m : Model) (c : Call) (t : ℕ) → Valid m → elem t (said R m c .ended) ≡ true → Ran m (clockAfter (said R m c) (m .clock)) t
   pub waits : (m : Model) (t b : ℕ) → OnCourse m t b → Queued m t
+
+-- what it owes of every valid model that a list of calls may start from: who waits is on course for its promise or its bound, and for the
+-- forecast that it has; the head has one
+pub record Seeded (k : Kind) (Valid : Model → Type 0) (OnCourse : Model → ℕ → ℕ → Type 0) : Type 0 where
+  pub waiting : (m : Model) (j : Job) → Valid m → In j (m .jobs) → isWaiting j ≡ true
+      → OnCourse m (j .ticket) (deadline k (j .promise) (boundOf (m .settings) j))
+  pub started : k ≡ Conservative → (m : Model) (j : Job) → Valid m → In j (m .jobs) → j .start ≤ j .promise
+  pub forecasts : (m : Model) (j : Job) → Valid m → In j (m .jobs) → isWaiting j ≡ true → 1 ≤ j .forecast → OnCourse m (j .ticket) (j .forecast)
+  pub heads : k ≡ Easy → (m : Model) (j : Job) → Valid m → In j (m .jobs) → isWaiting j ≡ true → lowestWaiting m ≡ some (j .ticket) → 1 ≤ j .forecast

@@ -40,13 +40,19 @@ use Rattle.history_proof.specs.Obligations.{For, Meets, Kept, Keeps, Que
 abbrev pub OnTime : (Model → ℕ → ℕ → Type 0) → Model → ℕ → Fate → ℕ → Type 0
 OnTime OnCourse m t f d = Meets (by d) (For OnCourse d) m t f
 
-abbrev pub deadlineOf : Kind → Entry → ℕ
-deadlineOf k x = deadline k (x .promise) (x .bound)
+-- the deadline of an entry, if it has one
+abbrev pub deadlineOf : Kind → Entry → Option ℕ
+deadlineOf Conservative x = some (x .promise)
+deadlineOf Easy x = x .bound
+
+deadline-is : (k : Kind) (x : Entry) (b : ℕ) → x .bound ≡ some b → deadlineOf k x ≡ some (deadline k (x .promise) b)
+deadline-is Conservative x b e = refl
+deadline-is Easy x b e = e
 
 pub record Agrees (k : Kind) (OnCourse : Model → ℕ → ℕ → Type 0) (m : Model) (b : Book) : Type 0 where
   pub clock-is : b .clock ≡ m .clock
   pub jobs-are : map seen (keep isLiveEntry (b .entries)) ≡ map shown (m .jobs)
-  pub deadlines : (x : Entry) → In x (b .entries) → OnTime OnCourse m (x .ticket) (x .fate) (deadlineOf k x)
+  pub deadlines : (x : Entry) (d : ℕ) → In x (b .entries) → deadlineOf k x ≡ some d → OnTime OnCourse m (x .ticket) (x .fate) d
   pub forecasts : (x : Entry) (f : ℕ) → In x (b .entries) → x .forecast ≡ some f → OnTime OnCourse m (x .ticket) (x .fate) f
   pub heard-one : k ≡ Easy → (x : Entry) → In x (b .entries) → x .headed ≡ true → (f : ℕ) × (x .forecast ≡ some f)
   pub heads : (x : Entry) → In x (b .entries) → isWaiting x ≡ true → headOf (b .entries) ≡ some (x .ticket) → x .headed ≡ true
@@ -207,15 +213,31 @@ module _ {k : Kind} {R : Rules} {Valid : Model → Type 0} {OnCourse : Model →
         subst (λ (x : ℕ). OnTime OnCourse m′ t (fateAfter p x r t f) d) clock-after
         (kept-after R Valid (by d) (For OnCourse d) (L .keeps d) (L .clock) m c v p t f o)
 
-    deadline-came : (x : Entry) → Came x → OnTime OnCourse m′ (x .ticket) (fateAfter p c′ r (x .ticket) (x .fate)) (deadlineOf k x)
-    deadline-came x (old y i) = on-time (x .ticket) (deadlineOf k x) (x .fate) (a .deadlines x i)
-    deadline-came x (new o i) =
-        subst (λ (y : ℕ). OnTime OnCourse m′ (o .ticket) (fateAfter p y r (o .ticket) waiting) (deadlineOf k (entry u b o))) clock-after
-        (subst (λ (d : ℕ). let e = deadline k (o .promise) d in Kept (by e) (For OnCourse e) (o .ticket) r m′) bound-is (L .joins m c o v i))
+    deadline-came : (x : Entry) (d : ℕ) → Came x → deadlineOf k x ≡ some d → OnTime OnCourse m′ (x .ticket) (fateAfter p c′ r (x .ticket) (x .fate)) d
+    deadline-came x d (old y i) e = on-time (x .ticket) d (x .fate) (a .deadlines x d i e)
+    deadline-came x d (new o i) e =
+        let B = b .clock + rank (b .entries) * u in
+        let w : some (deadline k (o .promise) B) ≡ some d = sym (deadline-is k (entry u b o) B refl) ∙ e in
+        let q : deadline k (o .promise) B ≡ d = cc in
+        subst (λ (d : ℕ). OnTime OnCourse m′ (o .ticket) (fateAfter p c′ r (o .ticket) waiting) d) q
+        (subst (λ (y : ℕ). OnTime OnCourse m′ (o .ticket) (fateAfter p y r (o .ticket) waiting) (deadline k (o .promise) B)) clock-after
+        (subst (λ (d : ℕ). let e = deadline k (o .promise) d in Kept (by e) (For OnCourse e) (o .ticket) r m′) bound-is (L .joins m c o v i)))
 
-    deadline-after : (z : Entry) → In z (b′ .entries) → OnTime OnCourse m′ (z .ticket) (z .fate) (deadlineOf k z)
+    deadline-after : (z : Entry) → In z (b′ .entries) → (d : ℕ) → deadlineOf k z ≡ some d → OnTime OnCourse m′ (z .ticket) (z .fate) d
     deadline-after =
-        each (λ (z : Entry). OnTime OnCourse m′ (z .ticket) (z .fate) (deadlineOf k z)) (λ x o t. deadline-came x o) (λ x o w h n. deadline-came x o)
+        each (λ (z : Entry). (d : ℕ) → deadlineOf k z ≡ some d → OnTime OnCourse m′ (z .ticket) (z .fate) d)
+        (λ x o t d e. deadline-came x d o (sym (stays x) ∙ e))
+        (λ x o w h n d e. deadline-came x d o (sym (heard-stays x) ∙ e))
+      where
+        same : (κ : Kind) (y z : Entry) → y .promise ≡ z .promise → y .bound ≡ z .bound → deadlineOf κ y ≡ deadlineOf κ z
+        same Conservative y z p q = ap some p
+        same Easy y z p q = q
+
+        stays : (x : Entry) → deadlineOf k (marked p c′ r x) ≡ deadlineOf k x
+        stays x = same k (marked p c′ r x) x refl refl
+
+        heard-stays : (x : Entry) → deadlineOf k (hearing (r .head) (marked p c′ r x)) ≡ deadlineOf k x
+        heard-stays x = same k (hearing (r .head) (marked p c′ r x)) x refl refl
 
     -- a forecast that an entry had, or hears now
     forecast-came : (x : Entry) (f : ℕ) → Came x → x .forecast ≡ some f → OnTime OnCourse m′ (x .ticket) (fateAfter p c′ r (x .ticket) (x .fate)) f
@@ -297,7 +319,7 @@ module _ {k : Kind} {R : Rules} {Valid : Model → Type 0} {OnCourse : Model →
     agrees-call = record {
       clock-is = sym clock-after;
       jobs-are = live-after;
-      deadlines = deadline-after;
+      deadlines = λ z d i. deadline-after z i d;
       forecasts = λ z f i. forecast-after z i f;
       heard-one = heard-after;
       heads = heads-after;
@@ -348,8 +370,8 @@ module _ {k : Kind} {R : Rules} {Valid : Model → Type 0} {OnCourse : Model →
 
     pub agrees-guarantee : Guarantee k (m .settings) b
     agrees-guarantee = record {
-      promises = λ q x i. keeps-to x (x .promise) (by-kind Conservative q x (a .deadlines x i));
-      bounds = λ q x i. keeps-to x (x .bound) (by-kind Easy q x (a .deadlines x i));
+      promises = λ q x i. keeps-to x (x .promise) (by-kind Conservative q x (x .promise) i refl);
+      bounds = λ q x d i e. keeps-to x d (by-kind Easy q x d i e);
       forecasts = λ q x f i e. keeps-to x f (a .forecasts x f i e);
       heads = λ q x i w h. a .heard-one q x i (a .heads x i w h);
       starts = a .none-stray;
@@ -357,9 +379,8 @@ module _ {k : Kind} {R : Rules} {Valid : Model → Type 0} {OnCourse : Model →
       shares = λ t. omega (arith, same-shares t (m .jobs) (b .entries) (a .jobs-are), L .shares m v t);
     }
       where
-        by-kind : (κ : Kind) → k ≡ κ → (x : Entry) → OnTime OnCourse m (x .ticket) (x .fate) (deadlineOf k x)
-            → OnTime OnCourse m (x .ticket) (x .fate) (deadlineOf κ x)
-        by-kind κ q x o = subst (λ (j : Kind). OnTime OnCourse m (x .ticket) (x .fate) (deadlineOf j x)) q o
+        by-kind : (κ : Kind) → k ≡ κ → (x : Entry) (d : ℕ) → In x (b .entries) → deadlineOf κ x ≡ some d → OnTime OnCourse m (x .ticket) (x .fate) d
+        by-kind κ q x d i e = a .deadlines x d i (ap (λ (j : Kind). deadlineOf j x) q ∙ e)
 
   -- from any book that agrees with a valid model, after every list of calls
   pub guaranteed : (u p : ℕ) (m : Model) (b : Book) (cs : List Call) → InStep u p m b → Guarantee k (after R m cs .settings) (enterAll u p b (events R m cs))

@@ -24,7 +24,8 @@ use Rattle.scheduler.specs.Answers.{Forecast}
 use Rattle.history.specs.News.{Newcomer, News}
 use Rattle.history.specs.Book.{Fate, waiting, running, cleaning, ended, withdrawn, Entry, Book, entry, waits, holds, isWaiting, fateAfter, marked, entryTicket, is, hearing, heard}
 use Rattle.history.specs.Guarantee.{held-nodes, counts, live-jobs}
-use Rattle.history_proof.specs.Obligations.{JobShown, fateBy, shown, live, isLive, remark, newly}
+use Rattle.history.specs.Beginning.{fateBy}
+use Rattle.history_proof.specs.Obligations.{JobShown, shown, live, isLive, remark, newly}
 
 abbrev pub seen : Entry → JobShown
 seen x = record { ticket = x .ticket; nodes = x .nodes; promise = x .promise; tenant = x .tenant; least = x .least; fate = x .fate }

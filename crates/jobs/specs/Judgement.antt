@@ -30,6 +30,8 @@ accepts-none refusal.NoRunLength e = true-false false e refl
 accepts-none refusal.LeastAboveMost e = true-false false e refl
 accepts-none refusal.BeforeLeast e = true-false false e refl
 accepts-none refusal.WantedMinutePast e = true-false false e refl
+accepts-none refusal.TextMalformed e = true-false false e refl
+accepts-none refusal.TextRejected e = true-false false e refl
 
 -- what holds of an outcome where no test refuses it, and of the refusal where one does, holds of the call
 pub judged-by : (P : Result → Type 0) (m : Model) (r : Refusal) (o : Result) → (accepts r ≡ true → P o) → (accepts r ≡ false → P (refuse m r))

@@ -121,6 +121,8 @@ pub record Sound (m : Model) : Type 0 where
   pub cleanup-to : m .settings .cleanup ≤ longestCleanup
   -- "the 64 places are divided between them"
   pub quotas : m .settings .«quota_a» + m .settings .«quota_b» ≡ slots (m .settings)
+  -- "at least one each"
+  pub one-each : (1 ≤ m .settings .«quota_a») × (1 ≤ m .settings .«quota_b»)
   pub clock-to : m .clock ≤ horizon (m .settings)
   pub next-from : 1 ≤ m .next
   pub next-to : m .next ≤ suc lastTicket
@@ -159,14 +161,16 @@ both-tenants (j ∷ js) f = omega (arith, one (j .tenant) (f j (here refl)), bot
 -- ## Opening
 
 sound-empty : (S : Settings) (c t : ℕ) → 1 ≤ S .nodes → S .nodes ≤ maxNodes → 1 ≤ S .longest → S .longest ≤ longestEstimate
-    → S .cleanup ≤ longestCleanup → S .«quota_a» + S .«quota_b» ≡ limit.slots → c ≤ limit.horizon → 1 ≤ t → t ≤ lastTicket → Sound (empty S c t)
-sound-empty S c t a b l h k g d e f = record {
+    → S .cleanup ≤ longestCleanup → S .«quota_a» + S .«quota_b» ≡ limit.slots → (1 ≤ S .«quota_a») × (1 ≤ S .«quota_b»)
+    → c ≤ limit.horizon → 1 ≤ t → t ≤ lastTicket → Sound (empty S c t)
+sound-empty S c t a b l h k g u d e f = record {
   nodes-from = a;
   nodes-to = b;
   longest-from = l;
   longest-to = h;
   cleanup-to = k;
   quotas = g;
+  one-each = u;
   clock-to = d;
   next-from = e;
   next-to = omega arith;
@@ -194,7 +198,10 @@ opening-sound o =
     refused : Sound (empty (refusedSettings (o .settings .kind)) 0 1)
     refused =
         sound-empty (refusedSettings (o .settings .kind)) 0 1 (omega arith) (omega arith) (omega arith) (omega arith) (omega arith) refl
-        (omega arith) (omega arith) (omega arith)
+        (omega arith, omega arith) (omega arith) (omega arith) (omega arith)
+
+    nonzero : (n : ℕ) → eqb n 0 ≡ false → 1 ≤ n
+    nonzero n e = omega (arith, eqb-false n 0 e)
 
     taken : outside 1 longestEstimate (o .settings .longest) ≡ false → outside 1 maxNodes (o .settings .nodes) ≡ false
         → (ltb limit.horizon (o .minute) || outside 1 lastTicket (o .ticket)) ≡ false
@@ -210,7 +217,8 @@ opening-sound o =
         let b = neither (ltb limit.horizon (o .minute)) (outside 1 lastTicket (o .ticket)) q in
         let c = neither (ltb (o .ticket) 1) (ltb lastTicket (o .ticket)) (b .1) in
         sound-empty S (o .minute) (o .ticket) (ltb-false (S .nodes) 1 (a .0)) (ltb-false maxNodes (S .nodes) (a .1)) (ltb-false (S .longest) 1 (z .0))
-        (ltb-false longestEstimate (S .longest) (z .1)) (ltb-false longestCleanup (S .cleanup) k) y (ltb-false limit.horizon (o .minute) (b .0))
+        (ltb-false longestEstimate (S .longest) (z .1)) (ltb-false longestCleanup (S .cleanup) k) y
+        (nonzero (S .«quota_a») (x .1), nonzero (S .«quota_b») (w .1)) (ltb-false limit.horizon (o .minute) (b .0))
         (ltb-false (o .ticket) 1 (c .0)) (ltb-false lastTicket (o .ticket) (c .1))
 
 -- ## Submission
@@ -294,6 +302,7 @@ sound-join m o j s f sj t u c = record {
   longest-to = s .longest-to;
   cleanup-to = s .cleanup-to;
   quotas = s .quotas;
+  one-each = s .one-each;
   clock-to = s .clock-to;
   next-from = omega arith;
   next-to = omega (arith, f .ticket-left);
@@ -458,6 +467,7 @@ sound-leave m c s v l = record {
   longest-to = v .longest-to;
   cleanup-to = v .cleanup-to;
   quotas = v .quotas;
+  one-each = v .one-each;
   clock-to = clock-low l;
   next-from = v .next-from;
   next-to = v .next-to;

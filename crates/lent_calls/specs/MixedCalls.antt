@@ -23,7 +23,7 @@ use Rattle.guarantees.specs.Rules.{call}
 use Rattle.guarantees.specs.Premise.{Valid, valid-view}
 use Rattle.guarantees.specs.Replies.{reply-back}
 use Rattle.guarantees.specs.Chain.{gives, answerOf, MadeAll, unchanged-refuses, made-keeps}
-use Rattle.guarantees.specs.Statement.{bookOf}
+use Rattle.guarantees.specs.Statement.{bookOf, Start, startOf}
 use Rattle.calls.specs.declared.Shown.{Shown}
 use Rattle.calls.specs.declared.ProfileOutcome.{ProfileOutcome}
 use Rattle.calls.specs.ProfileCall.{profileOutcome}
@@ -83,10 +83,9 @@ module _ (m : Model) (v : Valid m) where
   made-is (pageShown {lent} {after} {s} w) = unchanged-is (s .refusal)
   made-is (waitRefused {r} minutes e n) = unchanged-is r
 
--- From the scheduler that an opening hands back, a refused one too: scheduler and answers are those of the list of calls, and the book of
--- the calls made and the answers received has the guarantees (document 01: "demand 3").
-pub mixed-keeps : (o : Opening) (cs : List Call) (xs : List Answer) (e : Scheduler) → MadeAll Made (opened o .scheduler) cs xs e
-    → (e ≡ store (after call (opening o) cs)) × (xs ≡ map answerOf (events call (opening o) cs))
-    × Guarantee (o .settings .kind) (opening o .settings) (bookOf (opening o) (eventsOf cs (map replyOf xs)))
-unfolding opened
-mixed-keeps o cs xs e l = made-keeps Made store answer replyOf (opening o .settings) (λ m c a d v w. made-is m v) reply-back o refl l
+-- From the scheduler that an opening or a reading hands back, a refused one too: scheduler and answers are those of the list of calls, and the book
+-- of the calls made and the answers received has the guarantees (document 01: "demand 3").
+pub mixed-keeps : (s : Start) (cs : List Call) (xs : List Answer) (e : Scheduler) → MadeAll Made (store (startOf s)) cs xs e
+    → (e ≡ store (after call (startOf s) cs)) × (xs ≡ map answerOf (events call (startOf s) cs))
+    × Guarantee (startOf s .settings .kind) (startOf s .settings) (bookOf (startOf s) (eventsOf cs (map replyOf xs)))
+mixed-keeps s cs xs e l = made-keeps Made store answer replyOf (startOf s .settings) (λ m c a d v w. made-is m v) reply-back s refl l

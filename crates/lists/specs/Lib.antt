@@ -7,3 +7,4 @@ pub mod Pads
 pub mod Flat
 pub mod FirstLaws
 pub mod CopyLoop
+pub mod Every

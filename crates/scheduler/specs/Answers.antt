@@ -37,6 +37,8 @@ code refusal.NoRunLength = 18
 code refusal.LeastAboveMost = 19
 code refusal.BeforeLeast = 20
 code refusal.WantedMinutePast = 21
+code refusal.TextMalformed = 22
+code refusal.TextRejected = 23
 
 -- "Where several apply, order": the first test that holds decides
 unfoldable pub verdict : List (Bool × Refusal) → Refusal

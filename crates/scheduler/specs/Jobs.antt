@@ -19,7 +19,20 @@ use Rattle.scheduler.specs.Settings.{endOf, until}
 
 -- "unused ones all zero"
 abbrev pub unused : Job
-unused = record { ticket = 0; nodes = 0; estimate = 0; state = Unused; tenant = Nobody; least = 0; start = 0; promise = 0; end = 0 }
+unused = record {
+  ticket = 0;
+  nodes = 0;
+  estimate = 0;
+  state = Unused;
+  tenant = Nobody;
+  least = 0;
+  rank = 0;
+  start = 0;
+  promise = 0;
+  end = 0;
+  submitted = 0;
+  forecast = 0;
+}
 
 abbrev pub isLive : Job → Bool
 isLive j = live? (j .state)
@@ -70,9 +83,45 @@ fresh t o s start promise = record {
   state = s;
   tenant = o .tenant;
   least = o .least;
+  rank = 0;
   start = start;
   promise = promise;
   end = 0;
+  submitted = 0;
+  forecast = 0;
+}
+
+-- document 02, No. 11: "Loose records now keep intake minute, .. r at intake .. and any forecast, until they leave"
+abbrev pub entered : (minute rank : ℕ) → Job → Job
+entered m r j = record {
+  ticket = j .ticket;
+  nodes = j .nodes;
+  estimate = j .estimate;
+  state = j .state;
+  tenant = j .tenant;
+  least = j .least;
+  rank = r;
+  start = j .start;
+  promise = j .promise;
+  end = j .end;
+  submitted = m;
+  forecast = j .forecast;
+}
+
+abbrev pub foretold : (minute : ℕ) → Job → Job
+foretold m j = record {
+  ticket = j .ticket;
+  nodes = j .nodes;
+  estimate = j .estimate;
+  state = j .state;
+  tenant = j .tenant;
+  least = j .least;
+  rank = j .rank;
+  start = j .start;
+  promise = j .promise;
+  end = j .end;
+  submitted = j .submitted;
+  forecast = m;
 }
 
 -- the same job in a state, with a start
@@ -84,9 +133,12 @@ jobAt s start j = record {
   state = s;
   tenant = j .tenant;
   least = j .least;
+  rank = j .rank;
   start = start;
   promise = j .promise;
   end = 0;
+  submitted = j .submitted;
+  forecast = j .forecast;
 }
 
 -- the same job once its run has ended: "its record, and no other, keeps its end"
@@ -98,9 +150,12 @@ cleaning m j = record {
   state = Cleanup;
   tenant = j .tenant;
   least = j .least;
+  rank = j .rank;
   start = j .start;
   promise = j .promise;
   end = m;
+  submitted = j .submitted;
+  forecast = j .forecast;
 }
 
 -- what each test picks

@@ -1,7 +1,7 @@
 -- What an opening fixes, and every limit that calls go by, read from it through one definition each.
 -- Assumes nothing.
 use mathlib.Core.Bool.{cond}
-use Prim.Native.Nat.{ℕ, _+_, min}
+use Prim.Native.Nat.{ℕ, _+_, _*_, min}
 use Rattle.walltime.specs.WallTime.{wallTime}
 use Rattle.scheduler.specs.declared.Kind.{Kind}
 use Rattle.scheduler.specs.declared.Settings.{Settings}
@@ -60,3 +60,7 @@ endOf S j = j .start + runTime S (j .estimate)
 -- the minute from which the nodes of a job are free again: of one whose run has ended, clearing minutes after its end
 unfoldable pub until : Settings → Job → ℕ
 until S j = cond (cleaning? (j .state)) (j .end + cleanup S) (j .start + holdTime S (j .estimate))
+
+-- document 01: "Its bound is the clock at intake + r × 10,080", by what a record of EASY keeps (document 02, No. 11)
+abbrev pub boundOf : Settings → Job → ℕ
+boundOf S j = j .submitted + j .rank * unit S

@@ -2,7 +2,7 @@
 ghost use mathlib.Core.Path.{_≡_};
 ghost use Prim.Native.Nat.{_≤_};
 ghost use Rattle.scheduler.specs.Limits.{maxNodes, longestEstimate, limits, outside, misdivided};
-ghost use Rattle.scheduler.specs.Jobs.{unused, fresh, jobAt, cleaning, isRunning, isCleaning, isHolding, tooEarly, releasedAt, picks};
+ghost use Rattle.scheduler.specs.Jobs.{unused, fresh, entered, foretold, jobAt, cleaning, isRunning, isCleaning, isHolding, tooEarly, releasedAt, picks};
 ghost use Rattle.scheduler.specs.Tenants.{known, number, sameTenant, tenantOf, letterOf};
 ghost use Rattle.scheduler.specs.Settings.{refusedSettings, quota, longest, cleanup, runTime, holdTime, unit};
 ghost use Rattle.scheduler.specs.Times.{LongestWithin};
@@ -33,7 +33,9 @@ pub enum Tenant {
 
 // A live job (document 01: "stack", "record"), or an unused slot, which is all zero. A job in cleanup has run: it keeps its end, which is 0 in
 // every other, and its nodes stay taken. The estimate is the most that it runs, and what it is planned with; the least is when it can be over
-// at the earliest. Nodes and run lengths are within 16 bits: a scheduler copies its 64 jobs wherever it is handed on.
+// at the earliest. EASY keeps of a job, until it leaves, the minute in which it was submitted, its rank then (document 01: "r") and the forecast
+// that it was given, 0 where it has none; in conservative backfilling all three are 0 (document 02, No. 11). Nodes and run lengths are
+// within 16 bits: a scheduler copies its 64 jobs wherever it is handed on.
 pub struct Job {
     pub ticket: u32,
     pub nodes: u16,
@@ -44,6 +46,9 @@ pub struct Job {
     pub start: u32,
     pub promise: u32,
     pub end: u32,
+    pub submitted: u32,
+    pub rank: u32,
+    pub forecast: u32,
 }
 
 // What an opening fixes: the rules, the machine's nodes, for how many minutes nodes stay taken after a run ("clearing"), how many live jobs
@@ -98,6 +103,8 @@ pub enum Refusal {
     LeastAboveMost,
     BeforeLeast,
     WantedMinutePast,
+    TextMalformed,
+    TextRejected,
 }
 
 // Tickets in order; the places past the count are 0.
@@ -193,7 +200,7 @@ pub fn outside_range(x: u32, low: u32, high: u32) -> bool
 }
 
 // Whether one is 0, or they are not 64 together. (Numbers may be any, so that no sum of both is asked for.)
-fn quotas_out_of_range(a: u32, b: u32) -> bool
+pub fn quotas_out_of_range(a: u32, b: u32) -> bool
     ensures { λ r. ⌜ r ≡ misdivided a b ⌝ }
 {
     if outside_range(a, 1, 63) {
@@ -227,6 +234,8 @@ impl Refusal {
             Refusal::LeastAboveMost => 19,
             Refusal::BeforeLeast => 20,
             Refusal::WantedMinutePast => 21,
+            Refusal::TextMalformed => 22,
+            Refusal::TextRejected => 23,
         }
     }
 
@@ -348,9 +357,12 @@ impl Job {
             state: State::Unused,
             tenant: Tenant::Nobody,
             least: 0,
+            rank: 0,
             start: 0,
             promise: 0,
             end: 0,
+            submitted: 0,
+            forecast: 0,
         }
     }
 
@@ -367,9 +379,56 @@ impl Job {
             state: state,
             tenant: tenant,
             least: order.least as u16,
+            rank: 0,
             start: start,
             promise: promise,
             end: 0,
+            submitted: 0,
+            forecast: 0,
+        }
+    }
+
+    // The same job, as EASY keeps it: when it was submitted, and its rank then.
+    pub fn entered(self, minute: u32, rank: u32) -> Job
+        ensures { λ r. ⌜ r ≡ entered minute rank self ⌝ }
+    {
+        let state = self.state;
+        let tenant = self.tenant;
+        Job {
+            ticket: self.ticket,
+            nodes: self.nodes,
+            estimate: self.estimate,
+            state: state,
+            tenant: tenant,
+            least: self.least,
+            rank: rank,
+            start: self.start,
+            promise: self.promise,
+            end: self.end,
+            submitted: minute,
+            forecast: self.forecast,
+        }
+    }
+
+    // The same job once it has been given a forecast.
+    pub fn foretold(self, minute: u32) -> Job
+        ensures { λ r. ⌜ r ≡ foretold minute self ⌝ }
+    {
+        let state = self.state;
+        let tenant = self.tenant;
+        Job {
+            ticket: self.ticket,
+            nodes: self.nodes,
+            estimate: self.estimate,
+            state: state,
+            tenant: tenant,
+            least: self.least,
+            rank: self.rank,
+            start: self.start,
+            promise: self.promise,
+            end: self.end,
+            submitted: self.submitted,
+            forecast: minute,
         }
     }
 
@@ -385,9 +444,12 @@ impl Job {
             state: state,
             tenant: tenant,
             least: self.least,
+            rank: self.rank,
             start: start,
             promise: self.promise,
             end: 0,
+            submitted: self.submitted,
+            forecast: self.forecast,
         }
     }
 
@@ -403,9 +465,12 @@ impl Job {
             state: State::Cleanup,
             tenant: tenant,
             least: self.least,
+            rank: self.rank,
             start: self.start,
             promise: self.promise,
             end: end,
+            submitted: self.submitted,
+            forecast: self.forecast,
         }
     }
 
@@ -682,7 +747,7 @@ impl Scheduler {
         }
     }
 
-    fn empty(settings: Settings, clock: u32, next: u32) -> Scheduler
+    pub fn empty(settings: Settings, clock: u32, next: u32) -> Scheduler
         ensures { λ r. ⌜ r ≡ store (empty settings clock next) ⌝ }
     {
         let j = Job::unused();

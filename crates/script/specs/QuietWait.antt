@@ -19,7 +19,7 @@ use Rattle.quiet_minutes.specs.DueMinutes.{Quiet}
 use Rattle.quiet_minutes.specs.QuietTicks.{passed, quiet-tick, tick-valid, quiet-next, quiet-rest, passed-none, passed-more, passedOver}
 use Rattle.quiet_minutes.specs.QuietTicks.{passed-premise, passed-handed}
 use Rattle.quiet_minutes.specs.QuietCount.{Ahead}
-use Rattle.script_rules.specs.Lines.{linesOf}
+use Rattle.desk_lines.specs.Lines.{linesOf}
 use Rattle.script_rules.specs.Writing.{textOf, taken, rowsOf}
 use Rattle.script_rules.specs.Printout.{printedAll, played}
 use Rattle.script_play.specs.declared.Play.{Play}

@@ -16,7 +16,7 @@ use Rattle.scheduler.specs.declared.Scheduler.{Scheduler}
 use Rattle.scheduler.specs.Model.{Model}
 use Rattle.scheduler.specs.Opening.{opening, openingRefusal, opened}
 use Rattle.scheduler.specs.Answers.{accepts, code}
-use Rattle.script_rules.specs.Lines.{Line, linesOf}
+use Rattle.desk_lines.specs.Lines.{Line, linesOf}
 use Rattle.script_rules.specs.Writing.{noRow}
 use Rattle.script_rules.specs.Printout.{malformed, openedBy}
 use Rattle.script_rules.specs.Beginnings.{begun}

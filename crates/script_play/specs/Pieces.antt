@@ -17,8 +17,9 @@ use Rattle.scheduler.specs.Answers.{accepts, code, outcome}
 use Rattle.scheduler.specs.Refusals.{waitRefusal}
 use Rattle.history.specs.Calls.{Call, Command, ask, wait, tick}
 use Rattle.guarantees.specs.Rules.{call}
-use Rattle.script_rules.specs.LineLaws.{lineOf, past}
-use Rattle.script_rules.specs.Reading.{openingIn, commandOf}
+use Rattle.desk_lines.specs.LineLaws.{lineOf, past}
+use Rattle.script_rules.specs.Reading.{commandOf}
+use Rattle.desk_lines.specs.DeskLine.{openingIn}
 use Rattle.script_rules.specs.Writing.{noRow}
 use Rattle.script_rules.specs.Printout.{malformed, printed, longestScript}
 use Rattle.script_play.specs.FirstPieces.{firstBy}

@@ -22,8 +22,9 @@ use Rattle.scheduler.specs.Refusals.{waitRefusal}
 use Rattle.jobs.specs.Soundness.{passed}
 use Rattle.history.specs.Calls.{Command, ask, wait, tick}
 use Rattle.guarantees.specs.Premise.{Premise, call-premise, opened-premise}
-use Rattle.script_rules.specs.LineLaws.{lineOf, past, Past, past-line}
-use Rattle.script_rules.specs.Reading.{openingIn, commandOf}
+use Rattle.desk_lines.specs.LineLaws.{lineOf, past, Past, past-line}
+use Rattle.script_rules.specs.Reading.{commandOf}
+use Rattle.desk_lines.specs.DeskLine.{openingIn}
 use Rattle.script_rules.specs.Printout.{longestScript, printout}
 use Rattle.script_play.specs.FirstPieces.{first-holds}
 use Rattle.script_play.specs.declared.Play.{Play}

@@ -22,9 +22,10 @@ use Rattle.history.specs.Calls.{Call, Command, ask, wait, tick, unchanged, afte
 use Rattle.guarantees.specs.Rules.{call}
 use Rattle.guarantees.specs.Premise.{Premise, Valid, valid-view, call-valid, opening-valid}
 use Rattle.guarantees.specs.Chain.{unchanged-refuses}
-use Rattle.script_rules.specs.Lines.{linesOf}
-use Rattle.script_rules.specs.LineLaws.{lineOf, past, lines-done, lines-from}
-use Rattle.script_rules.specs.Reading.{openingIn, commandOf}
+use Rattle.desk_lines.specs.Lines.{linesOf}
+use Rattle.desk_lines.specs.LineLaws.{lineOf, past, lines-done, lines-from}
+use Rattle.script_rules.specs.Reading.{commandOf}
+use Rattle.desk_lines.specs.DeskLine.{openingIn}
 use Rattle.script_rules.specs.Writing.{noRow, textOf}
 use Rattle.script_rules.specs.Printout.{printed, printedAll, calledBy, printedBy, played, longestScript, printout}
 use Rattle.script_rules.specs.Beginnings.{printout-begins}

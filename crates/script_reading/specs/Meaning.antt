@@ -25,7 +25,8 @@ use Rattle.scheduler.specs.declared.Kind.{Kind}
 use Rattle.scheduler.specs.declared.Opening.{Opening}
 use Rattle.scheduler.specs.declared.Departure.{Departure}
 use Rattle.history.specs.Calls.{Command, ask, wait, depart, asked}
-use Rattle.script_rules.specs.Reading.{hasForm, numberAt, withNumber, submitFor}
+use Rattle.script_rules.specs.Reading.{submitFor}
+use Rattle.desk_lines.specs.DeskLine.{hasForm, numberAt, withNumber}
 use Rattle.script_reading.specs.declared.FirstLine.{FirstLine}
 use Rattle.script_reading.specs.declared.FirstLine.the-variants as first
 use Rattle.script_reading.specs.declared.Asked.{Asked}

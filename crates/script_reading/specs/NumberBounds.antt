@@ -15,7 +15,8 @@ use Rattle.scheduler.specs.declared.Kind.{Kind}
 use Rattle.scheduler.specs.Tenants.{tenantOf}
 use Rattle.scheduler.specs.declared.Opening.{Opening}
 use Rattle.history.specs.Calls.{Command, ask, wait, submit, depart, orderBetween, complete, cancel, tick, unchanged}
-use Rattle.script_rules.specs.Reading.{numberAt, letterAt, withNumber, withKind, kindOf, hasForm, inWord, endWord, waitWord, dropWord, deskWord, openingIn}
+use Rattle.script_rules.specs.Reading.{inWord, endWord, waitWord, dropWord}
+use Rattle.desk_lines.specs.DeskLine.{numberAt, letterAt, withNumber, withKind, kindOf, hasForm, deskWord, openingIn}
 use Rattle.script_rules.specs.Reading.{submitFor, commandIn}
 
 abbrev pub Small : ℕ → Type 0

@@ -1,6 +1,7 @@
 // A line of a script, read into what it asks. Each field goes through the field reader to the number reader: there is no second parser.
 ghost use mathlib.Core.Path.{_≡_};
-ghost use Rattle.script_rules.specs.Reading.{withKind, kindOf, submitFor, openingIn, commandIn};
+ghost use Rattle.script_rules.specs.Reading.{submitFor, commandIn};
+ghost use Rattle.desk_lines.specs.DeskLine.{withKind, kindOf, openingIn};
 ghost use Rattle.script_reading.specs.Meaning.{opens, asks, follows, formFrom, whenRead, openingOf, submissionOf, betweenOf, departureOf, waitOf};
 use scheduler::Departure;
 use scheduler::Kind;

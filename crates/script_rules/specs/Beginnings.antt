@@ -14,9 +14,9 @@ use Rattle.text.specs.declared.Begins.the-variants as begins
 use Rattle.text.specs.Lines.{lineAt, beginsOf}
 use Rattle.scheduler.specs.declared.Opening.{Opening}
 use Rattle.scheduler.specs.Model.{Model}
-use Rattle.script_rules.specs.Lines.{Line, linesOf}
-use Rattle.script_rules.specs.LineLaws.{lines-done, lines-from}
-use Rattle.script_rules.specs.Reading.{closedOnly}
+use Rattle.desk_lines.specs.Lines.{Line, linesOf}
+use Rattle.desk_lines.specs.LineLaws.{lines-done, lines-from}
+use Rattle.desk_lines.specs.DeskLine.{closedOnly}
 use Rattle.script_rules.specs.Printout.{malformed, openedBy, fromFirst, printoutBy}
 
 module _ (opens : List ℕ → Option Opening) (plays : Model → List Line → List ℕ) where

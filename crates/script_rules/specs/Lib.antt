@@ -1,5 +1,3 @@
-pub mod Lines
-pub mod LineLaws
 pub mod Reading
 pub mod Writing
 pub mod Printout

@@ -25,7 +25,8 @@ use Rattle.text.specs.Letters as letters
 use Rattle.text.specs.Fields.{fieldsOf}
 use Rattle.text.specs.Numbers as numbers
 use Rattle.text.specs.Words.{isWord}
-use Rattle.script_rules.specs.Lines.{linesOf}
+use Rattle.desk_lines.specs.Lines.{linesOf}
+use Rattle.desk_lines.specs.DeskLine as desk
 use Rattle.script_rules.specs.Reading as reading
 use Rattle.script_rules.specs.Writing as writing
 use Rattle.script_rules.specs.Printout as script
@@ -162,9 +163,9 @@ unfolding
     numbers.decimalBy
     numbers.decimalOf
     linesOf
-    reading.hasForm
-    reading.kindOf
-    reading.openingIn
+    desk.hasForm
+    desk.kindOf
+    desk.openingIn
     reading.commandIn
     writing.row
     writing.noRow

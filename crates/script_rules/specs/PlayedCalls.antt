@@ -13,8 +13,8 @@ use Rattle.history.specs.Calls.{Call, Command, Event, after, events, callsOf, a
 use Rattle.history.specs.Guarantee.{Guarantee}
 use Rattle.guarantees.specs.Rules.{call}
 use Rattle.guarantees.specs.Statement.{bookOf}
-use Rattle.guarantees.specs.Proof.{demand3-with-waits}
-use Rattle.script_rules.specs.Lines.{Line}
+use Rattle.guarantees.specs.Proof.{opened-keeps}
+use Rattle.desk_lines.specs.Lines.{Line}
 use Rattle.script_rules.specs.Reading.{commandOf}
 use Rattle.script_rules.specs.Writing.{textOf}
 use Rattle.script_rules.specs.Printout.{malformed, printedAll, calledBy, printedBy, played}
@@ -135,5 +135,5 @@ script-keeps o ls = record {
       let m = opening o in
       let cs = allCalls call m (commands ls) in
       let same : events call m (take i cs) ≡ take i (told (items m ls)) = sym (first-events m cs i) ∙ ap (take i) (sym (tells m ls)) in
-      subst (λ (es : List Event). Guarantee (o .settings .kind) (m .settings) (bookOf m es)) same (demand3-with-waits o (commands ls) i);
+      subst (λ (es : List Event). Guarantee (o .settings .kind) (m .settings) (bookOf m es)) same (opened-keeps o (take i (allCalls call (opening o) (commands ls))));
 }

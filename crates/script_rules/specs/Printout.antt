@@ -13,8 +13,9 @@ use Rattle.scheduler.specs.Opening.{opening, openingRefusal}
 use Rattle.scheduler.specs.Answers.{accepts, code}
 use Rattle.history.specs.Calls.{Call, Command, after, callsOf}
 use Rattle.guarantees.specs.Rules.{call}
-use Rattle.script_rules.specs.Lines.{Line, linesOf}
-use Rattle.script_rules.specs.Reading.{openingOf, commandOf}
+use Rattle.desk_lines.specs.Lines.{Line, linesOf}
+use Rattle.script_rules.specs.Reading.{commandOf}
+use Rattle.desk_lines.specs.DeskLine.{openingOf}
 use Rattle.script_rules.specs.Writing.{textOf, noRow}
 
 -- 9: "the line lacks the form above, or is a second `desk` line"

@@ -6,6 +6,7 @@ use mathlib.Core.List.{List, [], _∷_, _++_}
 use Prim.Native.Nat.{ℕ}
 use lib.Dec.{eqb}
 use Rattle.text.specs.Numbers.{decimalOf}
+use Rattle.desk_lines.specs.DeskLine.{andField}
 use Rattle.scheduler.specs.declared.Kind.{Kind}
 use Rattle.scheduler.specs.declared.Kind.the-variants.{Conservative, Easy}
 use Rattle.scheduler.specs.Answers.{Reply, accepts, code, headTicket, headMinute}
@@ -24,10 +25,6 @@ startWord = 115 ∷ 116 ∷ 97 ∷ 114 ∷ 116 ∷ []
 
 abbrev pub headWord : List ℕ
 headWord = 104 ∷ 101 ∷ 97 ∷ 100 ∷ []
-
--- a tab and a field
-abbrev pub andField : List ℕ → List ℕ
-andField f = 9 ∷ f
 
 -- a line of a word and two fields
 unfoldable pub row : List ℕ → List ℕ → List ℕ → List ℕ

@@ -23,8 +23,8 @@ use Rattle.scheduler.specs.Model.{view}
 use Rattle.scheduler.specs.Answers.{Reply, accepts, code, outcome}
 use Rattle.history.specs.Calls.{submit, tick, complete}
 use Rattle.guarantees.specs.Rules.{call}
-use Rattle.script_rules.specs.Lines.{Line}
-use Rattle.script_rules.specs.LineLaws.{past, lineOf, lines-from}
+use Rattle.desk_lines.specs.Lines.{Line}
+use Rattle.desk_lines.specs.LineLaws.{past, lineOf, lines-from}
 use Rattle.script_rules.specs.Writing.{noRow}
 use Rattle.script_writing.specs.AnswerText.{pageBytes}
 use Rattle.season_reading.specs.declared.Ahead.{Ahead}

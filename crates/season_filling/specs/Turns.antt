@@ -26,7 +26,7 @@ use Rattle.scheduler.specs.Model.{view, store}
 use Rattle.scheduler.specs.Answers.{accepts}
 use Rattle.jobs.specs.Order.{asc-in}
 use Rattle.guarantees.specs.Premise.{premise-sound}
-use Rattle.script_rules.specs.LineLaws.{lineOf, lines-done, lines-from}
+use Rattle.desk_lines.specs.LineLaws.{lineOf, lines-done, lines-from}
 use Rattle.season_reading.specs.declared.Ahead.{Ahead}
 use Rattle.season_reading.specs.declared.Listed.{Listed}
 use Rattle.season_reading.specs.declared.Listed.the-variants as listed

@@ -22,6 +22,7 @@ use Rattle.scheduler.specs.Table.{ticketsOf}
 use Rattle.scheduler.specs.Model.{Model}
 use Rattle.scheduler.specs.Answers.{accepts, verdict}
 use Rattle.scheduler.specs.Refusals.{departRefusal, departsEarly, tickRefusal}
+use Rattle.scheduler.specs.Settings.{boundOf}
 use Rattle.jobs.specs.Soundness.{start-until, running-holds}
 use Rattle.history.specs.Calls.{tick, complete}
 use Rattle.conservative_laws.specs.Sentences as conservative
@@ -37,8 +38,7 @@ module _ (m : Model) where
       let e = w .sound .each j i in omega (arith, w .ahead j i q, start-until (m .settings) (m .clock) j e, e .ends)
   waits-by Easy w j i q =
       let r = w .ready .room j i q in
-      let b = r .1 in
-      omega (arith, course-rest m (j .ticket) (r .0) b (w .ready .sound) (w .rests), r .2)
+      omega (arith, course-rest m (j .ticket) (boundOf (m .settings) j) (r .0) (w .ready .sound) (w .rests), r .1)
 
   -- while a job is live, the last minute has not come
   pub live-clock : Valid m → (j : Job) → In j (m .jobs) → m .clock < horizon

@@ -25,7 +25,8 @@ use Rattle.history.specs.Calls.{Call, submit, tick, complete}
 use Rattle.history.specs.News.{Newcomer, News, clockAfter}
 use Rattle.history.specs.Tickets.{nextAfter}
 use Rattle.history.specs.Book.{Fate, waiting, running, cleaning, ended, withdrawn, over, fateAfter}
-use Rattle.history_proof.specs.Obligations.{JobShown, shown, fateBy, live, isLive, remark, comers, newly, Tells, said}
+use Rattle.history.specs.Beginning.{fateBy}
+use Rattle.history_proof.specs.Obligations.{JobShown, shown, live, isLive, remark, comers, newly, Tells, said}
 use Rattle.conservative_laws.specs.Obligations.{conservative-lawful}
 use Rattle.conservative_laws.specs.Sentences.{conservative-ticketed}
 use Rattle.easy_laws.specs.Obligations.{easy-lawful}

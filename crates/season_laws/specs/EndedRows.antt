@@ -33,7 +33,7 @@ unfolding easy.call easy.finished
 submit-by Conservative m o a = conservative.submit-taken m o a .ended-is
 submit-by Easy m o a =
     ap (λ (r : Result). r .reply .ended)
-    (judged-accepted m (easy.submitRefusal m o) (easy.finished m (joined m (easy.newJob (m .next) o)) (m .next) []) a .1)
+    (judged-accepted m (easy.submitRefusal m o) (easy.finished m (joined m (easy.newJob m o)) (m .next) []) a .1)
 
 module _ (s : Season) (r : Ready s) where
   abbrev m : Model

@@ -16,7 +16,7 @@ use Rattle.history.specs.Calls.{submit}
 use Rattle.guarantees.specs.Rules.{call}
 use Rattle.guarantees.specs.Premise.{opening-valid}
 use Rattle.guarantees.specs.Proof.{opening-empty}
-use Rattle.script_rules.specs.Lines.{Line}
+use Rattle.desk_lines.specs.Lines.{Line}
 use Rattle.season_rules.specs.declared.Arrival.{Arrival}
 use Rattle.season_rules.specs.Season.{Season, Turn, ends, refuses, arrives, steps, over, turnOf, orderOf, seasonBy, nextLine}
 use Rattle.season_rules.specs.Season.{firstArrival, arrivalNext, highestWith, beginning}

@@ -27,7 +27,7 @@ use Rattle.history.specs.News.{Newcomer}
 use Rattle.history_proof.specs.Obligations.{comers, said}
 use Rattle.guarantees.specs.Rules.{call}
 use Rattle.guarantees.specs.Premise.{Valid, call-valid}
-use Rattle.script_rules.specs.Lines.{Line}
+use Rattle.desk_lines.specs.Lines.{Line}
 use Rattle.season_rules.specs.declared.Arrival.{Arrival}
 use Rattle.season_rules.specs.Reading.{arrivalOf}
 use Rattle.season_rules.specs.Season as season

@@ -14,8 +14,8 @@ use Rattle.history.specs.Calls.{Call, Event, submit, complete, tick, events}
 use Rattle.history.specs.Guarantee.{Guarantee}
 use Rattle.guarantees.specs.Rules.{call}
 use Rattle.guarantees.specs.Statement.{bookOf}
-use Rattle.guarantees.specs.Proof.{demand3}
-use Rattle.script_rules.specs.Lines.{Line}
+use Rattle.guarantees.specs.Proof.{opened-keeps}
+use Rattle.desk_lines.specs.Lines.{Line}
 use Rattle.script_rules.specs.Writing.{noRow}
 use Rattle.script_rules.specs.PlayedCalls.{first-events}
 use Rattle.season_rules.specs.declared.Arrival.{Arrival}
@@ -125,5 +125,5 @@ season-keeps o ls = record {
       let s = beginning m ls in
       let cs = calls (turnsLeft s) s in
       let same : events call m (take i cs) ≡ take i (told (allItems s)) = sym (first-events m cs i) ∙ ap (take i) (sym (tells (turnsLeft s) s)) in
-      subst (λ (es : List Event). Guarantee (o .settings .kind) (m .settings) (bookOf m es)) same (demand3 o (take i cs));
+      subst (λ (es : List Event). Guarantee (o .settings .kind) (m .settings) (bookOf m es)) same (opened-keeps o (take i cs));
 }

@@ -22,8 +22,8 @@ use Rattle.history.specs.Tickets.{nextAfter}
 use Rattle.history_proof.specs.Obligations.{said}
 use Rattle.guarantees.specs.Rules.{call}
 use Rattle.guarantees.specs.Premise.{Premise, call-premise, valid-view, call-valid, premise-sound}
-use Rattle.script_rules.specs.Lines.{Line, linesOf}
-use Rattle.script_rules.specs.LineLaws.{past, lines-from, past-line}
+use Rattle.desk_lines.specs.Lines.{Line, linesOf}
+use Rattle.desk_lines.specs.LineLaws.{past, lines-from, past-line}
 use Rattle.script_play.specs.declared.Stage.the-variants.{Playing, Over}
 use Rattle.paging.specs.Players.{Piece, piece}
 use Rattle.season_rules.specs.declared.Arrival.{Arrival}

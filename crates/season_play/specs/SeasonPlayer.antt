@@ -27,10 +27,10 @@ use Rattle.scheduler.specs.Answers.{accepts, verdict}
 use Rattle.history.specs.Calls.{submit}
 use Rattle.guarantees.specs.Rules.{call}
 use Rattle.guarantees.specs.Premise.{opening-valid, opened-premise, valid-view}
-use Rattle.script_rules.specs.Lines.{Line, linesOf}
-use Rattle.script_rules.specs.LineLaws.{lines-few}
+use Rattle.desk_lines.specs.Lines.{Line, linesOf}
+use Rattle.desk_lines.specs.LineLaws.{lines-few}
 use Rattle.script_rules.specs.Beginnings.{printout-begins}
-use Rattle.script_rules.specs.Reading.{kindOf}
+use Rattle.desk_lines.specs.DeskLine.{kindOf}
 use Rattle.script_reading.specs.NumberBounds.{Any, any-none, any-some, any-field, any-kind, any-cond}
 use Rattle.script_play.specs.declared.Stage.{Stage}
 use Rattle.script_play.specs.declared.Stage.the-variants.{First, Playing, Over}

@@ -13,7 +13,7 @@ use Rattle.text.specs.declared.Line as text
 use Rattle.text.specs.Lines.{lineAt}
 use Rattle.scheduler.specs.declared.Kind.{Kind}
 use Rattle.scheduler.specs.declared.Opening.{Opening}
-use Rattle.script_rules.specs.LineLaws.{lineOf, past}
+use Rattle.desk_lines.specs.LineLaws.{lineOf, past}
 use Rattle.season_rules.specs.declared.Arrival.{Arrival}
 use Rattle.season_rules.specs.Reading.{openingWith, arrivalOf}
 use Rattle.season_reading.specs.declared.Listed.{Listed}

@@ -1,7 +1,7 @@
 // A season's list, read line by line: its first line into an opening, each later one into an arrival.
 ghost use mathlib.Core.Path.{_≡_};
 ghost use Prim.Native.Nat.{suc, min};
-ghost use Rattle.script_rules.specs.Reading.{withKind};
+ghost use Rattle.desk_lines.specs.DeskLine.{withKind};
 ghost use Rattle.script_reading.specs.Meaning.{opens, follows, whenRead};
 ghost use Rattle.season_rules.specs.Reading.{mostLines, openingIn, arrivalIn, arrivalOf};
 ghost use Rattle.season_rules.specs.Season.{arrivalRefusal};

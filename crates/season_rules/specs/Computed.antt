@@ -12,8 +12,8 @@ use Rattle.conservative_rules.specs.Conservative as conservative
 use Rattle.text.specs.Fields.{fieldsOf}
 use Rattle.text.specs.Numbers as numbers
 use Rattle.text.specs.Words.{isWord}
-use Rattle.script_rules.specs.Lines.{linesOf}
-use Rattle.script_rules.specs.Reading as script
+use Rattle.desk_lines.specs.Lines.{linesOf}
+use Rattle.desk_lines.specs.DeskLine as desk
 use Rattle.script_rules.specs.Writing as writing
 use Rattle.season_rules.specs.Reading as reading
 use Rattle.season_rules.specs.Season as season
@@ -71,7 +71,7 @@ unfolding
     numbers.decimalBy
     numbers.decimalOf
     linesOf
-    script.kindOf
+    desk.kindOf
     writing.noRow
     opening.opening
     opening.openingRefusal

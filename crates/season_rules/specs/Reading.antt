@@ -11,8 +11,8 @@ use lib.ListN.{length}
 use Rattle.text.specs.Fields.{fieldsOf, fieldOf}
 use Rattle.scheduler.specs.declared.Kind.{Kind}
 use Rattle.scheduler.specs.declared.Opening.{Opening}
-use Rattle.script_rules.specs.Lines.{Line}
-use Rattle.script_rules.specs.Reading.{numberAt, withNumber, kindOf, withKind, closedOnly}
+use Rattle.desk_lines.specs.Lines.{Line}
+use Rattle.desk_lines.specs.DeskLine.{numberAt, withNumber, kindOf, withKind, closedOnly}
 use Rattle.season_rules.specs.declared.Arrival.{Arrival}
 
 abbrev pub longestList : ℕ

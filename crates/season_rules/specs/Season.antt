@@ -22,8 +22,9 @@ use Rattle.scheduler.specs.Model.{Model}
 use Rattle.scheduler.specs.Answers.{Reply, Result, accepts, code, verdict}
 use Rattle.history.specs.Calls.{submit, order, complete, tick}
 use Rattle.guarantees.specs.Rules.{call}
-use Rattle.script_rules.specs.Lines.{Line}
-use Rattle.script_rules.specs.Writing.{andField, noRow}
+use Rattle.desk_lines.specs.Lines.{Line}
+use Rattle.script_rules.specs.Writing.{noRow}
+use Rattle.desk_lines.specs.DeskLine.{andField}
 use Rattle.script_rules.specs.Printout.{printoutBy}
 use Rattle.season_rules.specs.declared.Arrival.{Arrival}
 use Rattle.season_rules.specs.Reading.{longestList, mostLines, openingOf, arrivalOf}

@@ -5,3 +5,4 @@ pub mod IndexComputed
 pub mod UsedNodes
 pub mod EarliestStart
 pub mod ProfileLaws
+pub mod EveryMinute

@@ -14,4 +14,4 @@ returns c = rw (c .before .enum-told .given .1) (omega (arith, c .cleanup .ensur
 
 pub freed-from-spec : {M : Type 1} → statement M
 freed-from-spec =
-    tie.close (tie.spec (λ c. search needs) (λ c κs. search needs) add-result (λ c. search needs) returns (λ c. search needs))
+    tie.close (tie.spec (λ c. search needs) (λ c κs. search needs) add-result (λ c. search needs) returns (λ c. rw (c .enum-told2 .given .1)))

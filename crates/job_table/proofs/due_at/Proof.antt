@@ -47,4 +47,9 @@ returns-7 c =
 pub due-at-spec : {M : Type 1} → statement M
 due-at-spec =
     tie.close (tie.spec (λ c. search needs) (λ c. search needs) (λ c. search needs) (λ c. search needs) (λ c. search needs) returns
-    (λ c κs. search needs) returns-2 (λ c. search needs) (λ c κs. search needs) returns-3 (λ c. search needs) (λ c. search needs) returns-6 returns-7)
+    (λ c κs. search needs) returns-2 (λ c. search needs) (λ c κs. search needs) returns-3
+    (λ c. let r : isRunning (c .before .before .args .job) ≡ false = ap running? (c .enum-told .given .1) in
+    let n : isCleaning (c .before .before .args .job) ≡ false = ap cleaning? (c .enum-told .given .1) in rw (r, n))
+    (λ c. let r : isRunning (c .before .before .args .job) ≡ false = ap running? (c .enum-told2 .given .1) in
+    let n : isCleaning (c .before .before .args .job) ≡ false = ap cleaning? (c .enum-told2 .given .1) in rw (r, n))
+    returns-6 returns-7)

@@ -2,7 +2,7 @@
 -- Assumes nothing.
 use mathlib.Core.Path.{sym, ap, _∙_}
 use native.Mathlib.Omega.{arith}
-use Rattle.script_rules.specs.Reading.{deskWord, withKind, kindOf, openingIn}
+use Rattle.desk_lines.specs.DeskLine.{deskWord, withKind, kindOf, openingIn}
 use Rattle.script_reading.specs.Meaning.{follows, form-said, openingOf, with-read}
 use borrow.Author.Needs.{needs}
 use Rattle.script_reading.proofs.read_first.Statement.{statement}

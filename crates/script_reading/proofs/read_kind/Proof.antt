@@ -1,7 +1,7 @@
 -- `script_reading::read_kind` meets its contract.
 -- Assumes nothing.
 use mathlib.Core.Path.{sym, _∙_}
-use Rattle.script_rules.specs.Reading.{kindOf}
+use Rattle.desk_lines.specs.DeskLine.{kindOf}
 use borrow.Author.Needs.{needs}
 use Rattle.script_reading.proofs.read_kind.Statement.{statement}
 use Rattle.script_reading.proofs.read_kind.Tie as tie

@@ -9,7 +9,8 @@ use native.Mathlib.Omega.{arith}
 use Rattle.text.specs.Letters.{capitalOf}
 use Rattle.scheduler.specs.declared.Departure.the-variants.{Complete, Cancel}
 use Rattle.history.specs.Calls.{Command}
-use Rattle.script_rules.specs.Reading.{hasForm, letterAt, inWord, endWord, waitWord, dropWord, commandIn}
+use Rattle.script_rules.specs.Reading.{inWord, endWord, waitWord, dropWord, commandIn}
+use Rattle.desk_lines.specs.DeskLine.{hasForm, letterAt}
 use Rattle.script_reading.specs.Meaning.{formFrom, form-said, whenRead, withNumbers, with-read, submissionOf, betweenOf, departureOf, waitOf}
 use borrow.Author.Needs.{needs}
 use Rattle.script_reading.proofs.read_later.Statement.{statement}

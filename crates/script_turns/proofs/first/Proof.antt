@@ -8,7 +8,7 @@ use lib.Seq.{length-take-le}
 use Rattle.text.specs.LineLaws.{begins-at}
 use Rattle.paging.specs.Players.{turned-as, turned-none}
 use Rattle.script_rules.specs.Printout.{longestScript}
-use Rattle.script_rules.specs.Reading.{openingIn}
+use Rattle.desk_lines.specs.DeskLine.{openingIn}
 use Rattle.script_play.specs.Pieces.{starts}
 use Rattle.script_turns.specs.FirstTurn.{first-by, first-line}
 use borrow.Author.Needs.{needs}

@@ -6,7 +6,7 @@ use lib.ListN.{length}
 use borrow.Author.Needs.{needs}
 use borrow.Author.Tests.{eq-eqb, ne-eqb}
 use Rattle.text.specs.Fields.{fieldsOf}
-use Rattle.script_rules.specs.Reading.{withKind, kindOf}
+use Rattle.desk_lines.specs.DeskLine.{withKind, kindOf}
 use Rattle.script_reading.specs.Meaning.{follows, with-read}
 use Rattle.season_rules.specs.Reading.{openingIn}
 use Rattle.season_reading.specs.Meaning.{openingOf}

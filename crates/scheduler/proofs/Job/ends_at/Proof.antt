@@ -1,5 +1,5 @@
 use mathlib.Core.Path.{_≡_, ap}
-use mathlib.Core.Bool.{true}
+use mathlib.Core.Bool.{true, false}
 use native.Mathlib.Omega.{arith}
 use Prim.Native.Nat.{_+_}
 use borrow.Author.Tests.{ne-eqb}
@@ -30,4 +30,6 @@ returns-4 c =
 pub ends-at-spec : {M : Type 1} → statement M
 ends-at-spec =
     tie.close (tie.spec (λ c. search needs) (λ c. search needs) (λ c. search needs) returns (λ c. search needs) (λ c κs. search needs)
-    (λ c. search needs) (λ c. search needs) (λ c. search needs) returns-4 (λ c. search needs))
+    (λ c. search needs) (λ c. let r : isRunning (c .before .before .args .self) ≡ false = ap running? (c .enum-told .given .1) in rw r)
+    (λ c. let r : isRunning (c .before .before .args .self) ≡ false = ap running? (c .enum-told2 .given .1) in rw r) returns-4
+    (λ c. let r : isRunning (c .before .before .args .self) ≡ false = ap running? (c .enum-told4 .given .1) in rw r))

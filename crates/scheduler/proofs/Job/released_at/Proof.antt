@@ -1,5 +1,5 @@
 use mathlib.Core.Path.{_≡_, ap}
-use mathlib.Core.Bool.{true}
+use mathlib.Core.Bool.{true, false}
 use native.Mathlib.Omega.{arith}
 use Prim.Native.Nat.{_+_}
 use borrow.Author.Tests.{ne-eqb}
@@ -30,4 +30,6 @@ returns-5 c =
 pub released-at-spec : {M : Type 1} → statement M
 released-at-spec =
     tie.close (tie.spec (λ c. search needs) (λ c. search needs) (λ c. search needs) (λ c. search needs) returns (λ c κs. search needs)
-    (λ c. search needs) (λ c. search needs) (λ c. search needs) returns-5)
+    (λ c. let r : isCleaning (c .before .before .args .self) ≡ false = ap cleaning? (c .enum-told .given .1) in rw r)
+    (λ c. let r : isCleaning (c .before .before .args .self) ≡ false = ap cleaning? (c .enum-told2 .given .1) in rw r)
+    (λ c. let r : isCleaning (c .before .before .args .self) ≡ false = ap cleaning? (c .enum-told3 .given .1) in rw r) returns-5)

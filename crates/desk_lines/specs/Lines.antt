@@ -1,4 +1,4 @@
--- The lines of a script. Document 01: "Text lines, each closed by byte 10".
+-- The lines of a text. Document 01: "Text lines, each closed by byte 10".
 -- Assumes nothing.
 use mathlib.Core.Bool.{Bool, true, false, cond}
 use mathlib.Core.List.{List, [], _∷_}

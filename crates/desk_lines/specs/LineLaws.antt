@@ -12,7 +12,7 @@ use borrow.Author.Tests.{ltb-true, ltb-false}
 use Rattle.lists.specs.Tests.{case}
 use Rattle.text.specs.Prefixes.{upto, upto-take, upto-le}
 use Rattle.text.specs.Lines.{lineAt}
-use Rattle.script_rules.specs.Lines.{Line, inLine, linesOf}
+use Rattle.desk_lines.specs.Lines.{Line, inLine, linesOf}
 
 -- the line at a place, and where the next one begins
 abbrev pub lineOf : List ℕ → ℕ → Line
