@@ -7,7 +7,7 @@ use mathlib.Core.Bool.{true, false, cond}
 use mathlib.Core.List.{List, _++_, map, append-nil}
 use mathlib.Core.Option.{Option, none, some}
 use lib.Dec.{eqb}
-use lib.ListN.{length, getD, set, take, drop, length-map, drop-of-length-le}
+use lib.ListN.{length, getD, set, take, drop, length-map, length-append, length-drop, drop-of-length-le}
 use lib.Seq.{take-all, length-take-le, getD-append-add, getD-drop}
 use borrow.Author.Tests.{eq-eqb, ne-eqb}
 use Rattle.lists.specs.Loops.{mapped-set, mapped-skip}
@@ -38,6 +38,19 @@ pub record Notes (t m : ℕ) (d e : Scheduler) (i : ℕ) : Type 0 where
   pub scheduler-is : e ≡ withJobs d (map (noting (told t m)) (take i (d .jobs)) ++ drop i (d .jobs))
 
 module _ {t m : ℕ} {d e : Scheduler} {i : ℕ} (v : Notes t m d e i) (len : length (d .jobs) ≡ 64) where
+  -- the slots stay 64
+  pub notes-length : length (e .jobs) ≡ 64
+  notes-length =
+      omega (
+        arith,
+        ap (λ (y : Scheduler). length (y .jobs)) (v .scheduler-is),
+        length-append (map (noting (told t m)) (take i (d .jobs))) (drop i (d .jobs)),
+        length-map (take i (d .jobs)) (noting (told t m)),
+        length-take-le i (d .jobs) (omega (arith, v .low)),
+        length-drop i (d .jobs),
+        v .low,
+      )
+
   abbrev xs : List Job
   xs = d .jobs
 
