@@ -107,7 +107,7 @@ fn first_within(asked: &[u32; 64], waiting: usize, most: u32) -> usize
 }
 
 // Whether a job fits now, and is over in time or fits the extra nodes.
-fn may_pass(
+pub fn may_pass(
     nodes: u32,
     estimate: u32,
     spare: u32,

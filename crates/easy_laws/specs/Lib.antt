@@ -9,3 +9,4 @@ pub mod Sentences
 pub mod QuietTick
 pub mod Withdrawal
 pub mod EarliestStart
+pub mod KeptRecords

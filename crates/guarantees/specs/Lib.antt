@@ -12,3 +12,4 @@ pub mod Quotas
 pub mod EarliestStart
 pub mod NoGaps
 pub mod Restored
+pub mod RecordedBounds

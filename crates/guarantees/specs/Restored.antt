@@ -3,7 +3,7 @@
 -- Assumes nothing.
 use mathlib.Core.Path.{_≡_, refl, ap, subst, _∙_}
 use mathlib.Core.Bool.{true}
-use mathlib.Core.List.{List, [], _∷_}
+use mathlib.Core.List.{List}
 use Prim.Native.Nat.{ℕ}
 use Rattle.scheduler.specs.declared.Departure.{Departure}
 use Rattle.scheduler.specs.declared.Kind.the-variants.{Conservative}
@@ -21,14 +21,10 @@ use Rattle.checkpoint_laws.specs.RoundTrip.{comes-back}
 use Rattle.checkpoint_laws.specs.Restored.{valid-accepted, restored-lined}
 use Rattle.guarantees.specs.Rules.{call}
 use Rattle.guarantees.specs.Statement.{Start, startOf}
-use Rattle.guarantees.specs.Premise.{Valid, valid-sound, call-valid}
+use Rattle.guarantees.specs.Premise.{Valid, valid-sound}
 use Rattle.guarantees.specs.Proof.{start-valid}
-use Rattle.guarantees.specs.Cleanup.{settings-stay}
+use Rattle.guarantees.specs.Cleanup.{settings-stay, after-valid}
 use Rattle.guarantees.specs.NoGaps.{no-gaps-from}
-
-pub after-valid : (m : Model) (cs : List Call) → Valid m → Valid (after call m cs)
-after-valid m [] v = v
-after-valid m (c ∷ cs) v = after-valid (call m c .model) cs (call-valid m c v)
 
 -- a valid model with the longest estimate that there is comes back from its own lines
 pub valid-comes-back : (m : Model) → Valid m → m .settings .longest ≡ longestEstimate → restored (deskText m) ≡ record { refusal = refusal.None; model = m }

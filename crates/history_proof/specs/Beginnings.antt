@@ -53,11 +53,11 @@ module _ {k : Kind} {R : Rules} {Valid : Model → Type 0} {OnCourse : Model →
       ∙ map-map seen of (m .jobs)
 
   -- every entry is that of a job
-  each : (P : Entry → Type 0) → ((j : Job) → In j (m .jobs) → P (of j)) → (x : Entry) → In x (entriesOf m) → P x
+  pub each : (P : Entry → Type 0) → ((j : Job) → In j (m .jobs) → P (of j)) → (x : Entry) → In x (entriesOf m) → P x
   each P f x i = let r = map-in of (m .jobs) i in subst P (sym (r .2)) (f (r .0) (r .1))
 
   -- whoever waits by the book waits
-  waits-is : (j : Job) → In j (m .jobs) → waits (fateBy (j .state) (j .start) (j .end)) ≡ jobs.isWaiting j
+  pub waits-is : (j : Job) → In j (m .jobs) → waits (fateBy (j .state) (j .start) (j .end)) ≡ jobs.isWaiting j
   waits-is j i = by (j .state) (all-in Live (L .all-live m v) i)
     where
       by : (s : State) → live? s ≡ true → waits (fateBy s (j .start) (j .end)) ≡ waiting? s

@@ -7,3 +7,4 @@ pub mod Cleaning
 pub mod Gone
 pub mod LeastHolds
 pub mod Entries
+pub mod RecordedBounds

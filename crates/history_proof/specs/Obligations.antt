@@ -190,3 +190,10 @@ pub record Seeded (k : Kind) (Valid : Model → Type 0) (OnCourse : Model → �
   pub started : k ≡ Conservative → (m : Model) (j : Job) → Valid m → In j (m .jobs) → j .start ≤ j .promise
   pub forecasts : (m : Model) (j : Job) → Valid m → In j (m .jobs) → isWaiting j ≡ true → 1 ≤ j .forecast → OnCourse m (j .ticket) (j .forecast)
   pub heads : k ≡ Easy → (m : Model) (j : Job) → Valid m → In j (m .jobs) → isWaiting j ≡ true → lowestWaiting m ≡ some (j .ticket) → 1 ≤ j .forecast
+
+-- what EASY owes of its records (document 02, No. 11): who is live after a call was live before, with the same bound, or comes by it, with the bound
+-- that its submission fixes
+pub record Recorded (R : Rules) (Valid : Model → Type 0) : Type 0 where
+  pub records : (m : Model) (c : Call) (k : Job) → Valid m → In k (R m c .model .jobs)
+      → ((j : Job) × In j (m .jobs) × (j .ticket ≡ k .ticket) × (boundOf (m .settings) k ≡ boundOf (m .settings) j))
+      ⊎ (Comes (said R m c) (k .ticket) × (boundOf (m .settings) k ≡ boundAt m))

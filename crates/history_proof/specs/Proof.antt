@@ -79,7 +79,7 @@ over-waits : (p c s m : ℕ) → waits (over p c s m) ≡ true → false ≡ tru
 over-waits p c s m e = case (ltb c (m + p)) (λ q. rw q at e) (λ q. rw q at e)
 
 -- who waits after a call waited before it
-waited : (p c : ℕ) (r : News) (t : ℕ) (f : Fate) → waits (fateAfter p c r t f) ≡ true → waits f ≡ true
+pub waited : (p c : ℕ) (r : News) (t : ℕ) (f : Fate) → waits (fateAfter p c r t f) ≡ true → waits f ≡ true
 waited p c r t waiting e = refl
 waited p c r t (running s) e = case (elem t (r .ended)) (λ q. over-waits p c s c (rw q at e)) (λ q. rw q at e)
 waited p c r t (cleaning s m) e = over-waits p c s m e
@@ -121,22 +121,22 @@ module _ (R : Rules) (Valid : Model → Type 0) (a : Aim) (Course : Model → �
 module _ {k : Kind} {R : Rules} {Valid : Model → Type 0} {OnCourse : Model → ℕ → ℕ → Type 0} (L : Lawful k R Valid OnCourse) where
   -- ### the book after the call
   module _ (m : Model) (c : Call) (v : Valid m) (b : Book) (a : Agrees k OnCourse m b) (u p : ℕ) (u-is : u ≡ unit (m .settings)) (p-is : p ≡ cleanup (m .settings)) where
-    abbrev r : News
+    abbrev pub r : News
     r = said R m c
 
-    abbrev m′ : Model
+    abbrev pub m′ : Model
     m′ = R m c .model
 
-    abbrev c′ : ℕ
+    abbrev pub c′ : ℕ
     c′ = clockAfter r (b .clock)
 
-    abbrev xs : List Entry
+    abbrev pub xs : List Entry
     xs = b .entries ++ map (entry u b) (r .came)
 
-    abbrev ys : List Entry
+    abbrev pub ys : List Entry
     ys = map (marked p c′ r) xs
 
-    abbrev b′ : Book
+    abbrev pub b′ : Book
     b′ = enter u p b r
 
     clock-after : m′ .clock ≡ c′
@@ -157,7 +157,7 @@ module _ {k : Kind} {R : Rules} {Valid : Model → Type 0} {OnCourse : Model →
         ∙ sym (rw (clock-after, cleanup-after) at (L .tells m c v))
 
     -- who waits
-    queue-before : queued (b .entries) ≡ waitingTickets m
+    pub queue-before : queued (b .entries) ≡ waitingTickets m
     queue-before = same-queue (m .jobs) (b .entries) (L .all-live m v) (a .jobs-are)
 
     -- the heads
@@ -173,7 +173,7 @@ module _ {k : Kind} {R : Rules} {Valid : Model → Type 0} {OnCourse : Model →
         ap lowest (queue-seen (map (heard (headOf ys) (r .head)) ys) ∙ ap queue (heard-seen (headOf ys) (r .head) ys) ∙ sym (queue-seen ys))
 
     -- the newcomer's bound is the model's
-    bound-is : boundAt m ≡ b .clock + rank (b .entries) * u
+    pub bound-is : boundAt m ≡ b .clock + rank (b .entries) * u
     bound-is =
         let q : length (keep isWaiting (b .entries)) ≡ length (keep jobs.isWaiting (m .jobs)) =
         sym (length-map (keep isWaiting (b .entries)) entryTicket)
@@ -182,12 +182,12 @@ module _ {k : Kind} {R : Rules} {Valid : Model → Type 0} {OnCourse : Model →
         rw (u-is, a .clock-is, q)
 
     -- an entry before the heads are told: one of the book before, or a newcomer
-    data Came : Entry → Type 0 where
+    pub data Came : Entry → Type 0 where
       old : (x : Entry) → In x (b .entries) → Came x
       new : (o : Newcomer) → In o (r .came) → Came (entry u b o)
 
     -- The walk over the entries after the call: each comes from one before it, and hears a forecast or does not.
-    each : (P : Entry → Type 0)
+    pub each : (P : Entry → Type 0)
         → ((x : Entry) → Came x → (isWaiting (marked p c′ r x) && is (headOf ys) (x .ticket) && not (x .headed)) ≡ false → P (marked p c′ r x))
         → ((x : Entry) → Came x → isWaiting (marked p c′ r x) ≡ true → is (headOf ys) (x .ticket) ≡ true → x .headed ≡ false
         → P (hearing (r .head) (marked p c′ r x)))
@@ -314,7 +314,7 @@ module _ {k : Kind} {R : Rules} {Valid : Model → Type 0} {OnCourse : Model →
         ap (λ (x : Bool). x || not (elem t (queued xs))) (s .0) ∙ ap not (in-queue t (s .1))))
 
     -- every call keeps book and model in agreement
-    agrees-call : Agrees k OnCourse m′ b′
+    pub agrees-call : Agrees k OnCourse m′ b′
     unfolding enter
     agrees-call = record {
       clock-is = sym clock-after;

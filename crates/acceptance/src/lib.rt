@@ -1,0 +1,15 @@
+// Whether a scheduler is one that calls may be made on (document 02, No. 11: "A desk read back is tested"): first each record by itself, then the
+// plan and EASY's queue. Any numbers may stand in it.
+ghost use mathlib.Core.Path.{_≡_};
+ghost use Rattle.scheduler.specs.Model.{view};
+ghost use Rattle.checkpoint_rules.specs.Acceptance.{accepted};
+use scheduler::Scheduler;
+
+pub fn accepted(d: Scheduler) -> bool
+    ensures { λ r. ⌜ r ≡ accepted (view d) ⌝ }
+{
+    if record_acceptance::records_accepted(d) {
+        return plan_acceptance::plan_accepted(d);
+    }
+    false
+}

@@ -1,0 +1,6 @@
+pub mod EveryLoop
+pub mod Plan
+pub mod Tested
+pub mod Queue
+pub mod Rest
+pub mod Stage

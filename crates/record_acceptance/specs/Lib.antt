@@ -1,0 +1,4 @@
+pub mod General
+pub mod Records
+pub mod Slots
+pub mod Together
