@@ -1,3 +1,3 @@
 pub mod Acceptance
 pub mod Texts
-pub mod Vectors
+pub mod Boundaries

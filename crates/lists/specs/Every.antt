@@ -2,10 +2,10 @@
 -- Assumes nothing.
 use mathlib.Core.Path.{_≡_, refl, subst, sym}
 use mathlib.Core.Bool.{Bool, true, false, _&&_}
-use mathlib.Core.List.{List, [], _∷_}
+use mathlib.Core.List.{List, [], _∷_, map}
 use mathlib.Core.Logic.{_⊎_, inl, inr}
-use Rattle.lists.specs.Tests.{case, true-false, both}
-use Rattle.lists.specs.Lists.{any, In, here, there, in-cons}
+use Rattle.lists.specs.Tests.{case, true-false, both, across}
+use Rattle.lists.specs.Lists.{keep, any, In, here, there, in-cons}
 
 -- do all pass it
 abbrev pub every {ℓ} : {A : Type ℓ} → (A → Bool) → List A → Bool
@@ -42,3 +42,22 @@ module _ {A : Type 0} where
   any-some p [] e = true-false false e refl
   any-some p (x ∷ xs) e =
       case (p x) (λ q. (x, here refl, q)) (λ q. let r = any-some p xs (rw q at e) in (r .0, there (r .1), r .2))
+
+  -- of two tests at once
+  pub every-and : (p q : A → Bool) (xs : List A) → every (λ (x : A). p x && q x) xs ≡ (every p xs && every q xs)
+  every-and p q [] = refl
+  every-and p q (x ∷ xs) = rw (every-and p q xs) (across (p x) (q x) (every p xs) (every q xs))
+
+  -- of those that another test keeps
+  pub every-keep : (p q : A → Bool) (xs : List A) → every p (keep q xs) ≡ every (λ (x : A). when (q x) (p x)) xs
+  every-keep p q [] = refl
+  every-keep p q (x ∷ xs) = case (q x) (λ e. rw (e, every-keep p q xs)) (λ e. rw (e, every-keep p q xs))
+
+  -- by another test that says the same of each
+  pub every-cong : (p q : A → Bool) (xs : List A) → ((a : A) → In a xs → p a ≡ q a) → every p xs ≡ every q xs
+  every-cong p q [] f = refl
+  every-cong p q (x ∷ xs) f = rw (f x (here refl), every-cong p q xs (λ a i. f a (there i)))
+
+  pub every-map : {B : Type 0} (p : B → Bool) (f : A → B) (xs : List A) → every p (map f xs) ≡ every (λ (a : A). p (f a)) xs
+  every-map p f [] = refl
+  every-map p f (x ∷ xs) = rw (every-map p f xs)

@@ -8,3 +8,4 @@ pub mod Flat
 pub mod FirstLaws
 pub mod CopyLoop
 pub mod Every
+pub mod EveryLoop

@@ -1,6 +1,6 @@
 -- Lists: what is kept, summed, found and held by each element, and the laws of these.
 -- Assumes nothing.
-use Prim.Native.Nat.{ℕ, zero, suc, _+_, _≤_, _<_}
+use Prim.Native.Nat.{ℕ, zero, suc, _+_, _*_, _≤_, _<_}
 use native.Mathlib.Omega.{arith}
 use mathlib.Core.Path.{_≡_, refl, sym, ap, subst, _∙_}
 use mathlib.Core.Bool.{Bool, true, false, not, _&&_, _||_, cond}
@@ -192,6 +192,16 @@ module _ {A : Type 0} where
   pub sum-picked : (f : A → ℕ) (p : A → Bool) (xs : List A) → sum f (keep p xs) ≡ sum (λ (a : A). on (p a) (f a)) xs
   sum-picked f p [] = refl
   sum-picked f p (x ∷ xs) = case (p x) (λ e. rw e (omega (arith, sum-picked f p xs))) (λ e. rw e (omega (arith, sum-picked f p xs)))
+
+  -- how many of those kept pass a test
+  pub count-kept : (p q : A → Bool) (xs : List A) → sum (λ (x : A). on (q x) 1) (keep p xs) ≡ sum (λ (x : A). on (p x && q x) 1) xs
+  count-kept p q [] = refl
+  count-kept p q (x ∷ xs) = case (p x) (λ e. rw (e, count-kept p q xs)) (λ e. rw e (omega (arith, count-kept p q xs)))
+
+  -- numbers that are each at most n
+  pub sum-to : (f : A → ℕ) (n : ℕ) (xs : List A) → ((a : A) → In a xs → f a ≤ n) → sum f xs ≤ length xs * n
+  sum-to f n [] g = omega arith
+  sum-to f n (x ∷ xs) g = omega (arith, g x (here refl), sum-to f n xs (λ a i. g a (there i)))
 
   -- what weighs nothing may be dropped
   pub sum-kept : (f : A → ℕ) (p : A → Bool) (xs : List A) → ((a : A) → p a ≡ false → f a ≡ 0) → sum f (keep p xs) ≡ sum f xs

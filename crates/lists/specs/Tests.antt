@@ -2,11 +2,11 @@
 -- Assumes nothing.
 use Prim.Native.Nat.{ℕ, _+_, _-_, _≤_, _<_}
 use native.Mathlib.Omega.{arith}
-use mathlib.Core.Path.{_≡_, refl}
+use mathlib.Core.Path.{_≡_, refl, sym}
 use mathlib.Core.Bool.{Bool, true, false, _&&_, _||_}
 use mathlib.Core.Logic.{_⊎_, inl, inr}
 use lib.Dec.{leb, ltb, eqb}
-use borrow.Author.Tests.{leb-true, leb-false, ltb-true, ltb-false, lt-ltb, le-ltb, eqb-true, eqb-false, eq-eqb, ne-eqb}
+use borrow.Author.Tests.{leb-true, leb-false, le-leb, lt-leb, ltb-true, ltb-false, lt-ltb, le-ltb, eqb-true, eqb-false, eq-eqb, ne-eqb}
 
 -- a test decided, with the equation
 pub case {ℓ} : {A : Type ℓ} (b : Bool) → (b ≡ true → A) → (b ≡ false → A) → A
@@ -53,8 +53,20 @@ eqb-sub m w s h =
     (λ e. rw e (eq-eqb (m - w) s (omega (arith, eqb-true (s + w) m e))))
     (λ e. rw e (ne-eqb (m - w) s (λ q. eqb-false (s + w) m e (omega arith))))
 
+pub leb-sub : (m w s : ℕ) → w ≤ m → leb s (m - w) ≡ leb (s + w) m
+leb-sub m w s h =
+    case (leb (s + w) m)
+    (λ e. rw e (le-leb s (m - w) (omega (arith, leb-true (s + w) m e))))
+    (λ e. rw e (lt-leb s (m - w) (omega (arith, leb-false (s + w) m e))))
+
 pub ltb-sub : (m w s : ℕ) → w ≤ m → ltb (m - w) s ≡ ltb m (w + s)
 ltb-sub m w s h =
     case (ltb m (w + s))
     (λ e. rw e (lt-ltb (m - w) s (omega (arith, ltb-true m (w + s) e))))
     (λ e. rw e (le-ltb (m - w) s (omega (arith, ltb-false m (w + s) e))))
+
+-- two tests of one and two of another, each one's together
+pub across : (a b c d : Bool) → (a && b && (c && d)) ≡ (a && c && (b && d))
+across true true c d = refl
+across true false c d = sym (and-right-false c refl)
+across false b c d = refl

@@ -1,4 +1,3 @@
-pub mod EveryLoop
 pub mod Plan
 pub mod Tested
 pub mod Queue

@@ -10,9 +10,9 @@ use lib.ListN.{length, getD, set, take, drop, length-append}
 use lib.Seq.{take-all, length-take-le}
 use borrow.Author.Tests.{le-leb, lt-leb}
 use Rattle.lists.specs.Tests.{on}
-use Rattle.lists.specs.Lists.{keep, sum, In, keep-keep, keep-cong, in-keep, in-getD, length-keep-le}
+use Rattle.lists.specs.Lists.{keep, sum, In, keep-keep, keep-cong, in-keep, in-getD, length-keep-le, sum-to}
 use Rattle.lists.specs.Loops.{sum-drop, sum-done, keep-take-yes, keep-take-no}
-use Rattle.lists.specs.Every.{every}
+use Rattle.lists.specs.Every.{every, every-map}
 use Rattle.spans.specs.declared.Span.{Span}
 use Rattle.spans.specs.Spans.{takes, used}
 use Rattle.spans.specs.UsedNodes.{takes-le}
@@ -28,37 +28,38 @@ use Rattle.scheduler.specs.Limits.{slots, maxNodes}
 use Rattle.scheduler.specs.States.{live?, waiting?, holding?}
 use Rattle.scheduler.specs.Jobs.{unused, isLive, isHolding}
 use Rattle.scheduler.specs.Settings.{until}
-use Rattle.scheduler.specs.Model.{view}
+use Rattle.scheduler.specs.Model.{Model, view}
 use Rattle.jobs.specs.Slots.{Low}
 use Rattle.conservative_rules.specs.Conservative.{span, spans}
 use Rattle.conservative_laws.specs.Validity.{taken, used-jobs}
 use Rattle.easy_rules.specs.Easy.{queue}
-use Rattle.easy_engine.specs.Survey.{Column, nodesOf, running}
+use Rattle.easy_engine.specs.Survey.{Column, nodesOf}
 use Rattle.easy_engine.specs.Columns.{column-at, column-push}
 use Rattle.checkpoint_rules.specs.Acceptance.{planOf}
-use Rattle.plan_acceptance.specs.EveryLoop.{every-map, every-passed, every-failed, every-ended, sum-to}
+use Rattle.lists.specs.EveryLoop.{every-passed, every-failed, every-ended}
 
 -- ## Whom the plan has
 
--- the live ones, and on EASY those that hold nodes
+-- the jobs that are planned or under way: on EASY a waiting job has no start yet
+abbrev pub planIn : Model → List Job
+planIn m = planOf (m .settings .kind) (m .jobs)
+
+-- by the slots: the live ones, and on EASY those that hold nodes
 abbrev pub inPlan : Kind → Job → Bool
 inPlan Conservative j = isLive j
 inPlan Easy j = isHolding j
 
--- of some slots of a scheduler, and of all
 abbrev pub plannedOf : Scheduler → List Job → List Job
 plannedOf d xs = keep (inPlan (d .settings .kind)) xs
 
-abbrev pub planned : Scheduler → List Job
-planned d = plannedOf d (d .jobs)
-
 -- a test that only live jobs pass picks the same among all slots as among the live ones
 module _ (p : State → Bool) (l : (s : State) → (live? s && p s) ≡ p s) where
-  pub among-live : (xs : List Job) → keep (λ (j : Job). p (j .state)) (keep isLive xs) ≡ keep (λ (j : Job). p (j .state)) xs
+  among-live : (xs : List Job) → keep (λ (j : Job). p (j .state)) (keep isLive xs) ≡ keep (λ (j : Job). p (j .state)) xs
   among-live xs =
       keep-keep (λ (j : Job). p (j .state)) isLive xs
       ∙ keep-cong (λ (j : Job). isLive j && p (j .state)) (λ (j : Job). p (j .state)) xs (λ j i. l (j .state))
 
+-- who holds nodes or waits is live
 holding-live : (s : State) → (live? s && holding? s) ≡ holding? s
 holding-live Unused = refl
 holding-live Waiting = refl
@@ -71,19 +72,21 @@ waiting-live Waiting = refl
 waiting-live Running = refl
 waiting-live Cleanup = refl
 
-pub running-slots : (xs : List Job) → running (keep isLive xs) ≡ running xs
-running-slots xs = among-live holding? holding-live xs
-
+-- so the queue and the plan can be read off the slots
 pub queue-slots : (xs : List Job) → queue (keep isLive xs) ≡ queue xs
 queue-slots xs = among-live waiting? waiting-live xs
 
--- the plan of the model
-pub plan-slots : (k : Kind) (xs : List Job) → keep (inPlan k) xs ≡ planOf k (keep isLive xs)
+plan-slots : (k : Kind) (xs : List Job) → keep (inPlan k) xs ≡ planOf k (keep isLive xs)
 plan-slots Conservative xs = refl
-plan-slots Easy xs = sym (running-slots xs)
+plan-slots Easy xs = sym (among-live holding? holding-live xs)
+
+planned-is : (d : Scheduler) → plannedOf d (d .jobs) ≡ planIn (view d)
+unfolding view
+planned-is d = plan-slots (d .settings .kind) (d .jobs)
 
 -- ## Columns
 
+-- the minute from which its nodes are taken
 abbrev pub startOf : Job → ℕ
 startOf j = j .start
 
@@ -94,7 +97,7 @@ pub record PlanColumns (S : Settings) (js : List Job) (held froms untils : List 
   pub untils-are : Column (until S) js untils
   pub count-is : length js ≡ count
 
--- the lists stand for the plan of some jobs
+-- the lists stand for the plan of some jobs, no more than there are slots, whose nodes can be summed
 pub record Planned (held froms untils : List ℕ) (count : ℕ) : Type 0 where
   pub settings : Settings
   pub jobs : List Job
@@ -104,24 +107,15 @@ pub record Planned (held froms untils : List ℕ) (count : ℕ) : Type 0 where
 
 -- ## The survey
 
--- the minutes of the live jobs are those of the clock
-abbrev pub LiveLow : Scheduler → Type 0
-LiveLow d = (j : Job) → In j (view d .jobs) → Low j
+-- no job of the plan has a minute past the last one, so that code can add a hold to it
+abbrev pub PlanLow : Model → Type 0
+PlanLow m = (j : Job) → In j (planIn m) → Low j
 
--- a slot that the plan has is a live job
-pub slot-live : (k : Kind) (j : Job) → inPlan k j ≡ true → isLive j ≡ true
-slot-live Conservative j e = e
-slot-live Easy j e = by (j .state) e
-  where
-    by : (s : State) → holding? s ≡ true → live? s ≡ true
-    by Unused h = h
-    by Waiting h = refl
-    by Running h = refl
-    by Cleanup h = refl
-
-pub slot-in : (d : Scheduler) (i : ℕ) → i < length (d .jobs) → isLive (getD (d .jobs) i unused) ≡ true → In (getD (d .jobs) i unused) (view d .jobs)
-unfolding view
-slot-in d i l e = in-keep isLive (in-getD (d .jobs) i unused l) e
+-- a slot that passes the test of the plan holds a job of it
+pub slot-in : (d : Scheduler) (i : ℕ) → i < length (d .jobs) → inPlan (d .settings .kind) (getD (d .jobs) i unused) ≡ true
+    → In (getD (d .jobs) i unused) (planIn (view d))
+slot-in d i l e =
+    subst (In (getD (d .jobs) i unused)) (planned-is d) (in-keep (inPlan (d .settings .kind)) (in-getD (d .jobs) i unused l) e)
 
 -- one slot more
 module _ (d : Scheduler) {held froms untils : List ℕ} {count : ℕ} (i : ℕ)
@@ -158,8 +152,10 @@ module _ (d : Scheduler) {held froms untils : List ℕ} {count : ℕ} (i : ℕ)
         })
 
   -- all slots
-  pub plan-all : slots ≤ i → PlanColumns (d .settings) (planned d) held froms untils count
-  plan-all l = subst (λ (ys : List Job). PlanColumns (d .settings) (plannedOf d ys) held froms untils count) (take-all i (d .jobs) (omega arith)) v
+  pub plan-all : slots ≤ i → PlanColumns (d .settings) (planIn (view d)) held froms untils count
+  plan-all l =
+      subst (λ (ys : List Job). PlanColumns (d .settings) ys held froms untils count)
+      (ap (plannedOf d) (take-all i (d .jobs) (omega arith)) ∙ planned-is d) v
 
 -- ## The nodes taken in a minute
 
@@ -170,7 +166,7 @@ module _ {held froms untils : List ℕ} {count : ℕ} (p : Planned held froms un
   abbrev ys : List Job
   ys = p .jobs
 
-  -- the sum: at first, one step, at the end, and its size
+  -- a loop adds up what each job takes: at first, one step, at the end, and how large the sum gets
   pub used-first : (t : ℕ) → sum (taken S t) (drop 0 ys) ≡ used t (spans S ys)
   used-first t = sym (used-jobs S t ys)
 
@@ -204,14 +200,15 @@ module _ {held froms untils : List ℕ} {count : ℕ} (p : Planned held froms un
   -- ## Whether every minute fits
 
   module _ (N now : ℕ) where
-    -- in the minute in which this job begins, or now if that is past
+    -- whether the nodes suffice in the minute in which this job begins, or now if that is past
     abbrev pub fitsAt : Job → Bool
     fitsAt j = leb (used (max now (j .start)) (spans S ys)) N
 
+    -- a loop tries this of each job: at first, one step, and at the end
     pub fits-first : every fitsAt (drop 0 ys) ≡ fitsEvery N (spans S ys) now
     fits-first = sym (every-map (λ (x : Span). leb (used (max now (x .from)) (spans S ys)) N) (span S) ys)
 
-    -- one job more, by the minute t in which it begins and the nodes r that are taken then
+    -- t is the minute that is tried, and r the nodes that are taken in it
     module _ (i t r : ℕ) (l : i < count) (a : t ≡ max now (getD froms i 0)) (b : r ≡ used t (spans S ys)) where
       inside : i < length ys
       inside = omega (arith, p .columns .count-is)

@@ -8,9 +8,9 @@ use mathlib.Core.List.{List, [], _∷_}
 use mathlib.Core.Option.{some}
 use lib.Dec.{leb, ltb, eqb}
 use borrow.Author.Tests.{leb-true, leb-false, le-leb, lt-leb, lt-ltb, le-ltb, ne-eqb}
-use Rattle.lists.specs.Tests.{case, on}
+use Rattle.lists.specs.Tests.{case, on, leb-sub}
 use Rattle.lists.specs.Lists.{first, sum, In, sum-zero, sum-cong, sum-picked}
-use Rattle.lists.specs.Every.{every}
+use Rattle.lists.specs.Every.{every, every-cong}
 use Rattle.scheduler.specs.declared.Job.{Job}
 use Rattle.scheduler.specs.declared.Scheduler.{Scheduler}
 use Rattle.scheduler.specs.declared.Settings.{Settings}
@@ -25,14 +25,7 @@ use Rattle.easy_rules.specs.Easy.{queue, free, shadow, extra, qualifies, pick, 
 use Rattle.easy_laws.specs.Settling.{shadow-from}
 use Rattle.checkpoint_rules.specs.Acceptance.{waitingBefore, boundHolds}
 use Rattle.checkpoint_laws.specs.Stages.{ownPlan}
-use Rattle.plan_acceptance.specs.EveryLoop.{every-cong, everyFrom, from-cong}
-
--- a sum tested by a difference
-leb-sub : (m w s : ℕ) → w ≤ m → leb s (m - w) ≡ leb (w + s) m
-leb-sub m w s h =
-    case (leb (w + s) m)
-    (λ e. rw e (le-leb s (m - w) (omega (arith, leb-true (w + s) m e))))
-    (λ e. rw e (lt-leb s (m - w) (omega (arith, leb-false (w + s) m e))))
+use Rattle.lists.specs.EveryLoop.{everyFrom, from-cong}
 
 -- ## What is asked of each
 
@@ -75,12 +68,14 @@ module _ (S : Settings) (t k : ℕ) (j : Job) {u : ℕ} (e : u ≡ unit S) where
 abbrev below : ℕ → List Job → ℕ
 below u js = sum (λ (j : Job). on (ltb (j .ticket) u) 1) js
 
+-- of those that wait, acceptance counts them among all jobs
 below-queue : (u : ℕ) (js : List Job) → waitingBefore u js ≡ below u (queue js)
 below-queue u js =
     sum-cong (λ (j : Job). on (isWaiting j && ltb (j .ticket) u) 1) (λ (j : Job). on (isWaiting j) (on (ltb (j .ticket) u) 1)) js
     (λ j i. case (isWaiting j) (λ w. rw w) (λ w. rw w))
     ∙ sym (sum-picked (λ (j : Job). on (ltb (j .ticket) u) 1) isWaiting js)
 
+-- no job of a list in ticket order stands before its first
 none-below : (u lo : ℕ) (js : List Job) → Asc lo js → u ≤ lo → below u js ≡ 0
 none-below u lo js a l =
     sum-zero (λ (j : Job). on (ltb (j .ticket) u) 1) js (λ j i. rw (le-ltb (j .ticket) u (omega (arith, asc-in lo js a i))))
@@ -108,10 +103,11 @@ from-below f k lo (x ∷ xs) a =
 
 -- ## Those behind the head, together
 
--- nobody of them is chosen
+-- nobody among them passes the test, as acceptance says it of a choice
 abbrev nobody : (Job → Bool) → List Job → Bool
 nobody p js = onChoice (first p js) true (λ j. false)
 
+-- the three tests of one job go to those of the jobs after it
 swapped : (a b c x y z : Bool) → ((a && (b && not c)) && (x && y && z)) ≡ (cond c false x && (b && y) && (a && z))
 swapped true true true x y z = refl
 swapped true true false x y z = refl
@@ -126,6 +122,7 @@ swapped false false true x y z = refl
 swapped false false false true y z = refl
 swapped false false false false y z = refl
 
+-- three tests of each job in turn are three tests of all
 pub apart : (a : ℕ → Job → Bool) (b c : Job → Bool) (k : ℕ) (js : List Job)
     → everyFrom (λ (n : ℕ) (j : Job). a n j && (b j && not (c j))) k js ≡ (nobody c js && every b js && everyFrom a k js)
 apart a b c k [] = refl
@@ -171,7 +168,9 @@ module _ (m : Model) (h : Job) (later : List Job) (e : queue (m .jobs) ≡ h ∷
   -- the test by numbers is the test of the rules
   passes-by : (j : Job) → passesBy S (free m) (extra m (h .nodes)) (t - m .clock) j ≡ qualifies m h j
   unfolding qualifies
-  passes-by j = rw (leb-sub t (m .clock) (holdTime S (j .estimate)) (shadow-from m (h .nodes)))
+  passes-by j =
+      let turned : holdTime S (j .estimate) + m .clock ≡ m .clock + holdTime S (j .estimate) = omega arith in
+      rw (leb-sub t (m .clock) (holdTime S (j .estimate)) (shadow-from m (h .nodes)), turned)
 
   -- the jobs that wait before one are those ahead of it
   bounds-are : Asc 1 (m .jobs) → everyFrom (boundAt S t) 0 (h ∷ later) ≡ every (boundHolds m h) (h ∷ later)

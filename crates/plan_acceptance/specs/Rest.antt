@@ -7,7 +7,7 @@ use mathlib.Core.Bool.{Bool, true, false}
 use mathlib.Core.List.{List, [], _∷_, head?}
 use mathlib.Core.Option.{Option}
 use Rattle.lists.specs.Tests.{case, on}
-use Rattle.lists.specs.Lists.{first, In, keep-in, sum-cong, sum-zero, sum-picked, length-keep-le}
+use Rattle.lists.specs.Lists.{first, In, keep-in, sum-cong, sum-zero, sum-picked}
 use Rattle.lists.specs.FirstLaws.{head-keep}
 use Rattle.spans.specs.Spans.{used}
 use Rattle.spans.specs.UsedNodes.{takes-in}
@@ -31,10 +31,10 @@ use Rattle.easy_laws.specs.Course.{head-in}
 use Rattle.easy_engine.specs.Survey.{nodesOf, running, Held, Lacks}
 use Rattle.checkpoint_rules.specs.Acceptance.{planOf, minutesFit}
 use Rattle.checkpoint_laws.specs.Stages.{ownPlan}
-use Rattle.plan_acceptance.specs.EveryLoop.{everyFrom}
+use Rattle.lists.specs.EveryLoop.{everyFrom}
 use Rattle.plan_acceptance.specs.Plan.{PlanColumns, Planned, queue-slots}
 use Rattle.plan_acceptance.specs.Queue.{restsAt, QueueTimed, nobody-asked, head-starts, rests-all}
-use Rattle.plan_acceptance.specs.Tested.{Tested, begun-by, held-after, held-within}
+use Rattle.plan_acceptance.specs.Tested.{Tested, plan-of, begun-by, held-after, held-within}
 
 -- ## Of a model
 
@@ -59,6 +59,7 @@ module _ (m : Model) (t : Tested m) where
       )
 
   module _ (k : S .kind ≡ Easy) (f : minutesFit m ≡ true) where
+    -- no more nodes are held than there are
     pub held-to : nodesHeld (m .jobs) ≤ S .nodes
     unfolding minutesFit
     held-to =
@@ -69,6 +70,7 @@ module _ (m : Model) (t : Tested m) where
               (subst (λ (x : Kind). fitsEvery (S .nodes) (spans S (planOf x (m .jobs))) (m .clock) ≡ true) k f) (m .clock) (omega arith),
         )
 
+    -- what the search for the shadow needs of a model
     pub releasing : Releasing m
     releasing = record {
       few = t .few;
@@ -87,14 +89,14 @@ pub record Fitting (d : Scheduler) (held froms untils : List ℕ) (count : ℕ) 
   pub fit : minutesFit (view d) ≡ true
   pub columns : PlanColumns (view d .settings) (running (view d .jobs)) held froms untils count
 
--- what the head asks for
+-- the first that waits asks for so many nodes
 pub record HeadAsks (m : Model) (need : ℕ) : Type 0 where
   pub job : Job
   pub later : List Job
   pub first : queue (m .jobs) ≡ job ∷ later
   pub need-is : need ≡ job .nodes
 
--- and that it waits for them until this minute, in which so many nodes are there
+-- it has to wait for them until this minute, in which so many are there
 pub record HeadWaits (m : Model) (need spare minute there : ℕ) : Type 0 where
   pub asks : HeadAsks m need
   pub spare-is : spare ≡ free m
@@ -106,16 +108,11 @@ module _ {d : Scheduler} {heldₗ froms untils : List ℕ} {count : ℕ} (v : Fi
   abbrev m : Model
   m = view d
 
+  -- the lists stand for the plan
   abbrev pub plan-by : Planned heldₗ froms untils count
-  plan-by = record {
-    settings = m .settings;
-    jobs = running (m .jobs);
-    columns = v .columns;
-    few = omega (arith, v .columns .count-is, length-keep-le isHolding (m .jobs), v .tested .few);
-    low = λ j i. omega (arith, v .tested .each j (keep-in isHolding (m .jobs) i .0) .range .nodes-to, v .tested .desk .nodes-to);
-  }
+  plan-by = plan-of m (v .tested) Easy (v .columns)
 
-  -- the nodes that are free now
+  -- the nodes n that the plan takes now, and what they leave
   module _ (n : ℕ) (e : n ≡ used (d .clock) (spans (m .settings) (running (m .jobs)))) where
     pub used-to : n ≤ d .settings .nodes
     unfolding view
@@ -125,6 +122,7 @@ module _ {d : Scheduler} {heldₗ froms untils : List ℕ} {count : ℕ} (v : Fi
     unfolding view
     spare-free = omega (arith, e, used-now m (v .tested))
 
+  -- code reads off the slots what the first that waits asks for: nothing where nobody waits
   module _ (need : ℕ) (a : need ≡ onChoice (first isWaiting (d .jobs)) 0 nodesOf) where
     asked : need ≡ onChoice (head? (queue (m .jobs))) 0 nodesOf
     unfolding view
@@ -147,6 +145,7 @@ module _ {d : Scheduler} {heldₗ froms untils : List ℕ} {count : ℕ} (v : Fi
         by [] e = absurd (z (asked ∙ ap (λ (q : List Job). onChoice (head? q) 0 nodesOf) e))
         by (h ∷ later) e = record { job = h; later = later; first = e; need-is = asked ∙ ap (λ (q : List Job). onChoice (head? q) 0 nodesOf) e }
 
+  -- the clock and the latest minute of the search, as code has them
   pub clock-low : d .clock ≤ limit.horizon
   unfolding view
   clock-low = v .tested .desk .clock-to
@@ -156,7 +155,7 @@ module _ {d : Scheduler} {heldₗ froms untils : List ℕ} {count : ℕ} (v : Fi
   latest-by latest e = e
 
   module _ (spare : ℕ) (s : spare ≡ free m) where
-    -- the lists are those of the jobs that hold nodes
+    -- the lists stand for the jobs that hold nodes
     abbrev pub held-by : Held heldₗ untils count spare
     held-by = record {
       model = m;
@@ -172,10 +171,12 @@ module _ {d : Scheduler} {heldₗ froms untils : List ℕ} {count : ℕ} (v : Fi
     }
 
   module _ {need : ℕ} (h : HeadAsks m need) where
+    -- no more than the machine has
     pub need-to : need ≤ m .settings .nodes
     need-to = omega (arith, h .need-is, v .tested .each (h .job) (head-in m (h .job) (h .later) (h .first) .0) .range .nodes-to)
 
     module _ (spare : ℕ) (s : spare ≡ free m) where
+      -- it fits now, or lacks nodes
       pub head-fits : need ≤ spare → false ≡ ownPlan Easy m
       head-fits l = sym (head-starts m (h .job) (h .later) (h .first) (omega (arith, h .need-is)))
 
@@ -190,6 +191,7 @@ module _ {d : Scheduler} {heldₗ froms untils : List ℕ} {count : ℕ} (v : Fi
   -- ## Where the head waits
 
   module _ {need spare minute there : ℕ} (w : HeadWaits m need spare minute there) where
+    -- then its nodes are there; no sum of the queue's tests leaves its range; and these tests decide
     pub enough : need ≤ there
     enough =
         omega (

@@ -3,7 +3,7 @@
 // numbers, and the tests go over these.
 ghost use mathlib.Core.Path.{_≡_};
 ghost use mathlib.Core.Bool.{true, _&&_};
-ghost use Prim.Native.Nat.{_+_, _-_, max};
+ghost use Prim.Native.Nat.{_-_, max};
 ghost use lib.Dec.{leb, ltb};
 ghost use Rattle.lists.specs.Tests.{on};
 ghost use Rattle.lists.specs.Lists.{first};
@@ -17,8 +17,8 @@ ghost use Rattle.conservative_rules.specs.Conservative.{spans};
 ghost use Rattle.easy_rules.specs.Easy.{queue, onChoice};
 ghost use Rattle.easy_engine.specs.Survey.{Blank, nodesOf};
 ghost use Rattle.checkpoint_laws.specs.Stages.{ownPlan, recordsAccepted, planAccepted};
-ghost use Rattle.plan_acceptance.specs.EveryLoop.{everyFrom};
-ghost use Rattle.plan_acceptance.specs.Plan.{inPlan, planned, LiveLow, PlanColumns, Planned};
+ghost use Rattle.lists.specs.EveryLoop.{everyFrom};
+ghost use Rattle.plan_acceptance.specs.Plan.{planIn, inPlan, PlanLow, PlanColumns, Planned};
 ghost use Rattle.plan_acceptance.specs.Queue.{restsAt, Timed, QueueTimed};
 ghost use Rattle.plan_acceptance.specs.Rest.{Fitting};
 use scheduler::Job;
@@ -47,16 +47,16 @@ fn free_from(job: Job, settings: Settings) -> u32
     job.start + settings.hold_time(job.estimate as u32)
 }
 
-// Of the jobs that the plan has, in order: their nodes, the minutes from which these are taken, and those from which they are free again. The
-// slots may stand in any order.
+// Of the jobs that the plan has, in order: their nodes, the minutes from which these are taken, and those from which they are free again.
+// Unused slots may stand between them.
 fn survey(
     d: Scheduler,
     held: &mut [u32; 64],
     froms: &mut [u32; 64],
     untils: &mut [u32; 64],
 ) -> usize
-    requires { ⌜ LiveLow d × Blank (now held) × Blank (now froms) × Blank (now untils) ⌝ }
-    ensures { λ r. ⌜ PlanColumns (d .settings) (planned d) (now (held .exit)) (now (froms .exit)) (now (untils .exit)) r ⌝ }
+    requires { ⌜ PlanLow (view d) × Blank (now held) × Blank (now froms) × Blank (now untils) ⌝ }
+    ensures { λ r. ⌜ PlanColumns (d .settings) (planIn (view d)) (now (held .exit)) (now (froms .exit)) (now (untils .exit)) r ⌝ }
 {
     let settings = d.settings;
     let kind = settings.kind;

@@ -1,4 +1,3 @@
-pub mod General
 pub mod Records
 pub mod Slots
 pub mod Together

@@ -10,7 +10,7 @@ use lib.Dec.{ltb}
 use lib.ListN.{length, getD, drop, drop-of-length-le}
 use lib.Seq.{drop-cons}
 use borrow.Author.Tests.{lt-ltb, le-ltb}
-use Rattle.lists.specs.Tests.{case, on, and-right-false}
+use Rattle.lists.specs.Tests.{case, on, and-right-false, across}
 use Rattle.lists.specs.Lists.{keep}
 use Rattle.lists.specs.Every.{every}
 use Rattle.scheduler.specs.declared.Job.{Job}
@@ -18,7 +18,6 @@ use Rattle.scheduler.specs.declared.Tenant.{Tenant}
 use Rattle.scheduler.specs.Jobs.{unused, isLive}
 use Rattle.scheduler.specs.Table.{ofTenant}
 use Rattle.checkpoint_rules.specs.Acceptance.{ascending}
-use Rattle.record_acceptance.specs.General.{across}
 
 module _ (p : Job → Bool) where
   -- the loop goes on to the end: each live job's ticket is above that of the live job before it, 0 before the first, and its record passes

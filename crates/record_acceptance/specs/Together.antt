@@ -3,7 +3,7 @@
 use mathlib.Core.Path.{_≡_, refl, sym, ap, _∙_}
 use mathlib.Core.Bool.{Bool, true, false, _&&_, and-true, and-false}
 use lib.Dec.{leb, ltb}
-use Rattle.lists.specs.Every.{every, when}
+use Rattle.lists.specs.Every.{every, when, every-and, every-keep}
 use Rattle.scheduler.specs.declared.Kind.{Kind}
 use Rattle.scheduler.specs.declared.Kind.the-variants.{Conservative, Easy}
 use Rattle.scheduler.specs.declared.Settings.{Settings}
@@ -15,7 +15,6 @@ use Rattle.scheduler.specs.Table.{liveOf}
 use Rattle.scheduler.specs.Model.{Model}
 use Rattle.checkpoint_rules.specs.Acceptance.{ascending, deskInRange, recordHolds, planOf, holdsEnd, ranked, lastMinuteHolds}
 use Rattle.checkpoint_laws.specs.Stages.{ownRecords, recordsAccepted}
-use Rattle.record_acceptance.specs.General.{every-and, every-keep}
 use Rattle.record_acceptance.specs.Records.{endsInTime, ownHolds, passes}
 
 -- the same tests in another order: of tickets a and t, of the desk line d, of shares x and y, of records r, e and o

@@ -13,7 +13,7 @@ use Rattle.scheduler.specs.declared.Scheduler.{Scheduler}
 use Rattle.scheduler.specs.Jobs.{unused, isWaiting}
 use Rattle.scheduler.proofs.Lengths.{whole}
 use Rattle.easy_rules.specs.Easy.{queue}
-use Rattle.plan_acceptance.specs.EveryLoop.{everyFrom, from-skipped, from-passed, from-failed, from-ended}
+use Rattle.lists.specs.EveryLoop.{everyFrom, from-skipped, from-passed, from-failed, from-ended}
 use Rattle.plan_acceptance.specs.Queue.{restsAt}
 use Rattle.plan_acceptance.proofs.queue_rests.Statement.{statement}
 use Rattle.plan_acceptance.proofs.queue_rests.Tie as tie

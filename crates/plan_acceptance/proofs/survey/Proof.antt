@@ -7,7 +7,7 @@ use mathlib.Core.Logic.{⊎-elim}
 use lib.ListN.{take}
 use borrow.Author.Needs.{needs}
 use Rattle.scheduler.proofs.Lengths.{whole}
-use Rattle.plan_acceptance.specs.Plan.{PlanColumns, plannedOf, few-so-far, slot-live, slot-in, plan-skips, plan-takes, plan-all}
+use Rattle.plan_acceptance.specs.Plan.{PlanColumns, plannedOf, few-so-far, slot-in, plan-skips, plan-takes, plan-all}
 use Rattle.plan_acceptance.proofs.survey.Statement.{statement}
 use Rattle.plan_acceptance.proofs.survey.Tie as tie
 
@@ -48,7 +48,7 @@ free-from-requires c κs =
     let l = w .before .before .before .loop in
     let s = w .before .before .before .before .before in
     let d = s .args .t1 in
-    s .pre .0 _ (slot-in d (l .i) (omega (arith, whole d (s .good .0))) (slot-live (d .settings .kind) _ (sym (w .is-planned .ensures) ∙ c .before .if1 .taken)))
+    s .pre .0 _ (slot-in d (l .i) (omega (arith, whole d (s .good .0))) (sym (w .is-planned .ensures) ∙ c .before .if1 .taken))
 
 mul-untils : tie.Need-mul-untils Inv-loop μ-loop
 mul-untils c = omega (arith, few (c .before .before .before .before .before))

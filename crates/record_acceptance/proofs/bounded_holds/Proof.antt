@@ -7,12 +7,11 @@ use native.Mathlib.Omega.{arith}
 use lib.Dec.{leb}
 use borrow.Author.Needs.{needs}
 use borrow.Author.Tests.{leb-true}
-use Rattle.lists.specs.Tests.{both}
+use Rattle.lists.specs.Tests.{both, leb-sub}
 use Rattle.scheduler.specs.Limits.{horizon}
 use Rattle.scheduler.specs.Settings.{unit, holdTime}
 use Rattle.scheduler.specs.Times.{hold-le, units-le}
 use Rattle.checkpoint_rules.specs.Acceptance.{inRange}
-use Rattle.record_acceptance.specs.General.{leb-sub}
 use Rattle.record_acceptance.proofs.bounded_holds.Statement.{statement}
 use Rattle.record_acceptance.proofs.bounded_holds.Tie as tie
 

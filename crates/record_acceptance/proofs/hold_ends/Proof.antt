@@ -6,7 +6,7 @@ use borrow.Author.Needs.{needs}
 use Rattle.scheduler.specs.Limits.{horizon}
 use Rattle.scheduler.specs.Settings.{cleanup, holdTime}
 use Rattle.scheduler.specs.Times.{cleanup-le, hold-le, until-is, until-cleaning}
-use Rattle.record_acceptance.specs.General.{leb-sub}
+use Rattle.lists.specs.Tests.{leb-sub}
 use Rattle.record_acceptance.proofs.hold_ends.Statement.{statement}
 use Rattle.record_acceptance.proofs.hold_ends.Tie as tie
 

@@ -8,13 +8,12 @@ use native.Mathlib.Omega.{arith}
 use lib.ListN.{getD, drop}
 use borrow.Author.Needs.{needs}
 use Rattle.lists.specs.Tests.{on}
-use Rattle.lists.specs.Lists.{sum}
+use Rattle.lists.specs.Lists.{sum, count-kept}
 use Rattle.lists.specs.Loops.{sum-drop, sum-done}
 use Rattle.scheduler.specs.Jobs.{unused, isLive}
 use Rattle.scheduler.specs.Table.{ofTenant}
 use Rattle.scheduler.specs.Model.{view}
 use Rattle.scheduler.proofs.Lengths.{whole}
-use Rattle.record_acceptance.specs.General.{count-kept}
 use Rattle.record_acceptance.specs.Slots.{ofLive}
 use Rattle.record_acceptance.proofs.live_of.Statement.{statement}
 use Rattle.record_acceptance.proofs.live_of.Tie as tie

@@ -1,33 +1,18 @@
 -- Tests that every element of a list passes, in the shape of a loop that goes over it by its index; and a test that is told how many of the list
 -- stand before the element.
 -- Assumes nothing.
-use Prim.Native.Nat.{ℕ, _+_, _*_, _≤_, _<_}
+use Prim.Native.Nat.{ℕ, _+_, _≤_, _<_}
 use native.Mathlib.Omega.{arith}
 use native.Mathlib.Numerals.{add-one}
 use mathlib.Core.Path.{_≡_, refl}
 use mathlib.Core.Bool.{Bool, true, false, _&&_}
-use mathlib.Core.List.{List, [], _∷_, map}
+use mathlib.Core.List.{List, [], _∷_}
 use lib.ListN.{length, getD, drop, drop-of-length-le}
 use lib.Seq.{drop-cons}
-use Rattle.lists.specs.Lists.{keep, sum, In, here, there}
+use Rattle.lists.specs.Lists.{keep}
 use Rattle.lists.specs.Every.{every}
 
 -- ## Of each element by itself
-
-module _ {A : Type 0} where
-  -- a test by another that says the same of each
-  pub every-cong : (p q : A → Bool) (xs : List A) → ((a : A) → In a xs → p a ≡ q a) → every p xs ≡ every q xs
-  every-cong p q [] f = refl
-  every-cong p q (x ∷ xs) f = rw (f x (here refl), every-cong p q xs (λ a i. f a (there i)))
-
-  pub every-map : {B : Type 0} (p : B → Bool) (f : A → B) (xs : List A) → every p (map f xs) ≡ every (λ (a : A). p (f a)) xs
-  every-map p f [] = refl
-  every-map p f (x ∷ xs) = rw (every-map p f xs)
-
-  -- a sum of numbers that are each at most n
-  pub sum-to : (f : A → ℕ) (n : ℕ) (xs : List A) → ((a : A) → In a xs → f a ≤ n) → sum f xs ≤ length xs * n
-  sum-to f n [] g = omega arith
-  sum-to f n (x ∷ xs) g = omega (arith, g x (here refl), sum-to f n xs (λ a i. g a (there i)))
 
 -- the element at an index passes it, does not, or there is none
 module _ {A : Type 0} (z : A) (p : A → Bool) (xs : List A) (i : ℕ) where
