@@ -9,25 +9,34 @@
  * are wiped before another job gets them.
  * Two tenants, the houses A and B, use a desk. It has places for 64 live jobs, waiting, running and in cleanup, and each tenant has a
  * quota of them.
+ * A desk can be written out as lines of text and read back: to go on after the power was off, on another machine or in another program.
  *
- * The premise. Every call is proved for desks that meet it, and says nothing of others:
- *   - a desk is made by hingerota_open_promise or hingerota_open_loose alone, and changed by the calls of this header alone;
+ * The premise. Every call but hingerota_check is proved for desks that meet it, and says nothing of others:
+ *   - a desk is made by hingerota_open_promise, hingerota_open_loose or hingerota_restore alone, and changed by the calls of this header
+ *     alone. One that comes from elsewhere may be used if hingerota_check gives 0 of it: that is so exactly if it meets the premise;
  *   - nobody else writes to it, and no two calls use it at the same time (read it as you like between calls);
- *   - a pointer handed to a call points to a whole desk, or to `room` points, blocks or bytes, and the two do not overlap. It is never
- *     NULL, also where `room` is 0.
- * Openings and calls, refused ones too, are proved to hand back a desk that meets the premise. A copy of a desk is a desk; calls on the
- * one say nothing of the other.
+ *   - a pointer handed to a call points to a whole desk, to `room` points, blocks or bytes, or to a text of `bytes` bytes, and no two of
+ *     them overlap. It is never NULL, also where `room` or `bytes` is 0.
+ * Openings, readings and calls, refused ones too, are proved to hand back a desk that meets the premise. A copy of a desk is a desk; calls
+ * on the one say nothing of the other.
  *
- * What is proved. Each call gives exactly what its definition says (docs/ARCHITECTURE.md): answer, desk, points, blocks and page. Over every
- * list of calls on a desk: a job of a Promise Desk starts no later than its promise; a job of a Loose Desk starts no later than its bound,
- * the minute of its submission + 10,080 and the cleanup for each job that waited then and for itself; every head of a Loose Desk hears a
- * forecast and starts no later; the jobs that run, with those that ended fewer minutes ago than the cleanup has, never hold more nodes
- * than the machine has; and of each tenant these and those that wait are never more than its quota. A promise, a bound and a forecast bind
- * until the job is withdrawn: that was before any of these minutes. A job that is withdrawn never starts. After any call no waiting job of
- * a Promise Desk could begin earlier than planned with all others where they are. A job never starts before a minute that
+ * What is proved. Each call gives exactly what its definition says (docs/ARCHITECTURE.md): answer, desk, points, blocks, page and text.
+ * Over every list of calls on a desk: a job of a Promise Desk starts no later than its promise; a job of a Loose Desk starts no later than
+ * its bound, the minute of its submission + 10,080 and the cleanup for each job that waited then and for itself; every head of a Loose Desk
+ * hears a forecast and starts no later; the jobs that run, with those that ended fewer minutes ago than the cleanup has, never hold more
+ * nodes than the machine has; and of each tenant these and those that wait are never more than its quota. A promise, a bound and a forecast
+ * bind until the job is withdrawn: that was before any of these minutes. A job that is withdrawn never starts. After any call no waiting
+ * job of a Promise Desk could begin earlier than planned with all others where they are. A job never starts before a minute that
  * hingerota_earliest_start gave of it, whatever calls followed. On a Promise Desk a longer estimate never gets an earlier minute, so that a
- * job is promised the minute asked for, or an earlier one, exactly up to the estimate that hingerota_longest_estimate gives. The index agrees with the profile after every call, and the minute found
- * by it is that of the search through every point. Minutes depend on the jobs of both tenants, and are kept for both.
+ * job is promised the minute asked for, or an earlier one, exactly up to the estimate that hingerota_longest_estimate gives. The index
+ * agrees with the profile after every call, and the minute found by it is that of the search through every point. Minutes depend on the
+ * jobs of both tenants, and are kept for both.
+ *
+ * Of a desk that is read back. Every desk that calls made is accepted from its own lines and comes back the same. Two different desks never
+ * have the same lines. Lines that no calls made may be accepted too. A list of calls may begin with any desk read back, and its jobs then
+ * count as the lines give them. The promise, the bound and the forecast that the lines give a job that waits are kept. All of the above
+ * holds, but for one sentence where no calls made the lines: that no waiting job could begin earlier holds from the first early end or
+ * withdrawal on. The same is true of a desk of which hingerota_check gives 0.
  */
 #ifndef HINGEROTA_H
 #define HINGEROTA_H
@@ -51,7 +60,8 @@ enum {
     HINGEROTA_BLOCK_POINTS = 16, /* the points of a block; the last may have fewer */
     HINGEROTA_PAGE_LINES = 66,   /* of a status page */
     HINGEROTA_PAGE_COLUMNS = 72, /* of each, and then byte 10 */
-    HINGEROTA_PAGE_BYTES = 4818  /* together */
+    HINGEROTA_PAGE_BYTES = 4818, /* together */
+    HINGEROTA_TEXT_BYTES = 7375  /* a text of this length is never too short */
 };
 
 /* Why a call is refused. A refused call gives its number and nothing else, and leaves the desk and what is lent as they were. */
@@ -65,7 +75,7 @@ enum {
     HINGEROTA_PAST_LAST_MINUTE = 6,      /* a job whose nodes could be taken after minute 1,000,000; a tick or a wait past it */
     HINGEROTA_NOT_RUNNING = 7,           /* the ticket is of no running job; one in cleanup runs no more */
     /* 8 is given no more: a profile never has more than 129 points */
-    HINGEROTA_TOO_SHORT = 10,            /* the points, the blocks or the page do not fit into what is lent */
+    HINGEROTA_TOO_SHORT = 10,            /* the points, the blocks, the page or the text do not fit into what is lent */
     HINGEROTA_NOT_WAITING = 11,          /* the ticket is of no waiting job */
     HINGEROTA_CLEANUP_OUT_OF_RANGE = 12, /* an opening with a cleanup above 30 */
     HINGEROTA_QUOTAS_OUT_OF_RANGE = 13,  /* an opening with quotas that are not 64 together, or with one of 0 */
@@ -74,7 +84,9 @@ enum {
     /* 9 and 16 to 18 are given to no host: sheets and seasons alone have them */
     HINGEROTA_LEAST_ABOVE_MOST = 19,     /* a job whose least is above its estimate */
     HINGEROTA_BEFORE_LEAST = 20,         /* a running job that would be over before its start + its least */
-    HINGEROTA_WANTED_MINUTE_PAST = 21    /* an inquiry whose minute is before the clock */
+    HINGEROTA_WANTED_MINUTE_PAST = 21,   /* an inquiry whose minute is before the clock */
+    HINGEROTA_TEXT_MALFORMED = 22,       /* a line of the text lacks the form or is unclosed, or there is none */
+    HINGEROTA_TEXT_REJECTED = 23         /* one of the conditions of a desk is broken, in a text or in a desk's place */
 };
 
 enum { HINGEROTA_PROMISE = 0, HINGEROTA_LOOSE = 1 };                                                /* of a desk */
@@ -108,7 +120,8 @@ typedef struct {
 
 /* A live job, or an unused place, which is all 0. `start` is that of a job that has started, and the planned one of a job that waits on a
  * Promise Desk. On a Loose Desk `promise`, and the start of a job that waits, are 0. A job in cleanup has ended and is still live; `end` is
- * the minute in which its run ended, and 0 in every other record. */
+ * the minute in which its run ended, and 0 in every other record. On a Loose Desk a record keeps three values until it leaves; its bound is
+ * `submitted` + `rank` x (10,080 + cleanup). On a Promise Desk they are 0. */
 typedef struct {
     uint32_t ticket;
     uint16_t nodes;
@@ -119,7 +132,10 @@ typedef struct {
     uint32_t start;
     uint32_t promise;
     uint32_t end;
-} hingerota_record; /* 28 bytes */
+    uint32_t submitted; /* the minute of its submission */
+    uint32_t rank;      /* 1 and the number of jobs that waited just before it, 1 to 64 */
+    uint32_t forecast;  /* as it heard it, 0 where it has heard none */
+} hingerota_record; /* 40 bytes */
 
 /* The live jobs stand first, in the order of their tickets. */
 typedef struct {
@@ -131,7 +147,7 @@ typedef struct {
     uint32_t clock;
     uint32_t next; /* the next ticket */
     hingerota_record jobs[64];
-} hingerota_desk; /* 1,820 bytes */
+} hingerota_desk; /* 2,588 bytes */
 
 /* Tickets; the places past the count are 0. */
 typedef struct {
@@ -151,10 +167,11 @@ typedef struct {
     hingerota_tickets started; /* in the order of starting; on a Promise Desk, ascending */
 } hingerota_answer; /* 552 bytes */
 
+/* Of an opening, and of a text that is read back. */
 typedef struct {
     uint32_t refusal;
     hingerota_desk desk;
-} hingerota_opened; /* 1,824 bytes */
+} hingerota_opened; /* 2,592 bytes */
 
 /* `free` nodes are free from `minute` on. */
 typedef struct {
@@ -242,6 +259,36 @@ hingerota_longest hingerota_longest_estimate(const hingerota_desk *d, hingerota_
  * estimate rounded up 6, `waiting`, `running` or `clearing` 10. On a Loose Desk the promise, and the start of a job that waits, is `-`. No
  * number is ever wider than its columns. Refused by 10. The desk is only read. */
 hingerota_shown hingerota_status_page(const hingerota_desk *d, uint8_t *page, size_t room);
+
+/* A desk of either kind is written out: its lines, `count` bytes, are written into `text`, which has places for `room`; those past them
+ * keep what they held. The exact length is enough, and HINGEROTA_TEXT_BYTES always are. Fields are parted by one tab, lines closed by byte
+ * 10, and numbers are decimal. The first line has the word `desk`, `promise` or `loose`, nodes, clock, next ticket, cleanup, quota of A and
+ * quota of B. Then each live job has a line, in the order of tickets: ticket, nodes, estimate, `w` (waiting), `r` (running) or `c` (in
+ * cleanup), start, promise, end, the letter of its tenant, least, submitted, rank and forecast. Refused by 10, with nothing written. The
+ * desk is only read. */
+hingerota_shown hingerota_checkpoint(const hingerota_desk *d, uint8_t *text, size_t room);
+
+/* The desk that a text of such lines gives. Refused by 22 if a line lacks the form or is unclosed, or if there is none: fields are counted
+ * exactly, a number has 1 to 7 digits and no leading zero but 0 itself, and a tenant is one capital letter. If all lines have the form, it
+ * is refused by 23 unless it meets each of these conditions:
+ *   - tickets ascend, from 1 or more, and lie below the next, which is at most 1,000,000;
+ *   - numbers are in their ranges, minutes in 0 to 1,000,000; tenants are A and B; the quotas are at least 1, and 64 together; no tenant
+ *     has more live jobs than its quota; no least is above its estimate; values that a record lacks are 0;
+ *   - running jobs started by now and end later; those in cleanup started, then ended, by now, and their nodes are not free yet;
+ *   - in every minute the machine has the nodes of the jobs that hold them then, by a run, a cleanup or a plan; every such hold ends by
+ *     minute 1,000,000;
+ *   - Promise Desk: no start is after its promise, and the starts of jobs that wait are after now;
+ *   - Loose Desk: no job that waits can start now. The forecast of the first is not before the minute at which its nodes are free, and no
+ *     other that waits has one. Every job was submitted by now, with a rank of 1 to 64. A job that waits and starts at its bound gives its
+ *     nodes back by minute 1,000,000. Its bound is not before the minute at which the nodes of the first are free, + (10,080 + cleanup)
+ *     for each job that waits before it.
+ * A refused reading hands back an empty desk of the Promise kind, with 1 node, minute 0, ticket 1, cleanup 0 and quotas of 63 and 1. */
+hingerota_opened hingerota_restore(const uint8_t *text, size_t bytes);
+
+/* Whether a desk meets the premise, whatever bytes stand in its place: 0 exactly if it does, and 23 if not. It does if its numbers are
+ * those of a desk that meets the conditions above. A kind, a state or a letter that this header does not name, a live record after an
+ * unused one and an unused record that is not all 0 give 23. The desk is only read. */
+uint32_t hingerota_check(const hingerota_desk *d);
 
 #ifdef __cplusplus
 }

@@ -1,4 +1,5 @@
-//! The structs of `raw.rs` have the sizes and offsets of those in `include/hingerota.h`, as a C compiler lays them out.
+//! The structs of `raw.rs` have the sizes and offsets of those in `include/hingerota.h`, as a C compiler lays them out, and the lengths of
+//! `lib.rs` are the header's.
 
 use crate::raw::{Answer, Block, Desk, Earliest, Inquiry, Longest, Opened, Opening, Order, Point, Record, Shown, Tickets};
 use std::mem::{offset_of, size_of};
@@ -22,13 +23,27 @@ macro_rules! layouts {
     }};
 }
 
+/// The numbers that these lines of C print, with the header included.
+fn printed_in_c(name: &str, lines: &str) -> Vec<usize> {
+    let root = Path::new(env!("CARGO_MANIFEST_DIR"));
+    let folder = root.join("target/layout");
+    std::fs::create_dir_all(&folder).unwrap();
+    let (source, program) = (folder.join(name).with_extension("c"), folder.join(name));
+    std::fs::write(&source, format!("#include <stdio.h>\n#include \"hingerota.h\"\n\nint main(void)\n{{\n{lines}    return 0;\n}}\n"))
+        .unwrap();
+    let built = Command::new("gcc").arg("-I").arg(root.join("include")).arg("-o").arg(&program).arg(&source).status().expect("gcc");
+    assert!(built.success());
+    let printed = String::from_utf8(Command::new(&program).output().unwrap().stdout).unwrap();
+    printed.split_whitespace().map(|n| n.parse().unwrap()).collect()
+}
+
 #[test]
 fn layouts_are_those_of_the_header() {
     let (lines, numbers) = layouts! {
         "hingerota_opening" Opening { nodes minute ticket cleanup quota_a quota_b }
         "hingerota_order" Order { nodes estimate tenant least }
         "hingerota_inquiry" Inquiry { nodes tenant minute }
-        "hingerota_record" Record { ticket nodes estimate state tenant least start promise end }
+        "hingerota_record" Record { ticket nodes estimate state tenant least start promise end submitted rank forecast }
         "hingerota_desk" Desk { kind nodes cleanup quota_a quota_b clock next jobs }
         "hingerota_tickets" Tickets { count list }
         "hingerota_answer" Answer { refusal ticket promise reads head forecast ended started }
@@ -39,19 +54,29 @@ fn layouts_are_those_of_the_header() {
         "hingerota_earliest" Earliest { refusal minute }
         "hingerota_longest" Longest { refusal estimate }
     };
-    let root = Path::new(env!("CARGO_MANIFEST_DIR"));
-    let folder = root.join("target/layout");
-    std::fs::create_dir_all(&folder).unwrap();
-    let (source, program) = (folder.join("layout.c"), folder.join("layout"));
-    std::fs::write(&source, format!("#include <stdio.h>\n#include \"hingerota.h\"\n\nint main(void)\n{{\n{lines}    return 0;\n}}\n"))
-        .unwrap();
-    let built = Command::new("gcc").arg("-I").arg(root.join("include")).arg("-o").arg(&program).arg(&source).status().expect("gcc");
-    assert!(built.success());
-    let printed = String::from_utf8(Command::new(&program).output().unwrap().stdout).unwrap();
-    let in_c: Vec<usize> = printed.split_whitespace().map(|n| n.parse().unwrap()).collect();
+    let in_c = printed_in_c("layout", &lines);
     assert_eq!(in_c.len(), numbers.len());
     for ((name, in_rust), in_c) in numbers.iter().zip(in_c) {
         assert_eq!(*in_rust, in_c, "{name}");
+    }
+}
+
+#[test]
+fn lengths_are_those_of_the_header() {
+    let lengths = [
+        ("HINGEROTA_MOST_POINTS", crate::MOST_POINTS),
+        ("HINGEROTA_MOST_BLOCKS", crate::MOST_BLOCKS),
+        ("HINGEROTA_BLOCK_POINTS", crate::BLOCK_POINTS),
+        ("HINGEROTA_PAGE_LINES", crate::PAGE_LINES),
+        ("HINGEROTA_PAGE_COLUMNS", crate::PAGE_COLUMNS),
+        ("HINGEROTA_PAGE_BYTES", crate::PAGE_BYTES),
+        ("HINGEROTA_TEXT_BYTES", crate::TEXT_BYTES),
+    ];
+    let lines: String = lengths.iter().map(|(name, _)| format!("    printf(\"%d \", {name});\n")).collect();
+    let in_c = printed_in_c("lengths", &lines);
+    assert_eq!(in_c.len(), lengths.len());
+    for ((name, in_rust), in_c) in lengths.into_iter().zip(in_c) {
+        assert_eq!(in_rust, in_c, "{name}");
     }
 }
 

@@ -1,12 +1,13 @@
 //! The proved schedulers for a host program in Rust. `../include/hingerota.h` says what each call gives and promises.
 //!
-//! A [`Desk`] is opaque: it is made by an opening and changed by calls alone, and a call borrows it, so that the premise of the proofs is
-//! met by every program that compiles without `unsafe` of its own.
+//! A [`Desk`] is opaque: it is made by an opening, read back from its lines or taken from numbers that were checked, and changed by calls
+//! alone, and a call borrows it, so that the premise of the proofs is met by every program that compiles without `unsafe` of its own.
 
 #[cfg(test)]
 mod layout;
 mod raw;
 
+pub use raw::Desk as Numbers;
 pub use raw::{Answer, Block, Earliest, Inquiry, Longest, Opening, Order, Point, Record, Shown, Tickets};
 
 /// The list of points that always suffices.
@@ -22,6 +23,9 @@ pub const MOST_BLOCKS: usize = MOST_POINTS.div_ceil(BLOCK_POINTS);
 pub const PAGE_LINES: usize = 66;
 pub const PAGE_COLUMNS: usize = 72;
 pub const PAGE_BYTES: usize = PAGE_LINES * (PAGE_COLUMNS + 1);
+
+/// The bytes that always suffice for a desk's lines.
+pub const TEXT_BYTES: usize = 7_375;
 
 /// The two tenants of a machine, by their letters.
 pub const TENANT_A: u32 = b'A' as u32;
@@ -41,8 +45,8 @@ pub struct Desk {
     raw: raw::Desk,
 }
 
-/// A refused opening: its number, and the desk that it hands back, of 1 node, at minute 0, with first ticket 1, cleanup 0 and quotas of 63
-/// and 1.
+/// A refused opening, or a text that is refused: its number, and the desk that it hands back, of 1 node, at minute 0, with first ticket 1,
+/// cleanup 0 and quotas of 63 and 1.
 pub struct RefusedOpening {
     pub refusal: u32,
     pub desk: Desk,
@@ -58,6 +62,17 @@ impl Desk {
                 Kind::Loose => raw::hingerota_open_loose(opening),
             }
         };
+        Desk::opened(opened)
+    }
+
+    /// The desk that the lines of a text give, as [`Desk::checkpoint`] writes them; refused by 22 or 23. The desk that a refused text hands
+    /// back is a Promise Desk.
+    pub fn restore(text: &[u8]) -> Result<Desk, Box<RefusedOpening>> {
+        // SAFETY: a slice points to as many bytes as its length says, and these are only read.
+        Desk::opened(unsafe { raw::hingerota_restore(text.as_ptr(), text.len()) })
+    }
+
+    fn opened(opened: raw::Opened) -> Result<Desk, Box<RefusedOpening>> {
         let desk = Desk { raw: opened.desk };
         match opened.refusal {
             0 => Ok(desk),
@@ -65,8 +80,17 @@ impl Desk {
         }
     }
 
-    // SAFETY of the calls: `self.raw` came from an opening or a call, since nothing else makes or changes it; it is borrowed whole, so
-    // nobody else writes it meanwhile; a slice points to as many places as its length says, and is no part of the desk.
+    /// A desk in numbers that come from anywhere; refused by 23 unless they meet the premise.
+    pub fn from_numbers(numbers: Numbers) -> Result<Desk, u32> {
+        match numbers.check() {
+            0 => Ok(Desk { raw: numbers }),
+            refusal => Err(refusal),
+        }
+    }
+
+    // SAFETY of the calls: `self.raw` came from an opening, a reading or a call, or was checked, since nothing else makes or changes it;
+    // it is borrowed whole, so nobody else writes it meanwhile; a slice points to as many places as its length says, and is no part of the
+    // desk.
 
     /// A job is submitted; refused by 14, 1, 2, 19, 15, 5 or 6.
     pub fn submit(&mut self, order: Order) -> Answer {
@@ -123,6 +147,25 @@ impl Desk {
         unsafe { raw::hingerota_status_page(&self.raw, page.as_mut_ptr(), page.len()) }
     }
 
+    /// The desk's lines, into the front of the bytes lent; refused by 10. The exact length is enough, and `TEXT_BYTES` always are. Bytes
+    /// past the text keep what they held.
+    pub fn checkpoint(&self, text: &mut [u8]) -> Shown {
+        unsafe { raw::hingerota_checkpoint(&self.raw, text.as_mut_ptr(), text.len()) }
+    }
+
+    /// The desk's lines.
+    pub fn text(&self) -> Vec<u8> {
+        let mut text = vec![0; TEXT_BYTES];
+        let shown = self.checkpoint(&mut text);
+        text.truncate(shown.count);
+        text
+    }
+
+    /// The desk in numbers, as a host in C has it.
+    pub fn numbers(&self) -> &Numbers {
+        &self.raw
+    }
+
     pub fn kind(&self) -> Kind {
         match self.raw.kind {
             0 => Kind::Promise,
@@ -164,6 +207,14 @@ impl Desk {
     }
 }
 
+impl Numbers {
+    /// 0 exactly if these are the numbers of a desk that meets the premise, and 23 if not.
+    pub fn check(&self) -> u32 {
+        // SAFETY: it is a whole desk, only read, and any numbers may stand in it.
+        unsafe { raw::hingerota_check(self) }
+    }
+}
+
 impl Answer {
     pub fn is_taken(&self) -> bool {
         self.refusal == 0
@@ -194,7 +245,7 @@ pub fn reason(refusal: u32) -> &'static str {
         5 => "ticket 999,999 has been given",
         6 => "past the last minute, 1,000,000",
         7 => "the ticket is not running",
-        10 => "the list, or the page, is too short",
+        10 => "the list, the page or the text is too short",
         11 => "the ticket is not waiting",
         12 => "opened with a cleanup above 30",
         13 => "opened with places that are not 64 together, or with none for a house",
@@ -203,6 +254,8 @@ pub fn reason(refusal: u32) -> &'static str {
         19 => "the least is above the most",
         20 => "the end is before the least",
         21 => "the minute asked for is past",
+        22 => "a line lacks the form or is unclosed, or there is none",
+        23 => "one of the conditions of a desk is broken",
         _ => "no such refusal",
     }
 }

@@ -57,10 +57,19 @@ pub struct Record {
     pub promise: u32,
     /// Of a job in cleanup, the minute in which its run ended; 0 of others.
     pub end: u32,
+    /// On a Loose Desk, the minute of its submission; 0 on a Promise Desk.
+    pub submitted: u32,
+    /// On a Loose Desk, 1 and the number of jobs that waited just before its submission; 0 on a Promise Desk.
+    pub rank: u32,
+    /// On a Loose Desk, the forecast that it heard, if any; else 0.
+    pub forecast: u32,
 }
 
+/// A desk in numbers, as a host in C has it. Any numbers may stand here, also such as no desk has.
 #[repr(C)]
+#[derive(Clone, Copy, PartialEq, Eq, Debug)]
 pub struct Desk {
+    /// 0 Promise, 1 Loose.
     pub kind: u32,
     pub nodes: u32,
     pub cleanup: u32,
@@ -153,4 +162,7 @@ extern "C" {
     pub fn hingerota_earliest_start(d: *const Desk, ticket: u32) -> Earliest;
     pub fn hingerota_longest_estimate(d: *const Desk, inquiry: Inquiry) -> Longest;
     pub fn hingerota_status_page(d: *const Desk, page: *mut u8, room: usize) -> Shown;
+    pub fn hingerota_checkpoint(d: *const Desk, text: *mut u8, room: usize) -> Shown;
+    pub fn hingerota_restore(text: *const u8, bytes: usize) -> Opened;
+    pub fn hingerota_check(d: *const Desk) -> u32;
 }

@@ -2,4 +2,5 @@ pub mod ListCall
 pub mod ProfileCall
 pub mod IndexCall
 pub mod LongestCall
-pub mod PageCall
+pub mod TextCall
+pub mod RestoreCall

@@ -11,10 +11,11 @@ ghost use Rattle.history.specs.Calls as calls;
 ghost use Rattle.easy_rules.specs.EarliestStart.{earliestStart};
 ghost use Rattle.guarantees.specs.Rules.{call};
 ghost use Rattle.guarantees.specs.Premise.{Premise};
+ghost use Rattle.restoring.specs.Restoring.{restoring};
 ghost use Rattle.calls.specs.ProfileCall.{showing, showIn, profileOutcome, pointAt};
 ghost use Rattle.calls.specs.IndexCall.{indexing, indexIn, indexOutcome, blockAt};
 ghost use Rattle.calls.specs.LongestCall.{longestOf};
-ghost use Rattle.calls.specs.PageCall.{ShowsPage};
+ghost use Rattle.calls.specs.TextCall.{ShowsPage, ShowsText};
 use conservative_index::Blocks;
 use conservative_profile::Profile;
 use scheduler::Departure;
@@ -22,6 +23,7 @@ use scheduler::Earliest;
 use scheduler::Inquiry;
 use scheduler::Kind;
 use scheduler::Longest;
+use scheduler::Opened;
 use scheduler::Outcome;
 use scheduler::Refusal;
 use scheduler::Request;
@@ -254,6 +256,34 @@ pub fn status_page(d: Scheduler, page: &mut [u8]) -> Shown
         refusal: Refusal::None,
         count: count,
     }
+}
+
+// The lines of a scheduler of either kind (document 02, No. 11: "A desk must be written out"), into the front of the bytes lent.
+pub fn checkpoint(d: Scheduler, text: &mut [u8]) -> Shown
+    requires { ⌜ Premise d ⌝ }
+    ensures { λ r. ⌜ ShowsText d (now (text .entry)) r (now (text .exit)) ⌝ }
+{
+    let mut page = [0u8; checkpoint_writing::PAGE];
+    let count = checkpoint_writing::put_text(&mut page, d);
+    if text.len() < count {
+        return Shown {
+            refusal: Refusal::TooShort,
+            count: 0,
+        };
+    }
+    text::put_word(text, 0, &page[..count]);
+    Shown {
+        refusal: Refusal::None,
+        count: count,
+    }
+}
+
+// The scheduler that lines give back (document 02, No. 11: "A desk must be written out and read back"). A reading that is refused, by 22 or 23, hands
+// back an empty one.
+pub fn restore(text: &[u8]) -> Opened
+    ensures { λ r. ⌜ r ≡ restoring (now (text .entry)) ⌝ }
+{
+    restoring::restore(text)
 }
 
 // Why a wait of `minutes` is refused, or that it is not: it is then that number of ticks.

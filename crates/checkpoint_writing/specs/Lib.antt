@@ -1,1 +1,2 @@
 pub mod TextParts
+pub mod TextSize

@@ -22,10 +22,6 @@ use Rattle.scheduler.specs.Model.{Model, view}
 use Rattle.desk_lines.specs.DeskLine.{deskWord, andField}
 use Rattle.checkpoint_rules.specs.Texts.{bytesOf, lineText, kindWord, stateWord, deskFields, jobFields, deskLine, jobLine, deskText}
 
--- at most so many
-abbrev pub textBytes : ℕ
-textBytes = 7375
-
 -- a line, field after field
 abbrev rest : List (List ℕ) → List ℕ
 rest [] = 10 ∷ []

@@ -2,18 +2,17 @@
 -- Document 01: "Each call, taken or refused, gets the desk that the last one handed back, or left where it was lent"; "A profile leaves the
 -- desk as it is, and the points lent to it are no part of the desk"; "a `wait` as its steps or as one refused call".
 -- Assumes nothing.
-use mathlib.Core.Path.{_≡_, refl, ap, _∙_}
+use mathlib.Core.Path.{_≡_, refl, ap, subst, _∙_}
 use mathlib.Core.Bool.{false}
 use mathlib.Core.List.{List, map}
 use Prim.Native.Nat.{ℕ}
 use lib.Dec.{eqb}
 use lib.ListN.{length}
-use Rattle.scheduler.specs.declared.Opening.{Opening}
 use Rattle.scheduler.specs.declared.Settings.{Settings}
 use Rattle.scheduler.specs.Limits.{longestEstimate}
 use Rattle.scheduler.specs.Model.{Model, store, view}
 use Rattle.scheduler.specs.Answers.{Reply, answer, replyOf, noTickets}
-use Rattle.scheduler.specs.Opening.{opening, opened}
+use Rattle.scheduler.specs.Opening.{opened}
 use Rattle.easy_rules.specs.EarliestStart.{earliestStart}
 use Rattle.history.specs.Calls.{Call, unchanged, Event, after, events, eventsOf}
 use Rattle.history.specs.Guarantee.{Guarantee}
@@ -21,12 +20,15 @@ use Rattle.guarantees.specs.Rules.{call}
 use Rattle.guarantees.specs.Premise.{Valid, valid-view}
 use Rattle.guarantees.specs.Replies.{reply-back}
 use Rattle.guarantees.specs.Chain.{answerOf, MadeAll, unchanged-refuses, made-keeps}
+use Rattle.guarantees.specs.Statement as start
 use Rattle.guarantees.specs.Statement.{bookOf, Start, startOf}
 use Rattle.calls.specs.ListCall.{listRefusal}
 use Rattle.calls.specs.ProfileCall.{pointsOf}
 use Rattle.calls.specs.IndexCall.{blocksOf}
 use Rattle.calls.specs.LongestCall.{longestOf}
-use Rattle.status_page_rules.specs.StatusPage.{statusPage}
+use Rattle.checkpoint_laws.specs.Restored.{restored-lined}
+use Rattle.hingerota.specs.declared.Opening as host-opening
+use Rattle.hingerota.specs.declared.Opened.{Opened}
 use Rattle.hingerota.specs.declared.Desk.{Desk}
 use Rattle.hingerota.specs.declared.Answer.{Answer}
 use Rattle.hingerota.specs.declared.Point.{Point}
@@ -36,13 +38,13 @@ use Rattle.hingerota.specs.declared.Inquiry.{Inquiry}
 use Rattle.hingerota.specs.declared.Longest.{Longest}
 use Rattle.hingerota.specs.declared.Shown.{Shown}
 use Rattle.hingerota.specs.Mirror.{mirror, mirrorTickets, mirrorAnswer, read, read-mirror, readAnswer, read-answer}
-use Rattle.hingerota.specs.DeskPremise.{opens, opening-longest}
+use Rattle.hingerota.specs.DeskPremise.{opens, promiseOpening, looseOpening, restores, opening-longest}
 use Rattle.hingerota.specs.CallContract.{HostLeaves}
 use Rattle.hingerota.specs.ProfileContract.{HostShowsPoints}
 use Rattle.hingerota.specs.IndexContract.{HostShowsBlocks}
 use Rattle.hingerota.specs.EarliestContract.{earliestOn}
 use Rattle.hingerota.specs.LongestContract.{askedBy, longestOn}
-use Rattle.hingerota.specs.PageContract.{HostShowsPage}
+use Rattle.hingerota.specs.TextContract.{HostShowsBytes}
 use Rattle.hingerota.specs.Waits.{waitRefusalOn, waitNumber}
 
 -- the reply that an answer in numbers says
@@ -68,9 +70,9 @@ pub data HostMade (d : Desk) : Call → Answer → Desk → Type 0 where
   -- and that for a longest estimate
   longestAsked : {l : Longest} (q : Inquiry) → l ≡ longestOn d q
       → HostMade d (unchanged (longestOf (view (read d)) (askedBy q) .refusal)) (refusedBy (l .refusal)) d
-  -- and the status page
-  pageOnLent : {lent after : List ℕ} {s : Shown} → HostShowsPage d lent s after
-      → HostMade d (unchanged (listRefusal statusPage (view (read d)) (length lent))) (refusedBy (s .refusal)) d
+  -- and a call for a text: the status page (`HostShowsPage`) or the lines (`HostShowsText` in `TextContract.antt`)
+  textOnLent : {text : Model → List ℕ} {lent after : List ℕ} {s : Shown} → HostShowsBytes text d lent s after
+      → HostMade d (unchanged (listRefusal text (view (read d)) (length lent))) (refusedBy (s .refusal)) d
   -- and a wait which is refused; one that is not is as many ticks
   waitRefused : {n : ℕ} (minutes : ℕ) → n ≡ waitNumber d minutes → eqb n 0 ≡ false → HostMade d (unchanged (waitRefusalOn d minutes)) (refusedBy n) d
 
@@ -95,17 +97,46 @@ module _ (m : Model) (v : Valid m) (w : m .settings .longest ≡ longestEstimate
       rw (unchanged-refuses m (earliestStart (view (read (mirror (store m)))) ticket .refusal)) (refl, ap (λ (x : Earliest). refusedBy (x .refusal)) q)
   made-is (longestAsked q e) =
       rw (unchanged-refuses m (longestOf (view (read (mirror (store m)))) (askedBy q) .refusal)) (refl, ap (λ (x : Longest). refusedBy (x .refusal)) e)
-  made-is (pageOnLent {lent} {after} {s} w) =
-      rw (unchanged-refuses m (listRefusal statusPage (view (read (mirror (store m)))) (length lent))) (refl, ap (λ (x : Shown). refusedBy (x .refusal)) (w .answers))
+  made-is (textOnLent {text} {lent} {after} {s} w) =
+      rw (unchanged-refuses m (listRefusal text (view (read (mirror (store m)))) (length lent))) (refl, ap (λ (x : Shown). refusedBy (x .refusal)) (w .answers))
   made-is (waitRefused {n} minutes e q) = rw (unchanged-refuses m (waitRefusalOn (mirror (store m)) minutes)) (refl, ap refusedBy e)
 
--- From the desk that an opening or a reading hands back, a refused one too: desk and answers are those of the list of calls, and the book of the
--- calls made and the answers received has the guarantees (document 01: "demand 3"). Of starts with the longest estimate that hosts have.
-pub host-keeps : (s : Start) (cs : List Call) (xs : List Answer) (e : Desk) → startOf s .settings .longest ≡ longestEstimate
-    → MadeAll HostMade (mirror (store (startOf s))) cs xs e
-    → (e ≡ mirror (store (after call (startOf s) cs))) × (xs ≡ map (λ (x : Event). mirrorAnswer (answerOf x)) (events call (startOf s) cs))
-    × Guarantee (startOf s .settings .kind) (startOf s .settings) (bookOf (startOf s) (eventsOf cs (map hostReply xs)))
-host-keeps s cs xs e h l =
-    made-keeps HostMade (λ m. mirror (store m)) (λ r. mirrorAnswer (answer r)) hostReply (startOf s .settings)
-    (λ m c a d v w. made-is m v (ap (λ (S : Settings). S .longest) w ∙ h))
-    (λ m c v. ap replyOf (read-answer (answer (call m c .reply))) ∙ reply-back m c v) s refl l
+-- how a host comes by the desk that a list of calls starts with: `hingerota_open_promise`, `hingerota_open_loose` or `hingerota_restore`
+pub data HostStart : Type 0 where
+  opensPromise : host-opening.Opening → HostStart
+  opensLoose : host-opening.Opening → HostStart
+  restoresText : (text : List ℕ) → HostStart
+
+-- what it hands back, a refused one too
+abbrev pub handedBy : HostStart → Opened
+handedBy (opensPromise o) = opens (promiseOpening o)
+handedBy (opensLoose o) = opens (looseOpening o)
+handedBy (restoresText t) = restores t
+
+abbrev pub startBy : HostStart → Start
+startBy (opensPromise o) = start.opens (promiseOpening o)
+startBy (opensLoose o) = start.opens (looseOpening o)
+startBy (restoresText t) = start.reads t
+
+handed-is : (s : HostStart) → handedBy s .desk ≡ mirror (store (startOf (startBy s)))
+unfolding opened
+handed-is (opensPromise o) = refl
+handed-is (opensLoose o) = refl
+handed-is (restoresText t) = refl
+
+start-longest : (s : HostStart) → startOf (startBy s) .settings .longest ≡ longestEstimate
+start-longest (opensPromise o) = opening-longest (promiseOpening o) refl
+start-longest (opensLoose o) = opening-longest (looseOpening o) refl
+start-longest (restoresText t) = restored-lined t .longest
+
+-- Desk and answers are those of the list of calls, and the book of the calls made and the answers received has the guarantees (document 01: "demand
+-- 3").
+pub host-keeps : (s : HostStart) (cs : List Call) (xs : List Answer) (e : Desk) → MadeAll HostMade (handedBy s .desk) cs xs e
+    → let m = startOf (startBy s) in
+    (e ≡ mirror (store (after call m cs))) × (xs ≡ map (λ (x : Event). mirrorAnswer (answerOf x)) (events call m cs))
+    × Guarantee (m .settings .kind) (m .settings) (bookOf m (eventsOf cs (map hostReply xs)))
+host-keeps s cs xs e l =
+    made-keeps HostMade (λ m. mirror (store m)) (λ r. mirrorAnswer (answer r)) hostReply (startOf (startBy s) .settings)
+    (λ m c a d v w. made-is m v (ap (λ (S : Settings). S .longest) w ∙ start-longest s))
+    (λ m c v. ap replyOf (read-answer (answer (call m c .reply))) ∙ reply-back m c v) (startBy s) refl
+    (subst (λ (x : Desk). MadeAll HostMade x cs xs e) (handed-is s) l)

@@ -3,7 +3,7 @@
 -- Assumes nothing.
 use mathlib.Core.Path.{_≡_, sym, ap, subst, _∙_}
 use mathlib.Core.List.{List, [], _∷_, map}
-use Prim.Native.Nat.{_≤_}
+use Prim.Native.Nat.{ℕ, _≤_}
 use native.Mathlib.Omega.{arith}
 use Rattle.lists.specs.Tests.{case}
 use Rattle.lists.specs.Lists.{All}
@@ -24,6 +24,9 @@ use Rattle.history.specs.Calls.{Call}
 use Rattle.guarantees.specs.Rules.{call}
 use Rattle.guarantees.specs.Premise.{Premise, opened-premise, call-premise}
 use Rattle.guarantees.specs.Cleanup.{settings-stay}
+use Rattle.checkpoint_laws.specs.Restored.{restored-lined}
+use Rattle.restoring.specs.Restoring.{restoring}
+use Rattle.calls.specs.RestoreCall.{restored-premise}
 use Rattle.hingerota.specs.declared.Opening as host-opening
 use Rattle.hingerota.specs.declared.Desk.{Desk}
 use Rattle.hingerota.specs.declared.Record.{Record}
@@ -39,6 +42,10 @@ pub record Handed (d : Desk) : Type 0 where
 -- what an opening, and what a call gives to a host
 abbrev pub opens : Opening → Opened
 opens o = mirrorOpened (opened o)
+
+-- what a reading of lines gives to a host
+abbrev pub restores : List ℕ → Opened
+restores t = mirrorOpened (restoring t)
 
 abbrev pub gives : Desk → Call → Outcome
 gives d c = mirrorOutcome (outcome (call (view (read d)) c))
@@ -64,7 +71,7 @@ promiseOpening o = openingOf Conservative o
 abbrev pub looseOpening : host-opening.Opening → Opening
 looseOpening o = openingOf Easy o
 
-mirror-handed : (s : Scheduler) → s .settings .longest ≡ longestEstimate → Premise s → Handed (mirror s)
+pub mirror-handed : (s : Scheduler) → s .settings .longest ≡ longestEstimate → Premise s → Handed (mirror s)
 mirror-handed s l h = record { mirrored = ap mirror (sym (read-mirror s l)); premise = subst Premise (sym (read-mirror s l)) h }
 
 -- an opening with this longest estimate hands it back, refused or not, and calls keep the settings
@@ -75,6 +82,11 @@ opening-longest o e = case (accepts (openingRefusal o)) (λ a. rw a e) (λ a. rw
 pub opened-handed : (o : Opening) → o .settings .longest ≡ longestEstimate → Handed (opens o .desk)
 unfolding opened store
 opened-handed o e = mirror-handed (opened o .scheduler) (opening-longest o e) (opened-premise o)
+
+-- and so does every reading, a refused one too
+pub restored-handed : (t : List ℕ) → Handed (restores t .desk)
+unfolding store
+restored-handed t = mirror-handed (restoring t .scheduler) (restored-lined t .longest) (restored-premise t)
 
 pub call-handed : (d : Desk) (c : Call) → Handed d → Handed (gives d c .desk)
 unfolding store view read

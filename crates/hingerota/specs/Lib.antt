@@ -1,5 +1,6 @@
 pub mod Mirror
 pub mod DeskPremise
+pub mod Checks
 pub mod CallContract
 pub mod ListContract
 pub mod ProfileContract
@@ -7,5 +8,6 @@ pub mod IndexContract
 pub mod Waits
 pub mod EarliestContract
 pub mod LongestContract
-pub mod PageContract
+pub mod TextContract
+pub mod RestoreContract
 pub mod Chain

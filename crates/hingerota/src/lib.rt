@@ -4,21 +4,25 @@ ghost use mathlib.Core.Path.{_≡_};
 ghost use Rattle.scheduler.specs.Answers.{code};
 ghost use Rattle.history.specs.Calls as calls;
 ghost use Rattle.hingerota.specs.Mirror.{kindOf, kindNumber, stateOf, stateNumber, wanted, mirrorJob, mirror, readRecord, read};
-ghost use Rattle.hingerota.specs.Mirror.{mirrorTickets, mirrorAnswer, mirrorOutcome};
+ghost use Rattle.hingerota.specs.Mirror.{mirrorTickets, mirrorAnswer, mirrorOutcome, mirrorOpened};
+ghost use mathlib.Core.Bool.{true};
 ghost use Prim.Native.Nat.{_<_};
+ghost use Rattle.lists.specs.Every.{every};
 ghost use Rattle.conservative_index.specs.StoredIndex.{blockPlaces};
 ghost use Rattle.conservative_profile.specs.StoredProfile.{places};
-ghost use Rattle.hingerota.specs.DeskPremise.{Handed, gives, opens, promiseOpening, looseOpening};
+ghost use Rattle.hingerota.specs.DeskPremise.{Handed, gives, opens, promiseOpening, looseOpening, restores};
+ghost use Rattle.hingerota.specs.Checks.{isZero, allZero, isJob, follows, inOrder, checkNumber};
 ghost use Rattle.hingerota.specs.CallContract.{HostLeaves};
 ghost use Rattle.hingerota.specs.ListContract.{mirrorShown};
 ghost use Rattle.hingerota.specs.ProfileContract.{mirrorPoint, pointsIn, pointAt, HostShowsPoints};
 ghost use Rattle.hingerota.specs.IndexContract.{mirrorBlock, blocksIn, blockAt, HostShowsBlocks};
 ghost use Rattle.hingerota.specs.EarliestContract.{earliestOn};
 ghost use Rattle.hingerota.specs.LongestContract.{longestOn};
-ghost use Rattle.hingerota.specs.PageContract.{HostShowsPage};
+ghost use Rattle.hingerota.specs.TextContract.{HostShowsPage, HostShowsText};
 ghost use Rattle.hingerota.specs.Waits.{waitNumber};
 use scheduler::Job;
 use scheduler::Kind;
+use scheduler::Refusal;
 use scheduler::Scheduler;
 use scheduler::Settings;
 use scheduler::State;
@@ -121,7 +125,7 @@ pub struct Block {
     pub most: u32,
 }
 
-// What a call for the profile, the index or the status page answers; the refusal is document 01's number.
+// What a call for the profile, the index, the status page or the lines answers; the refusal is document 01's number.
 #[repr(C)]
 pub struct Shown {
     pub refusal: u32,
@@ -335,6 +339,18 @@ fn mirror_outcome(o: scheduler::Outcome) -> Outcome
     }
 }
 
+fn mirror_opened(p: scheduler::Opened) -> Opened
+    ensures { λ r. ⌜ r ≡ mirrorOpened p ⌝ }
+{
+    let refusal = p.refusal;
+    let number = refusal.code();
+    let desk = mirror(p.scheduler);
+    Opened {
+        refusal: number,
+        desk: desk,
+    }
+}
+
 fn mirror_shown(a: calls::Shown) -> Shown
     ensures { λ r. ⌜ r ≡ mirrorShown a ⌝ }
 {
@@ -363,19 +379,107 @@ fn mirror_block(p: spans::Block) -> Block
     }
 }
 
+// ## Whether numbers are a desk
+
+fn all_zero(numbers: &[u32]) -> bool
+    ensures { λ r. ⌜ r ≡ every isZero (now (numbers .entry)) ⌝ }
+{
+    let mut i: usize = 0;
+    while i < numbers.len() {
+        if numbers[i] != 0 {
+            return false;
+        }
+        i += 1;
+    }
+    true
+}
+
+fn is_zero(r: Record) -> bool
+    ensures { λ b. ⌜ b ≡ allZero r ⌝ }
+{
+    let numbers = [
+        r.ticket,
+        r.nodes as u32,
+        r.estimate as u32,
+        r.state,
+        r.tenant as u32,
+        r.least as u32,
+        r.start,
+        r.promise,
+        r.end,
+        r.submitted,
+        r.rank,
+        r.forecast,
+    ];
+    all_zero(&numbers)
+}
+
+// Whether a live record has the number of a state, and the letter of a tenant or nobody's.
+fn is_job(r: Record) -> bool
+    ensures { λ b. ⌜ b ≡ isJob r ⌝ }
+{
+    if r.state <= 3 {
+        let letter = r.tenant as u32;
+        let tenant = Tenant::of_letter(letter);
+        return tenant.letter() == letter;
+    }
+    false
+}
+
+// Whether a record can stand after others, which are all live or not.
+fn follows(live: bool, r: Record) -> bool
+    ensures { λ b. ⌜ b ≡ follows live r ⌝ }
+{
+    if r.state == 0 {
+        return is_zero(r);
+    }
+    if live {
+        return is_job(r);
+    }
+    false
+}
+
+// Whether the live records stand first, and the others are all zero.
+fn in_order(d: Desk) -> bool
+    ensures { λ r. ⌜ r ≡ inOrder true (d .jobs) ⌝ }
+{
+    let mut live = true;
+    let mut i: usize = 0;
+    while i < Scheduler::LIVE {
+        let r = d.jobs[i];
+        if follows(live, r) {
+            live = r.state != 0;
+            i += 1;
+        } else {
+            return false;
+        }
+    }
+    true
+}
+
+fn check(d: Desk) -> u32
+    ensures { λ r. ⌜ r ≡ checkNumber d ⌝ }
+{
+    let why = Refusal::TextRejected;
+    let rejected = why.code();
+    if 1 < d.kind {
+        return rejected;
+    }
+    if in_order(d) {
+        if acceptance::accepted(read(d)) {
+            return 0;
+        }
+        return rejected;
+    }
+    rejected
+}
+
 // ## By value
 
 fn open(o: scheduler::Opening) -> Opened
     ensures { λ r. ⌜ r ≡ opens o ⌝ }
 {
-    let p = Scheduler::open(o);
-    let refusal = p.refusal;
-    let number = refusal.code();
-    let desk = mirror(p.scheduler);
-    Opened {
-        refusal: number,
-        desk: desk,
-    }
+    mirror_opened(Scheduler::open(o))
 }
 
 fn submit(d: Desk, order: Order) -> Outcome
@@ -492,6 +596,13 @@ fn status_page(d: Desk, page: &mut [u8]) -> Shown
     mirror_shown(calls::status_page(read(d), page))
 }
 
+fn checkpoint(d: Desk, text: &mut [u8]) -> Shown
+    requires { ⌜ Handed d ⌝ }
+    ensures { λ r. ⌜ HostShowsText d (now (text .entry)) r (now (text .exit)) ⌝ }
+{
+    mirror_shown(calls::checkpoint(read(d), text))
+}
+
 fn wait_refusal(d: Desk, minutes: u32) -> u32
     requires { ⌜ Handed d ⌝ }
     ensures { λ r. ⌜ r ≡ waitNumber d minutes ⌝ }
@@ -538,6 +649,22 @@ pub extern "C" fn hingerota_open_loose(opening: Opening) -> Opened
         minute: opening.minute,
         ticket: opening.ticket,
     })
+}
+
+// A desk of either kind that is read back from its lines (document 02, No. 11). A refused reading hands back an empty Promise Desk.
+#[no_mangle]
+pub extern "C" fn hingerota_restore(text: &[u8]) -> Opened
+    ensures { λ r. ⌜ r ≡ restores (now (text .entry)) ⌝ }
+{
+    mirror_opened(calls::restore(text))
+}
+
+// Whether these numbers, whatever they are, are a desk that may be passed to the other calls: 0, or 23.
+#[no_mangle]
+pub extern "C" fn hingerota_check(d: &Desk) -> u32
+    ensures { λ r. ⌜ r ≡ checkNumber (now (d .entry)) ⌝ }
+{
+    check(*d)
 }
 
 // A job is submitted.
@@ -640,6 +767,15 @@ pub extern "C" fn hingerota_status_page(d: &Desk, page: &mut [u8]) -> Shown
     ensures { λ r. ⌜ HostShowsPage (now (d .entry)) (now (page .entry)) r (now (page .exit)) ⌝ }
 {
     status_page(*d, page)
+}
+
+// The lines of a desk of either kind (document 02, No. 11), into the front of the bytes lent: 7,375 bytes are always enough.
+#[no_mangle]
+pub extern "C" fn hingerota_checkpoint(d: &Desk, text: &mut [u8]) -> Shown
+    requires { ⌜ Handed (now d) ⌝ }
+    ensures { λ r. ⌜ HostShowsText (now (d .entry)) (now (text .entry)) r (now (text .exit)) ⌝ }
+{
+    checkpoint(*d, text)
 }
 
 // Why a wait of `minutes` is refused, by number, or 0: it is then that number of ticks. The desk is only read.

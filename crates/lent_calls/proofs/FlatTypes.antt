@@ -1,9 +1,10 @@
--- What the calls of this crate share: answers and a submission as flat types, `Outcome` as the struct of the answer and the scheduler,
+-- What the calls of this crate share: answers and a submission as flat types, `Outcome` and `Opened` as the struct of the answer and the scheduler,
 -- `ProfileOutcome` as that of a count, the answer and the points (`Results.antt` of crate lent_lemmas).
 -- Assumes nothing.
-use Rattle.lent_lemmas.proofs.Thin.{Flat, FlatLaws, struct-flat, Two}
+use denote.Struct.Laws as LL
+use Rattle.lent_lemmas.proofs.Thin.{Flat, FlatLaws, struct-flat, enum-flat, Two}
 use Rattle.lent_lemmas.proofs.Fills.{Sheet}
-use Rattle.lent_lemmas.proofs.Results.{struct-laws, two-of, sheet-of}
+use Rattle.lent_lemmas.proofs.Results.{struct-laws, enum-laws, two-of, sheet-of}
 use Rattle.calls.proofs.Shown as W
 use Rattle.calls.proofs.Shown.Laws as W′
 use Rattle.calls.proofs.ProfileOutcome as P
@@ -19,6 +20,10 @@ use Rattle.scheduler.proofs.Answer.Laws as N′
 use Rattle.scheduler.proofs.Submission as X
 use Rattle.scheduler.proofs.Submission.Laws as X′
 use Rattle.scheduler.proofs.Outcome as S
+use Rattle.scheduler.proofs.Refusal as F
+use Rattle.scheduler.proofs.Refusal.Laws as F′
+use Rattle.scheduler.proofs.Opened as O
+use Rattle.scheduler.proofs.Opened.Laws as O′
 use Rattle.scheduler.proofs.Earliest as E
 use Rattle.scheduler.proofs.Earliest.Laws as E′
 use Rattle.scheduler.proofs.Inquiry as J
@@ -41,6 +46,24 @@ submission-laws = struct-laws X.the-type X′.the-laws X′.the-plain
 abbrev pub outcome-two : Two answer D.the-type D′.the-laws
 outcome-two = two-of N.the-type N′.the-laws N′.lowers (S.the-type .name) (S.the-type .D) (λ r. r .answer) D.the-type D′.the-laws D′.lowers (λ r. r .scheduler)
     (S.the-type .to-one)
+
+abbrev pub refusal : Flat
+refusal = enum-flat F.the-type F′.the-laws
+
+pub refusal-laws : FlatLaws refusal
+refusal-laws = enum-laws F.the-type F′.the-laws tt F′.the-plain
+
+abbrev pub opened-two : Two refusal D.the-type D′.the-laws
+opened-two = record {
+  two = O.the-row;
+  name = O.the-type .name;
+  answer = λ r. r .refusal;
+  desk = λ r. r .scheduler;
+  tells = LL.tells O.the-type O′.the-laws;
+  is-answer = λ r vs is. LL.owed O.the-type O′.the-laws r vs is .0;
+  is-desk = λ r vs is. LL.owed O.the-type O′.the-laws r vs is .1 .0;
+  typed = λ 𝓤 H A W r v is. LL.lawful O.the-type O′.the-laws 𝓤 H A W .typed r _ is .0;
+}
 
 abbrev pub earliest : Flat
 earliest = struct-flat E.the-type E′.the-laws

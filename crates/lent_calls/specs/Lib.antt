@@ -2,4 +2,5 @@ pub mod CallContract
 pub mod ListContract
 pub mod ProfileContract
 pub mod IndexContract
+pub mod RestoreContract
 pub mod MixedCalls

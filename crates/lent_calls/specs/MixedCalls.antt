@@ -3,7 +3,7 @@
 -- call on a lent desk counts as its by-value one, a `wait` as its steps or as one refused call"; "A profile leaves the desk as it is, and
 -- the points lent to it are no part of the desk".
 -- Assumes nothing.
-use mathlib.Core.Path.{_≡_, refl, ap, _∙_}
+use mathlib.Core.Path.{_≡_, refl, ap, subst, _∙_}
 use mathlib.Core.Bool.{false}
 use mathlib.Core.List.{List, map}
 use Prim.Native.Nat.{ℕ}
@@ -16,14 +16,15 @@ use Rattle.scheduler.specs.declared.Scheduler.{Scheduler}
 use Rattle.scheduler.specs.Model.{Model, store, view}
 use Rattle.scheduler.specs.Answers.{accepts, answer, replyOf, outcome, refusedAnswer}
 use Rattle.scheduler.specs.Refusals.{waitRefusal}
-use Rattle.scheduler.specs.Opening.{opening, opened}
+use Rattle.scheduler.specs.Opening.{opened}
 use Rattle.history.specs.Calls.{Call, unchanged, after, events, eventsOf}
 use Rattle.history.specs.Guarantee.{Guarantee}
 use Rattle.guarantees.specs.Rules.{call}
 use Rattle.guarantees.specs.Premise.{Valid, valid-view}
 use Rattle.guarantees.specs.Replies.{reply-back}
 use Rattle.guarantees.specs.Chain.{gives, answerOf, MadeAll, unchanged-refuses, made-keeps}
-use Rattle.guarantees.specs.Statement.{bookOf, Start, startOf}
+use Rattle.guarantees.specs.Statement.{bookOf, Start, opens, reads, startOf}
+use Rattle.restoring.specs.Restoring.{restoring}
 use Rattle.calls.specs.declared.Shown.{Shown}
 use Rattle.calls.specs.declared.ProfileOutcome.{ProfileOutcome}
 use Rattle.calls.specs.ProfileCall.{profileOutcome}
@@ -35,7 +36,7 @@ use Rattle.easy_rules.specs.EarliestStart.{earliestStart}
 use Rattle.scheduler.specs.declared.Inquiry.{Inquiry}
 use Rattle.scheduler.specs.declared.Longest.{Longest}
 use Rattle.calls.specs.LongestCall.{longestOf}
-use Rattle.calls.specs.PageCall.{ShowsPage}
+use Rattle.calls.specs.ListCall.{Shows}
 use Rattle.lent_calls.specs.CallContract.{Leaves}
 use Rattle.lent_calls.specs.ProfileContract.{ShowsPoints}
 use Rattle.lent_calls.specs.IndexContract.{ShowsBlocks}
@@ -56,8 +57,9 @@ pub data Made (d : Scheduler) : Call → Answer → Scheduler → Type 0 where
   earliestAsked : {e : Earliest} (ticket : ℕ) → e ≡ earliestStart (view d) ticket → Made d (unchanged (e .refusal)) (refusedAnswer (e .refusal)) d
   -- and that for a longest estimate
   longestAsked : {l : Longest} (q : Inquiry) → l ≡ longestOf (view d) q → Made d (unchanged (l .refusal)) (refusedAnswer (l .refusal)) d
-  -- and the status page, by value or on what is lent
-  pageShown : {lent after : List ℕ} {s : Shown} → ShowsPage d lent s after → Made d (unchanged (s .refusal)) (refusedAnswer (s .refusal)) d
+  -- and a call for a text, by value or on what is lent: the status page (`ShowsPage`) or the lines (`ShowsText` in `calls/specs/TextCall.antt`)
+  textShown : {text : Model → List ℕ} {lent after : List ℕ} {s : Shown} → Shows text d lent s after
+      → Made d (unchanged (s .refusal)) (refusedAnswer (s .refusal)) d
   -- and a wait which is refused; one that is not is as many ticks
   waitRefused : {r : Refusal} (minutes : ℕ) → r ≡ waitRefusal (view d) minutes → accepts r ≡ false → Made d (unchanged r) (refusedAnswer r) d
 
@@ -80,12 +82,24 @@ module _ (m : Model) (v : Valid m) where
   made-is (indexOnLent {lent} {after} {s} w) = unchanged-is (s .refusal)
   made-is (earliestAsked {e} ticket q) = unchanged-is (e .refusal)
   made-is (longestAsked {l} q e) = unchanged-is (l .refusal)
-  made-is (pageShown {lent} {after} {s} w) = unchanged-is (s .refusal)
+  made-is (textShown {text} {lent} {after} {s} w) = unchanged-is (s .refusal)
   made-is (waitRefused {r} minutes e n) = unchanged-is r
 
--- From the scheduler that an opening or a reading hands back, a refused one too: scheduler and answers are those of the list of calls, and the book
--- of the calls made and the answers received has the guarantees (document 01: "demand 3").
-pub mixed-keeps : (s : Start) (cs : List Call) (xs : List Answer) (e : Scheduler) → MadeAll Made (store (startOf s)) cs xs e
+-- the scheduler that a list of calls starts with: the one that `Scheduler::open` or `calls::restore` hands back, or `restore` leaves, a refused one too
+abbrev pub started : Start → Scheduler
+started (opens o) = opened o .scheduler
+started (reads t) = restoring t .scheduler
+
+started-is : (s : Start) → started s ≡ store (startOf s)
+unfolding opened
+started-is (opens o) = refl
+started-is (reads t) = refl
+
+-- Scheduler and answers are those of the list of calls, and the book of the calls made and the answers received has the guarantees (document 01:
+-- "demand 3").
+pub mixed-keeps : (s : Start) (cs : List Call) (xs : List Answer) (e : Scheduler) → MadeAll Made (started s) cs xs e
     → (e ≡ store (after call (startOf s) cs)) × (xs ≡ map answerOf (events call (startOf s) cs))
     × Guarantee (startOf s .settings .kind) (startOf s .settings) (bookOf (startOf s) (eventsOf cs (map replyOf xs)))
-mixed-keeps s cs xs e l = made-keeps Made store answer replyOf (startOf s .settings) (λ m c a d v w. made-is m v) reply-back s refl l
+mixed-keeps s cs xs e l =
+    made-keeps Made store answer replyOf (startOf s .settings) (λ m c a d v w. made-is m v) reply-back s refl
+    (subst (λ (x : Scheduler). MadeAll Made x cs xs e) (started-is s) l)

@@ -6,15 +6,17 @@ ghost use Rattle.history.specs.Calls as calls;
 ghost use Rattle.easy_rules.specs.EarliestStart.{earliestStart};
 ghost use Rattle.guarantees.specs.Premise.{Premise};
 ghost use Rattle.calls.specs.LongestCall.{longestOf};
-ghost use Rattle.calls.specs.PageCall.{ShowsPage};
+ghost use Rattle.calls.specs.TextCall.{ShowsPage, ShowsText};
 ghost use Rattle.lent_calls.specs.CallContract.{Leaves};
 ghost use Rattle.lent_calls.specs.ProfileContract.{ShowsPoints};
 ghost use Rattle.lent_calls.specs.IndexContract.{ShowsBlocks};
+ghost use Rattle.lent_calls.specs.RestoreContract.{Restores};
 use calls::Shown;
 use scheduler::Answer;
 use scheduler::Earliest;
 use scheduler::Inquiry;
 use scheduler::Longest;
+use scheduler::Refusal;
 use scheduler::Scheduler;
 use scheduler::Submission;
 use spans::Block;
@@ -106,4 +108,21 @@ pub fn status_page(d: &Scheduler, page: &mut [u8]) -> Shown
     ensures { λ r. ⌜ ShowsPage (now (d .entry)) (now (page .entry)) r (now (page .exit)) ⌝ }
 {
     calls::status_page(*d, page)
+}
+
+// The lines of the scheduler, into the front of the bytes lent.
+pub fn checkpoint(d: &Scheduler, text: &mut [u8]) -> Shown
+    requires { ⌜ Premise (now d) ⌝ }
+    ensures { λ r. ⌜ ShowsText (now (d .entry)) (now (text .entry)) r (now (text .exit)) ⌝ }
+{
+    calls::checkpoint(*d, text)
+}
+
+// A scheduler read back from its lines, left where one was lent. That one is not read, and may be anything.
+pub fn restore(d: &mut Scheduler, text: &[u8]) -> Refusal
+    ensures { λ r. ⌜ Restores (now (text .entry)) r (now (d .exit)) ⌝ }
+{
+    let o = calls::restore(text);
+    *d = o.scheduler;
+    o.refusal
 }

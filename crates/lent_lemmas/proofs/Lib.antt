@@ -4,11 +4,13 @@ pub mod Fills_ds
 pub mod Own0
 pub mod Own1
 pub mod OwnPasses_ds
+pub mod OwnRenews_ds
 pub mod OwnSlice_ds
 pub mod Params
 pub mod Passes_ds
 pub mod Peek0
 pub mod Peek1
+pub mod Renews_ds
 pub mod Results
 pub mod Thin
 pub mod Thin0

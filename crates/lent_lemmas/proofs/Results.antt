@@ -1,4 +1,4 @@
--- The results of callees by value, as the lemmas take them: a declared struct as a flat type; a struct of the answer and the desk (`Two`
+-- The results of callees by value, as the lemmas take them: a declared struct or enum as a flat type; a struct of the answer and the desk (`Two`
 -- of `Thin.antt`); a struct of a count, the answer and an array (`Sheet` of `Fills.antt`). Each is of any such struct: X is its type, and
 -- `one` says that a value of it is its fields. Assumes nothing.
 use mathlib.Core.Path.{_≡_}
@@ -7,11 +7,14 @@ use mathlib.Core.List.{[], _∷_, List, map}
 use mir.Syntax.{Sym, tcons, tnil, tyArray}
 use mir.Val.{vcons, vnil}
 use denote.RattleType.{Denots}
+use denote.Enum.Declared as ED
+use denote.Enum.Enum.{Few, Plainss}
+use denote.Enum.Laws as EL
 use denote.Struct.Declared.{Declared, fields, field, shape, row}
 use denote.Struct.Field.{Field, rows, usize-field, array-field}
 use denote.Struct.Laws as LL
 use denote.Struct.Struct.{Plains, layout}
-use Rattle.lent_lemmas.proofs.Thin.{FlatLaws, struct-flat, Two}
+use Rattle.lent_lemmas.proofs.Thin.{FlatLaws, struct-flat, enum-flat, Two}
 use Rattle.lent_lemmas.proofs.Fills.{Sheet}
 
 pub struct-laws : (S : Declared) (L : LL.Laws S) → Plains (fields S) → FlatLaws (struct-flat S L)
@@ -19,6 +22,13 @@ struct-laws S L p = record {
   tells = LL.tells S L;
   typed = λ 𝓤 H A W x v is. LL.lawful S L 𝓤 H A W .typed x _ is .0;
   makes = λ 𝓤 H A W. LL.makes S p 𝓤 H A;
+}
+
+pub enum-laws : (E : ED.Declared) (L : EL.Laws E) → Few (ED.shape E) → Plainss (ED.variants E) → FlatLaws (enum-flat E L)
+enum-laws E L few p = record {
+  tells = EL.tells E L;
+  typed = λ 𝓤 H A W x v is. EL.lawful E L 𝓤 H A W few .typed x _ is .0;
+  makes = λ 𝓤 H A W. EL.makes E p 𝓤 H A;
 }
 
 module _ (N : Declared) (LN : LL.Laws N) (wN : LL.Lowered N) (name : Sym) (X : Type 0) (answer : X → N .D) where

@@ -1,6 +1,7 @@
-//! The guarantees of a list of calls, watched by the calls and their answers alone: nothing here looks into a desk.
+//! The guarantees of a list of calls, watched by the calls and their answers alone: nothing here looks into a desk. Of a list that starts
+//! from a desk read back, also by the lines of that desk.
 
-use crate::model::{held, BLOCK_POINTS, HOUSES, LONGEST_ESTIMATE};
+use crate::model::{held, Job, Model, State, BLOCK_POINTS, HOUSES, LONGEST_ESTIMATE};
 use hingerota_host::{Answer, Block, Earliest, Inquiry, Kind, Longest, Order, Point, Tickets};
 use std::collections::BTreeMap;
 
@@ -16,6 +17,7 @@ enum Fate {
     Withdrawn(u32),
 }
 
+#[derive(Clone, Copy)]
 struct Entry {
     nodes: u32,
     house: u32,
@@ -27,6 +29,8 @@ struct Entry {
     hold: u32,
     /// The largest minute given as its earliest start, and the minute in which that was first given.
     earliest: Option<(u32, u32)>,
+    /// Its promise, bound and forecast, if any, are those of a line.
+    of_line: bool,
 }
 
 impl Entry {
@@ -38,6 +42,46 @@ impl Entry {
         };
         std::iter::once(own).chain(self.forecast.map(|minute| ("forecast", minute)))
     }
+
+    /// Document 02, No. 11: "A list of demand 3 may also start from a desk read back, whose stacks count as the lines give them."
+    fn of_line(job: &Job, cleanup: u32) -> Entry {
+        Entry {
+            nodes: job.nodes,
+            house: job.house,
+            promise: job.promise,
+            bound: bound(job.intake, job.r, cleanup),
+            forecast: Some(job.forecast).filter(|minute| *minute > 0),
+            fate: match job.state {
+                State::Waiting => Fate::Waiting,
+                State::Running => Fate::Running(job.start),
+                State::Cleanup => Fate::Ended(job.end),
+            },
+            least: job.least,
+            hold: held(job.estimate),
+            earliest: None,
+            of_line: true,
+        }
+    }
+
+    /// Its nodes are taken, or it waits for them.
+    fn is_live(&self, clock: u32, cleanup: u32) -> bool {
+        match self.fate {
+            Fate::Waiting | Fate::Running(_) => true,
+            Fate::Ended(minute) => clock - minute < cleanup,
+            Fate::Withdrawn(_) => false,
+        }
+    }
+
+    /// What a line has to give as the calls and their answers did; of the Promise Desk no bound.
+    fn told(&self, kind: Kind) -> impl PartialEq + std::fmt::Debug {
+        let bound = (kind == Kind::Loose).then_some(self.bound);
+        (self.nodes, self.house, self.least, self.hold, self.fate, (self.promise, bound, self.forecast))
+    }
+}
+
+/// "Its bound is the clock at intake + r × 10,080", with the clearing.
+fn bound(intake: u32, r: u32, cleanup: u32) -> u32 {
+    intake + r * (LONGEST_ESTIMATE + cleanup)
 }
 
 pub struct Book {
@@ -59,7 +103,8 @@ pub struct Book {
 /// reached; of earliest starts given, and of these, larger ones than before; of jobs that started and had been given one, and of these, in
 /// that very minute, given before it came; of submissions that read points; of indexes beside a profile, and of the blocks of these; of
 /// submissions of what was asked for before them: of those no longer than the estimate given, of longer ones, and of those refused as the
-/// question was.
+/// question was; of desks written out and read back, and of the jobs in their lines; of jobs that waited in the lines of a desk that no
+/// calls need have made, and started by the promise, the bound or the forecast that these gave, or were withdrawn before.
 #[derive(Default, Clone, Copy)]
 pub struct Tried {
     pub promises: u64,
@@ -84,6 +129,12 @@ pub struct Tried {
     pub within_longest: u64,
     pub above_longest: u64,
     pub refused_alike: u64,
+    pub rereads: u64,
+    pub jobs_reread: u64,
+    pub promises_of_lines: u64,
+    pub bounds_of_lines: u64,
+    pub forecasts_of_lines: u64,
+    pub withdrawn_of_lines: u64,
 }
 
 impl Tried {
@@ -110,6 +161,12 @@ impl Tried {
         self.within_longest += other.within_longest;
         self.above_longest += other.above_longest;
         self.refused_alike += other.refused_alike;
+        self.rereads += other.rereads;
+        self.jobs_reread += other.jobs_reread;
+        self.promises_of_lines += other.promises_of_lines;
+        self.bounds_of_lines += other.bounds_of_lines;
+        self.forecasts_of_lines += other.forecasts_of_lines;
+        self.withdrawn_of_lines += other.withdrawn_of_lines;
     }
 }
 
@@ -134,6 +191,39 @@ impl Book {
         Book { kind, nodes, cleanup, places, clock, entries: BTreeMap::new(), longest: None, tried: Tried::default() }
     }
 
+    /// Of the desk that lines give, which no calls need have made: "The promise, bound and forecast that the lines give a waiting stack are
+    /// kept after."
+    pub fn of_lines(desk: &Model) -> Result<Book, String> {
+        let mut book = Book::new(desk.kind, desk.nodes, desk.cleanup, desk.places, desk.clock);
+        for job in &desk.jobs {
+            let entry = Entry::of_line(job, desk.cleanup);
+            claim!(book.entries.insert(job.ticket, entry).is_none(), "ticket {} stands in two lines", job.ticket);
+        }
+        book.holds()?;
+        Ok(book)
+    }
+
+    /// The desk is written out, and goes on from its lines: "Every desk that calls have made [...] is accepted from its own lines and comes
+    /// back the same." They give each live job as the calls and their answers did.
+    pub fn reread(&mut self, desk: &Model) -> Result<(), String> {
+        let lines = Book::of_lines(desk)?;
+        let settings = |book: &Book| (book.kind, book.nodes, book.cleanup, book.places, book.clock);
+        claim!(settings(self) == settings(&lines), "{:?} is read back as {:?}", settings(self), settings(&lines));
+        for (ticket, entry) in self.entries.iter().filter(|(_, e)| e.is_live(self.clock, self.cleanup)) {
+            claim!(lines.entries.contains_key(ticket), "{ticket} is live and has no line");
+            let (told, stated) = (entry.told(self.kind), lines.entries[ticket].told(self.kind));
+            claim!(told == stated, "{ticket} is read back as {stated:?} and was {told:?}");
+        }
+        for (ticket, line) in lines.entries {
+            let entry = self.entries.get_mut(&ticket).filter(|e| e.is_live(self.clock, self.cleanup));
+            let entry = entry.ok_or_else(|| format!("{ticket} has a line and is not live"))?;
+            *entry = Entry { earliest: entry.earliest, of_line: entry.of_line, ..line };
+            self.tried.jobs_reread += 1;
+        }
+        self.tried.rereads += 1;
+        Ok(())
+    }
+
     fn waiting(&self) -> impl Iterator<Item = (&u32, &Entry)> {
         self.entries.iter().filter(|(_, e)| e.fate == Fate::Waiting)
     }
@@ -156,10 +246,9 @@ impl Book {
             Call::Submit(Order { nodes, estimate, tenant: house, least }) => {
                 claim!(HOUSES.contains(&house), "a job of {house} is taken in");
                 claim!(least <= estimate, "a job of {least} to {estimate} minutes is taken in");
-                let rank = self.waiting().count() as u32 + 1;
-                let bound = self.clock + rank * (LONGEST_ESTIMATE + self.cleanup);
-                let (promise, hold) = (answer.promise, held(estimate));
-                let entry = Entry { nodes, house, promise, bound, forecast: None, fate: Fate::Waiting, least, hold, earliest: None };
+                let bound = bound(self.clock, self.waiting().count() as u32 + 1, self.cleanup);
+                let (promise, hold, fate) = (answer.promise, held(estimate), Fate::Waiting);
+                let entry = Entry { nodes, house, promise, bound, forecast: None, fate, least, hold, earliest: None, of_line: false };
                 claim!(self.entries.insert(answer.ticket, entry).is_none(), "ticket {} is given twice", answer.ticket);
             }
             Call::Tick => self.clock += 1,
@@ -197,6 +286,11 @@ impl Book {
                 Kind::Loose => self.tried.bounds += 1,
             }
             self.tried.forecasts += u64::from(entry.forecast.is_some());
+            if entry.of_line {
+                self.tried.promises_of_lines += u64::from(self.kind == Kind::Promise);
+                self.tried.bounds_of_lines += u64::from(self.kind == Kind::Loose);
+                self.tried.forecasts_of_lines += u64::from(entry.forecast.is_some());
+            }
             if let Some((earliest, given)) = entry.earliest {
                 claim!(self.clock >= earliest, "{ticket} starts before its earliest start {earliest}");
                 self.tried.earliest_kept += 1;
@@ -204,13 +298,19 @@ impl Book {
             }
         }
         self.forecast(answer)?;
-        self.overdue()?;
-        self.capacity()?;
-        self.shares()?;
+        self.holds()?;
         // What has ended and holds no nodes is settled. Who was withdrawn is kept: such a job never starts.
         let (clock, cleanup) = (self.clock, self.cleanup);
         self.entries.retain(|_, e| !matches!(e.fate, Fate::Ended(minute) if clock - minute >= cleanup));
         Ok(())
+    }
+
+    /// What holds after every call, and of a desk read back.
+    fn holds(&mut self) -> Result<(), String> {
+        self.heads()?;
+        self.overdue()?;
+        self.capacity()?;
+        self.shares()
     }
 
     /// The machine has the nodes of all jobs that run, and of those that have ended for fewer than the minutes of cleanup.
@@ -247,6 +347,7 @@ impl Book {
         }
         entry.fate = Fate::Withdrawn(self.clock);
         self.tried.withdrawn += 1;
+        self.tried.withdrawn_of_lines += u64::from(entry.of_line);
         Ok(())
     }
 
@@ -359,7 +460,7 @@ impl Book {
         Ok(())
     }
 
-    /// Whoever is head for the first time hears a forecast, and nobody else does.
+    /// Nobody but the head, for the first time, hears a forecast.
     fn forecast(&mut self, answer: &Answer) -> Result<(), String> {
         let head = self.waiting().next().map(|(ticket, _)| *ticket);
         if let Some((ticket, minute)) = answer.new_head() {
@@ -368,8 +469,14 @@ impl Book {
             claim!(entry.forecast.is_none(), "{ticket} hears a second forecast");
             entry.forecast = Some(minute);
         }
-        if let (Kind::Loose, Some(ticket)) = (self.kind, head) {
-            claim!(self.entries[&ticket].forecast.is_some(), "head {ticket} has heard no forecast");
+        Ok(())
+    }
+
+    /// Every head of a Loose Desk has heard a forecast.
+    fn heads(&mut self) -> Result<(), String> {
+        let head = self.waiting().next().filter(|_| self.kind == Kind::Loose);
+        if let Some((ticket, entry)) = head {
+            claim!(entry.forecast.is_some(), "head {ticket} has heard no forecast");
             self.tried.heads += 1;
         }
         Ok(())

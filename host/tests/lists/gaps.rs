@@ -2,6 +2,7 @@
 //! points and the records that a desk gives.
 
 use crate::model::held;
+use crate::numbers::UNUSED;
 use hingerota_host::{Point, Record};
 
 /// Of every waiting record: from no minute before its start are its nodes free for its hold, its own hold left out. How many wait.
@@ -32,8 +33,7 @@ fn begins_earlier(points: &[Point], nodes: u32, start: u32, hold: u32) -> Option
 pub fn finds_gaps() {
     // On a machine of 10, 4 nodes are free until 20, none until 30, then 6 until 40, and all after that.
     let points = [(0, 4), (20, 0), (30, 6), (40, 10)].map(|(minute, free)| Point { minute, free });
-    let job =
-        |ticket, nodes, estimate, start| Record { ticket, nodes, estimate, state: 1, tenant: 65, least: 0, start, promise: start, end: 0 };
+    let job = |ticket, nodes, estimate, start| Record { ticket, nodes, estimate, state: 1, tenant: 65, start, promise: start, ..UNUSED };
     let found = |records: &[Record], cleanup| none(&points, records, cleanup);
     // Who has taken the nodes from 20 to 30 could begin at 0 only with no more than 4.
     assert_eq!(found(&[job(1, 5, 10, 20)], 0), Ok(1));

@@ -1,17 +1,27 @@
 //! Random lists of calls, on the library and on a model written from document 01's words: after every call the answers, every field of
-//! the desk and of its 64 records, the points, the blocks and an earliest start are compared, and now and then how long a job may be and the
-//! status page; the guarantees are watched by the calls and their answers, and the rule on gaps by the records and the points. The lists are the same in
-//! every run; LISTS says how many, and LIST plays one alone.
+//! the desk and of its 64 records, the points, the blocks and an earliest start are compared, and now and then how long a job may be, the
+//! status page and the desk's lines, which are read back; the guarantees are watched by the calls and their answers, and the rule on gaps
+//! by the records and the points. Each list starts from an opening, and then once more from a desk that no calls need have made, read back
+//! from lines or found in memory. The lists are the same in every run; LISTS says how many, and LIST plays one alone.
 
+mod acceptance;
 mod board;
 mod book;
+mod broken_lines;
+mod damage;
+mod edge;
 mod gaps;
+mod made;
 mod model;
+mod numbers;
 mod random;
+mod rereading;
+mod text;
 
+use acceptance::CONDITIONS;
 use book::{Book, Call, Tried};
 use hingerota_host::{
-    Answer, Block, Desk, Earliest, Inquiry, Kind, Longest, Opening, Order, Point, Record, Shown, MOST_BLOCKS, MOST_POINTS, PAGE_BYTES,
+    Answer, Block, Desk, Earliest, Inquiry, Kind, Longest, Opening, Order, Point, Shown, MOST_BLOCKS, MOST_POINTS, PAGE_BYTES,
 };
 use model::{Job, Model, Scan, Search, State};
 use random::Random;
@@ -27,6 +37,16 @@ const QUESTIONS: u32 = 5;
 
 /// And after so many the status page is asked for.
 const PAGES: u32 = 3;
+
+/// And after so many the desk is written out, and after so many it goes on from its lines.
+const TEXTS: u32 = 3;
+const REREADS: u32 = 3;
+
+/// And after so many its lines are damaged, and after so many the desk in memory.
+const DAMAGES: u32 = 3;
+
+/// Of a list from a desk that no calls need have made, at most so many calls.
+const CALLS_GOING_ON: u32 = 20;
 
 /// How long the jobs of a list are.
 #[derive(Clone, Copy, PartialEq)]
@@ -178,8 +198,17 @@ struct Count {
     most_passes: u32,
     /// Waiting jobs of which it was watched that they could not begin earlier.
     no_gaps: u64,
-    /// By number, of openings and of calls.
-    refusals: [u64; 22],
+    texts: u64,
+    longest_text: usize,
+    damaged_texts: u64,
+    damaged_texts_accepted: u64,
+    damaged_desks: u64,
+    damaged_desks_accepted: u64,
+    /// Of damaged desks, how often each condition was the first that was broken.
+    broken: [u64; CONDITIONS.len()],
+    desks_gone_on_from: u64,
+    /// By number, of openings, of calls and of readings.
+    refusals: [u64; 24],
     tried: Tried,
 }
 
@@ -216,7 +245,15 @@ impl Count {
         self.passes_repeated += other.passes_repeated;
         self.most_passes = self.most_passes.max(other.most_passes);
         self.no_gaps += other.no_gaps;
-        for (sum, n) in self.refusals.iter_mut().zip(other.refusals) {
+        self.texts += other.texts;
+        self.longest_text = self.longest_text.max(other.longest_text);
+        self.damaged_texts += other.damaged_texts;
+        self.damaged_texts_accepted += other.damaged_texts_accepted;
+        self.damaged_desks += other.damaged_desks;
+        self.damaged_desks_accepted += other.damaged_desks_accepted;
+        self.desks_gone_on_from += other.desks_gone_on_from;
+        let (sums, numbers) = (self.refusals.iter_mut().chain(&mut self.broken), other.refusals.iter().chain(&other.broken));
+        for (sum, n) in sums.zip(numbers) {
             *sum += n;
         }
         self.tried.add(other.tried);
@@ -230,6 +267,9 @@ struct Played {
     book: Book,
     /// The tickets withdrawn.
     withdrawn: Vec<u32>,
+    /// No waiting job could begin earlier, after any call. "On a desk read back, the rule on gaps holds from its first early end or
+    /// withdrawal."
+    tight: bool,
     count: Count,
     done: Vec<String>,
 }
@@ -239,6 +279,26 @@ fn same<T: PartialEq + std::fmt::Debug>(what: &str, library: T, model: T) -> Res
         return Ok(());
     }
     Err(format!("{what}: library {library:?}, model {model:?}"))
+}
+
+/// Every field of the desk and of its records.
+fn same_desk(desk: &Desk, model: &Model) -> Result<(), String> {
+    same("kind", desk.kind(), model.kind)?;
+    same("nodes", desk.nodes(), model.nodes)?;
+    same("cleanup", desk.cleanup(), model.cleanup)?;
+    same("quotas", [desk.quota_a(), desk.quota_b()], model.places)?;
+    same("clock", desk.clock(), model.clock)?;
+    same("next ticket", desk.next(), model.next)?;
+    for (place, record) in desk.records().iter().enumerate() {
+        let expected = match model.jobs.get(place) {
+            Some(job) => numbers::record(job).ok_or_else(|| format!("{job:?} has no record"))?,
+            None => numbers::UNUSED,
+        };
+        if *record != expected {
+            return Err(format!("record {place}: library {record:?}, model {expected:?}"));
+        }
+    }
+    Ok(())
 }
 
 impl Played {
@@ -256,46 +316,13 @@ impl Played {
         let mut count = Count { lists: 1, ..Count::default() };
         count.refusals[refusal as usize] += 1;
         let done = vec![format!("open {kind:?} {nodes} {minute} {ticket} {cleanup} {quota_a} {quota_b}")];
-        let played = Played { desk, model, book, withdrawn: Vec::new(), count, done };
+        let played = Played { desk, model, book, withdrawn: Vec::new(), tight: true, count, done };
         played.same_desk()?;
         Ok(played)
     }
 
     fn same_desk(&self) -> Result<(), String> {
-        let (desk, model) = (&self.desk, &self.model);
-        same("kind", desk.kind(), model.kind)?;
-        same("nodes", desk.nodes(), model.nodes)?;
-        same("cleanup", desk.cleanup(), model.cleanup)?;
-        same("quotas", [desk.quota_a(), desk.quota_b()], model.places)?;
-        same("clock", desk.clock(), model.clock)?;
-        same("next ticket", desk.next(), model.next)?;
-        for (place, record) in desk.records().iter().enumerate() {
-            let expected = match model.jobs.get(place) {
-                Some(j) => {
-                    let state = match j.state {
-                        State::Waiting => 1,
-                        State::Running => 2,
-                        State::Cleanup => 3,
-                    };
-                    Record {
-                        ticket: j.ticket,
-                        nodes: j.nodes as u16,
-                        estimate: j.estimate as u16,
-                        state,
-                        tenant: j.house as u16,
-                        least: j.least as u16,
-                        start: j.start,
-                        promise: j.promise,
-                        end: j.end,
-                    }
-                }
-                None => Record { ticket: 0, nodes: 0, estimate: 0, state: 0, tenant: 0, least: 0, start: 0, promise: 0, end: 0 },
-            };
-            if *record != expected {
-                return Err(format!("record {place}: library {record:?}, model {expected:?}"));
-            }
-        }
-        Ok(())
+        same_desk(&self.desk, &self.model)
     }
 
     fn same_answer(&mut self, call: Call, library: Answer, model: model::Answer) -> Result<(), String> {
@@ -319,9 +346,8 @@ impl Played {
         Ok(())
     }
 
-    /// From an opening on, after any call.
     fn no_gaps(&mut self) -> Result<(), String> {
-        if self.desk.kind() == Kind::Promise {
+        if self.desk.kind() == Kind::Promise && self.tight {
             let mut points = [Point { minute: 0, free: 0 }; MOST_POINTS];
             let shown = self.desk.profile(&mut points);
             self.count.no_gaps += gaps::none(&points[..shown.count], self.desk.records(), self.desk.cleanup())?;
@@ -331,6 +357,7 @@ impl Played {
 
     /// After an early end or a withdrawal.
     fn passed(&mut self, answer: &model::Answer) {
+        self.tight |= answer.refusal == 0;
         if answer.refusal == 0 && self.model.kind == Kind::Promise {
             self.count.passes_repeated += u64::from(self.model.passes > 2);
             self.count.most_passes = self.count.most_passes.max(self.model.passes);
@@ -586,7 +613,8 @@ fn ask_longest(plan: &Plan, played: &mut Played, random: &mut Random) -> Result<
         _ => from + random.below(200),
     };
     // Asking the model's intake for every estimate takes long where many jobs are live.
-    let scan = if random.below(if plan.calls <= 25 { 3 } else { 500 }) == 0 { Scan::Intake } else { Scan::Changes };
+    let few = plan.calls <= 25 && played.model.jobs.len() <= 15;
+    let scan = if random.below(if few { 3 } else { 500 }) == 0 { Scan::Intake } else { Scan::Changes };
     let Longest { estimate, .. } = played.longest_estimate(Inquiry { nodes, tenant: house, minute }, scan)?;
     let estimate = match random.below(6) {
         0 => estimate,
@@ -670,21 +698,60 @@ fn step(plan: &Plan, played: &mut Played, random: &mut Random) -> Result<(), Str
     }
 }
 
-fn play(list: u64) -> Result<Count, String> {
-    let random = &mut Random::new(list);
-    let plan = plan(random);
-    let mut played = Played::open(&plan)?;
+/// A call, and what is asked after it.
+fn round(plan: &Plan, played: &mut Played, random: &mut Random) -> Result<(), String> {
+    step(plan, played, random)?;
+    played.index(random)?;
+    played.earliest_start(some_ticket(played, State::Waiting, random))?;
+    if random.percent(QUESTIONS) {
+        ask_longest(plan, played, random)?;
+    }
+    if random.percent(PAGES) {
+        played.status_page(random)?;
+    }
+    if random.percent(TEXTS) {
+        played.checkpoint(random)?;
+    }
+    if random.percent(REREADS) {
+        played.reread()?;
+    }
+    if random.percent(DAMAGES) {
+        played.damaged_text(&played.model.clone(), random)?;
+    }
+    if random.percent(DAMAGES) {
+        played.damaged_desk(&played.model.clone(), random)?;
+    }
+    Ok(())
+}
+
+/// From an opening, and then from a desk that no calls need have made.
+fn rounds(plan: &Plan, played: &mut Played, random: &mut Random) -> Result<(), String> {
     if plan.estimates == Estimates::Tiny && plan.calls <= 25 {
         played.model.search = Search::EveryMinute;
     }
     for _ in 0..plan.calls {
-        let done = step(&plan, &mut played, random)
-            .and_then(|()| played.index(random))
-            .and_then(|()| played.earliest_start(some_ticket(&played, State::Waiting, random)))
-            .and_then(|()| if random.percent(QUESTIONS) { ask_longest(&plan, &mut played, random) } else { Ok(()) })
-            .and_then(|()| if random.percent(PAGES) { played.status_page(random) } else { Ok(()) });
-        done.map_err(|e| format!("list {list}: {}\n{e}", played.done.join(", ")))?;
+        round(plan, played, random)?;
     }
+    let Some(accepted) = played.another(random)? else {
+        return Ok(());
+    };
+    played.go_on_from(accepted)?;
+    if plan.estimates == Estimates::Tiny && rereading::is_small(&played.model) {
+        played.model.search = Search::EveryMinute;
+    }
+    played.index(random)?;
+    played.checkpoint(random)?;
+    for _ in 0..random.below(CALLS_GOING_ON) {
+        round(plan, played, random)?;
+    }
+    Ok(())
+}
+
+fn play(list: u64) -> Result<Count, String> {
+    let random = &mut Random::new(list);
+    let plan = plan(random);
+    let mut played = Played::open(&plan)?;
+    rounds(&plan, &mut played, random).map_err(|e| format!("list {list}: {}\n{e}", played.done.join(", ")))?;
     played.count.tried = played.book.tried;
     Ok(played.count)
 }
@@ -701,6 +768,8 @@ fn main() {
     book::finds_broken_claims();
     gaps::finds_gaps();
     board::finds_broken_pages();
+    broken_lines::are_found();
+    rereading::reads_texts_handed_over();
     let (began, total, shown) = (Instant::now(), end - first, std::io::stderr().is_terminal());
     let (next, all) = (AtomicU64::new(first), Mutex::new(Count::default()));
     let work = || loop {
@@ -784,5 +853,23 @@ fn main() {
         "{} waiting jobs could not begin earlier; after {} early ends and withdrawals a second pass moved jobs, and there were up to {} passes",
         all.no_gaps, all.passes_repeated, all.most_passes
     );
+    let Tried { rereads, jobs_reread, promises_of_lines, bounds_of_lines, forecasts_of_lines, withdrawn_of_lines, .. } = all.tried;
+    println!(
+        "{} desks written out, into bytes just enough, more and too few, at most {}; {rereads} went on from their lines, which gave \
+         {jobs_reread} jobs as the calls had",
+        all.texts, all.longest_text
+    );
+    println!(
+        "{} damaged texts, {} of these accepted; {} desks damaged in memory, {} of these accepted; {} desks gone on from",
+        all.damaged_texts, all.damaged_texts_accepted, all.damaged_desks, all.damaged_desks_accepted, all.desks_gone_on_from
+    );
+    println!(
+        "of jobs that waited in their lines {promises_of_lines} promises, {bounds_of_lines} bounds and {forecasts_of_lines} forecasts kept, \
+         {withdrawn_of_lines} jobs withdrawn"
+    );
+    println!("conditions broken first:");
+    for ((words, _), times) in CONDITIONS.iter().zip(all.broken) {
+        println!("{times:9} {words}");
+    }
     println!("library and model agree ({:.1} s)", began.elapsed().as_secs_f64());
 }

@@ -36,6 +36,11 @@ pub struct Job {
     pub promise: u32,
     /// "its record, and no other, keeps its end"
     pub end: u32,
+    /// Document 02, No. 11: "Loose records now keep intake minute, [...] r at intake, [...] and any forecast, until they leave." Of the
+    /// Promise Desk, and where there is no forecast, 0.
+    pub intake: u32,
+    pub r: u32,
+    pub forecast: u32,
 }
 
 #[derive(Default, PartialEq, Eq, Debug)]
@@ -100,19 +105,19 @@ pub fn held(estimate: u32) -> u32 {
 
 impl Job {
     /// "A stack that starts at minute s ends at s + held".
-    fn ends(&self) -> u32 {
+    pub fn ends(&self) -> u32 {
         self.start + held(self.estimate)
     }
 
-    fn waits(&self) -> bool {
+    pub fn waits(&self) -> bool {
         self.state == State::Waiting
     }
 
-    fn runs(&self) -> bool {
+    pub fn runs(&self) -> bool {
         self.state == State::Running
     }
 
-    fn in_cleanup(&self) -> bool {
+    pub fn in_cleanup(&self) -> bool {
         self.state == State::Cleanup
     }
 
@@ -179,13 +184,13 @@ impl Model {
 
     /// For how long an order takes its nodes: "Held time plus clearing is what must fit the profile, the rules (i) and (ii), shadow, extra
     /// and the last minute."
-    fn hold(&self, estimate: u32) -> u32 {
+    pub fn hold(&self, estimate: u32) -> u32 {
         held(estimate) + self.cleanup
     }
 
     /// The minute from which a job's nodes are free again: "nodes stay taken for clearing minutes [...] after a planned or an early end
     /// alike".
-    fn freed(&self, job: &Job) -> u32 {
+    pub fn freed(&self, job: &Job) -> u32 {
         match job.state {
             State::Cleanup => job.end + self.cleanup,
             State::Waiting | State::Running => job.start + self.hold(job.estimate),
@@ -226,7 +231,8 @@ impl Model {
         if self.next > LAST_TICKET {
             return refused(5);
         }
-        let job = Job { ticket: self.next, nodes, estimate, state: State::Waiting, house, least, start: 0, promise: 0, end: 0 };
+        let (ticket, state) = (self.next, State::Waiting);
+        let job = Job { ticket, nodes, estimate, state, house, least, start: 0, promise: 0, end: 0, intake: 0, r: 0, forecast: 0 };
         match self.kind {
             Kind::Promise => self.submit_promise(job),
             Kind::Loose => self.submit_loose(job),
@@ -508,7 +514,7 @@ impl Model {
     }
 
     /// "the smallest minute at which [these] suffice for it"
-    fn shadow(&self, nodes: u32) -> u32 {
+    pub fn shadow(&self, nodes: u32) -> u32 {
         match self.search {
             Search::EveryMinute => {
                 let mut minute = self.clock;
@@ -529,13 +535,14 @@ impl Model {
 
     /// "The Loose Desk's bound and its last-minute rule become r × (10,080 + clearing)."; by No. 6 "the bound and last-minute rule of the
     /// Loose Desk read [the longest estimate's] held time".
-    fn submit_loose(&mut self, job: Job) -> Answer {
+    fn submit_loose(&mut self, mut job: Job) -> Answer {
         let r = self.jobs.iter().filter(|j| j.waits()).count() as u32 + 1;
         if self.clock + r * self.hold(self.longest) + self.hold(job.estimate) > LAST_MINUTE {
             return refused(6);
         }
         let head = self.head();
         let mut answer = Answer { ticket: job.ticket, ..Answer::default() };
+        (job.intake, job.r) = (self.clock, r);
         self.next += 1;
         self.jobs.push(job);
         self.settle(head, &mut answer);
@@ -569,10 +576,19 @@ impl Model {
             }
         }
         // "A stack that is head after a call and was not before gets the shadow then as its forecast."
-        if let Some(head) = self.jobs.iter().find(|j| j.waits()) {
-            if before != Some(head.ticket) {
-                answer.head = Some((head.ticket, self.shadow(head.nodes)));
+        if let Some(head) = self.jobs.iter().position(|j| j.waits()) {
+            let Job { ticket, nodes, .. } = self.jobs[head];
+            if before != Some(ticket) {
+                self.jobs[head].forecast = self.shadow(nodes);
+                answer.head = Some((ticket, self.jobs[head].forecast));
             }
         }
+    }
+
+    /// Of a Loose Desk that no call has left: who can start does. Who did.
+    pub fn settle_now(&mut self) -> Vec<u32> {
+        let mut answer = Answer::default();
+        self.settle(self.head(), &mut answer);
+        answer.started
     }
 }

@@ -17,6 +17,11 @@ impl Random {
         z ^ (z >> 31)
     }
 
+    /// Any number.
+    pub fn any(&mut self) -> u32 {
+        self.next() as u32
+    }
+
     /// From 0 to n - 1.
     pub fn below(&mut self, n: u32) -> u32 {
         (self.next() % n as u64) as u32

@@ -26,9 +26,10 @@ impl Ended {
     }
 }
 
-/// What it prints for a script. The script is sent while the printout is read; one whose first line is refused need not be read to its end.
-pub fn played(script: &[u8]) -> Vec<u8> {
-    let mut child = rack(&[]).stdin(Stdio::piped()).stdout(Stdio::piped()).spawn().unwrap();
+/// What it prints for a script, or for the lines of a desk. These are sent while the printout is read; a script whose first line is refused
+/// need not be read to its end.
+pub fn played(arguments: &[&str], script: &[u8]) -> Vec<u8> {
+    let mut child = rack(arguments).stdin(Stdio::piped()).stdout(Stdio::piped()).spawn().unwrap();
     let mut input = child.stdin.take().unwrap();
     let ended = std::thread::scope(|threads| {
         threads.spawn(move || {

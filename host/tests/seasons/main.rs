@@ -8,6 +8,7 @@ mod gate;
 #[allow(dead_code)]
 mod model;
 #[path = "../lists/random.rs"]
+#[allow(dead_code)]
 mod random;
 mod season;
 

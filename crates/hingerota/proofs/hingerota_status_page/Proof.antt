@@ -3,7 +3,7 @@
 use mathlib.Core.Bool.{true}
 use Rattle.lent_lemmas.proofs.Passes_ds.{passes-ds}
 use Rattle.hingerota.specs.DeskPremise.{Handed}
-use Rattle.hingerota.specs.PageContract.{HostShowsPage}
+use Rattle.hingerota.specs.TextContract.{HostShowsPage}
 use Rattle.hingerota.proofs.FlatTypes.{shown, shown-laws}
 use Rattle.hingerota.proofs.Desk as D
 use Rattle.hingerota.proofs.Desk.Laws as D′

@@ -1,5 +1,6 @@
-//! `rack`: plays a script of lines from standard input on a desk. What a line prints is written before the next line is read. Everything
-//! that is decided, refusals too, is decided by the library: this reads lines and writes answers.
+//! `rack`: plays a script of lines from standard input on a desk, which the first line opens or the lines of a file give, or says whether
+//! lines give a desk. What a line prints is written before the next line is read. Everything that is decided, refusals too, is decided by
+//! the library: this reads lines and writes answers.
 
 mod fields;
 mod lines;
@@ -8,11 +9,13 @@ mod script;
 mod words;
 
 use lines::Lines;
+use page::Page;
 use script::Script;
 use std::ffi::OsString;
-use std::fs::File;
-use std::io::{self, BufReader, Write};
+use std::fs::{self, File};
+use std::io::{self, BufReader, Read, Write};
 use std::os::fd::AsFd;
+use std::path::Path;
 use std::process::ExitCode;
 
 /// Reading or writing failed, and why.
@@ -27,10 +30,10 @@ fn write(output: &mut File, text: &str) -> Result<(), Failure> {
     output.write_all(text.as_bytes()).map_err(|e| format!("the printout cannot be written: {e}"))
 }
 
-fn play() -> Result<(), Failure> {
+/// Plays what is left of a script.
+fn play(mut script: Script) -> Result<(), Failure> {
     let mut lines = Lines::new(BufReader::new(file(io::stdin())?));
     let mut output = file(io::stdout())?;
-    let mut script = Script::First;
     while !script.is_over() {
         match lines.next().map_err(|e| format!("the script cannot be read: {e}"))? {
             Some(line) => write(&mut output, script.play(line).text())?,
@@ -40,6 +43,26 @@ fn play() -> Result<(), Failure> {
     Ok(())
 }
 
+/// Plays a script on the desk whose lines a file has; if they are refused, says so and stops.
+fn play_from(path: &Path) -> Result<(), Failure> {
+    let text = fs::read(path).map_err(|e| format!("{} cannot be read: {e}", path.display()))?;
+    match Script::from(&text) {
+        Ok(script) => play(script),
+        Err(refusal) => write(&mut file(io::stdout())?, Page::refused(refusal).text()),
+    }
+}
+
+/// Says whether the lines on standard input give a desk.
+fn check() -> Result<(), Failure> {
+    let mut text = Vec::new();
+    file(io::stdin())?.read_to_end(&mut text).map_err(|e| format!("the lines cannot be read: {e}"))?;
+    let page = match Script::from(&text) {
+        Ok(_) => Page::ok(),
+        Err(refusal) => Page::refused(refusal),
+    };
+    write(&mut file(io::stdout())?, page.text())
+}
+
 fn help() -> Result<(), Failure> {
     write(&mut file(io::stdout())?, &words::usage())
 }
@@ -47,7 +70,9 @@ fn help() -> Result<(), Failure> {
 fn main() -> ExitCode {
     let arguments: Vec<OsString> = std::env::args_os().skip(1).collect();
     let done = match arguments.as_slice() {
-        [] => play(),
+        [] => play(Script::First),
+        [option, path] if option == "--from" => play_from(Path::new(path)),
+        [only] if only == "--check" => check(),
         [only] if only == "--help" => help(),
         _ => {
             eprint!("{}", words::usage());

@@ -30,6 +30,17 @@ impl Page {
         &self.text
     }
 
+    /// Of lines that give a desk.
+    pub fn ok() -> Page {
+        Page { text: "ok\n".to_string() }
+    }
+
+    pub fn refused(refusal: Refusal) -> Page {
+        let mut page = Page::default();
+        page.no(refusal);
+        page
+    }
+
     pub fn no(&mut self, refusal: Refusal) {
         self.text += &format!("no\t{}\n", refusal.0);
     }
@@ -82,9 +93,9 @@ impl Page {
         Ok(())
     }
 
-    /// As the library wrote it, line ends too.
-    pub fn status_page(&mut self, page: &[u8]) {
-        self.text += std::str::from_utf8(page).expect("proved to be spaces and visible characters of ASCII");
+    /// The status page or the desk's lines, as the library wrote them, line ends too.
+    pub fn written(&mut self, text: &[u8]) {
+        self.text += std::str::from_utf8(text).expect("proved to be tabs, line ends, spaces and visible characters of ASCII");
     }
 
     /// A Loose Desk promises no minute, and prints nothing.

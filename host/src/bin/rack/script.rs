@@ -1,4 +1,4 @@
-//! A script as it is played: its first line opens a desk, and the later ones ask it.
+//! A script as it is played: its first line opens a desk, unless the lines of another give one, and the later ones ask it.
 
 use crate::fields::{fields, numbers};
 use crate::lines::Line;
@@ -20,7 +20,29 @@ pub struct Rack {
     pub reads: u32,
 }
 
+impl Rack {
+    fn new(desk: Desk) -> Rack {
+        Rack { desk, reads: 0 }
+    }
+
+    /// Document 02, No. 11: "A desk must be written out and read back."
+    pub fn reread(&mut self) -> Done {
+        self.desk = restored(&self.desk.text())?;
+        Ok(())
+    }
+}
+
+/// The desk that a text's lines give.
+fn restored(text: &[u8]) -> Result<Desk, Refusal> {
+    Desk::restore(text).map_err(|refused| Refusal(refused.refusal))
+}
+
 impl Script {
+    /// On the desk that a text's lines give: all lines of the script are later ones.
+    pub fn from(text: &[u8]) -> Result<Script, Refusal> {
+        Ok(Script::Playing(Box::new(Rack::new(restored(text)?))))
+    }
+
     pub fn is_over(&self) -> bool {
         matches!(self, Script::Over)
     }
@@ -68,7 +90,7 @@ fn open(fields: &[&[u8]]) -> Result<Rack, Refusal> {
     };
     let [nodes, minute, ticket, cleanup, quota_a, quota_b] = numbers(rest)?;
     match Desk::open(kind, Opening { nodes, minute, ticket, cleanup, quota_a, quota_b }) {
-        Ok(desk) => Ok(Rack { desk, reads: 0 }),
+        Ok(desk) => Ok(Rack::new(desk)),
         Err(refused) => Err(Refusal(refused.refusal)),
     }
 }

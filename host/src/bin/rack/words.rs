@@ -106,7 +106,7 @@ const WORDS: &[Word] = &[
             let mut bytes = [0; PAGE_BYTES];
             let shown = rack.desk.status_page(&mut bytes);
             taken(shown.refusal)?;
-            page.status_page(&bytes[..shown.count]);
+            page.written(&bytes[..shown.count]);
             Ok(())
         },
     },
@@ -119,6 +119,23 @@ const WORDS: &[Word] = &[
             };
             let inquiry = Inquiry { nodes: number(nodes)?, tenant: letter(house)?, minute: number(minute)? };
             page.longest_estimate(&rack.desk, &rack.desk.longest_estimate(inquiry))
+        },
+    },
+    Word {
+        form: "text",
+        does: "prints the desk's lines, for --check and --from",
+        play: |rack, fields, page| {
+            let [] = numbers(fields)?;
+            page.written(&rack.desk.text());
+            Ok(())
+        },
+    },
+    Word {
+        form: "reread",
+        does: "the desk is written out and read back, and goes on from its lines",
+        play: |rack, fields, _| {
+            let [] = numbers(fields)?;
+            rack.reread()
         },
     },
 ];
@@ -149,10 +166,16 @@ pub fn usage() -> String {
     format!(
         "\
 usage: rack <SCRIPT
+       rack --from FILE <SCRIPT
+       rack --check <LINES
        rack --help
 
 Plays a script on a desk, and prints what a line gives before it reads the next.
 A line is closed by byte 10, and its fields are parted by one tab.
+  --from FILE                             the desk is that of the lines in FILE, as text prints them; all lines of
+                                          the script are later ones. Lines that are refused end it
+  --check                                 plays no script: prints ok if the lines on standard input give a desk, or
+                                          no NUMBER: 22 if a line lacks the form, 23 if they break a condition
 
 First line:
   desk promise|loose NODES MINUTE TICKET CLEANUP A B
