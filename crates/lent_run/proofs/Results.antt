@@ -1,4 +1,4 @@
--- How the results of this crate are made: `Outcome` of the answer and the scheduler, `ListOfNone`, `ListOfFour` and `ListOfTwo` of the answer and the
+-- How the results of this crate are made: `Outcome` and `Opened` of the answer and the scheduler, `ListOfNone`, `ListOfFour` and `ListOfTwo` of the answer and the
 -- list
 -- (`Thin.antt` and `OwnSlice_ds.antt` of crate lent_lemmas).
 -- Assumes nothing.
@@ -17,12 +17,14 @@ use Rattle.spans.specs.declared.Block.{Block}
 use Rattle.spans.proofs.Block as B
 use Rattle.scheduler.proofs.Scheduler as D
 use Rattle.scheduler.proofs.Scheduler.Laws as D′
+use Rattle.scheduler.proofs.Opened as O
+use Rattle.scheduler.proofs.Opened.Laws as O′
 use Rattle.scheduler.proofs.Outcome as S
 use Rattle.scheduler.proofs.Outcome.Laws as S′
 use Rattle.calls.specs.declared.Shown.{Shown}
 use Rattle.lent_lemmas.proofs.Thin.{rowOf, Built}
 use Rattle.lent_lemmas.proofs.OwnSlice_ds.{HoldsArray}
-use Rattle.lent_calls.proofs.FlatTypes.{answer, outcome-two, shown}
+use Rattle.lent_calls.proofs.FlatTypes.{answer, outcome-two, refusal, opened-two, shown}
 use Rattle.lent_run.proofs.ListOfNone as N
 use Rattle.lent_run.proofs.ListOfNone.Laws as N′
 use Rattle.lent_run.proofs.ListOfFour as F
@@ -35,6 +37,13 @@ outcome-built = record {
   make = λ a e. record { answer = a; scheduler = e };
   is-made = λ a e isa ise. LL.owes S.the-type S′.the-laws (record { answer = a; scheduler = e }) (isa, (ise, tt));
   makes = λ 𝓤 H A W. LL.makes S.the-type S′.the-plain 𝓤 H A;
+}
+
+abbrev pub opened-built : Built refusal D.the-type D′.the-laws opened-two
+opened-built = record {
+  make = λ a e. record { refusal = a; scheduler = e };
+  is-made = λ a e isa ise. LL.owes O.the-type O′.the-laws (record { refusal = a; scheduler = e }) (isa, (ise, tt));
+  makes = λ 𝓤 H A W. LL.makes O.the-type O′.the-plain 𝓤 H A;
 }
 
 -- an array of points as a field: each element's relation is at its tuple

@@ -1,13 +1,16 @@
 // Calls over what is lent, on both kinds of scheduler: what each answers, refusals too, and what stands in a list lent for the profile or the index,
-// or in a page lent for the status page.
+// or in bytes lent for the status page or the lines. The lines are read back, and calls go on from there.
+ghost use Prim.Native.Nat.{_≤_};
+ghost use lib.ListN.{length};
 ghost use Rattle.jobs.specs.Soundness.{Sound};
 ghost use Rattle.jobs.specs.Premise.{Holds};
 ghost use Rattle.history.specs.Calls as calls;
 ghost use Rattle.guarantees.specs.Premise.{Premise};
-ghost use Rattle.calls.specs.PageCall.{ShowsPage};
+ghost use Rattle.calls.specs.TextCall.{ShowsPage, ShowsText};
 ghost use Rattle.lent_calls.specs.CallContract.{Leaves};
 ghost use Rattle.lent_calls.specs.ProfileContract.{ShowsPoints};
 ghost use Rattle.lent_calls.specs.IndexContract.{ShowsBlocks};
+ghost use Rattle.lent_calls.specs.RestoreContract.{Restores};
 use calls::Shown;
 use libc::STDOUT_FILENO;
 use scheduler::Answer;
@@ -129,6 +132,24 @@ fn lent_page(d: Scheduler, page: &mut [u8]) -> Shown
     ensures { λ r. ⌜ ShowsPage d (now (page .entry)) r (now (page .exit)) ⌝ }
 {
     lent_calls::status_page(&d, page)
+}
+
+fn lent_text(d: Scheduler, text: &mut [u8]) -> Shown
+    requires { ⌜ Premise d ⌝ }
+    ensures { λ r. ⌜ ShowsText d (now (text .entry)) r (now (text .exit)) ⌝ }
+{
+    lent_calls::checkpoint(&d, text)
+}
+
+fn lent_restore(d: Scheduler, text: &[u8]) -> Opened
+    ensures { λ r. ⌜ Restores (now (text .entry)) (r .refusal) (r .scheduler) ⌝ }
+{
+    let mut e = d;
+    let a = lent_calls::restore(&mut e, text);
+    Opened {
+        refusal: a,
+        scheduler: e,
+    }
 }
 
 fn print(n: u32) {
@@ -300,20 +321,25 @@ fn count_of(page: &[u8], byte: u8) -> usize {
     n
 }
 
-// The refusal and the count of a call for the status page, and of the bytes then in the page how many are as they were, line ends and spaces.
-fn page_into(d: Scheduler, page: &mut [u8])
-    requires { ⌜ Premise d ⌝ }
-{
-    print_shown(lent_page(d, page));
-    print_count(count_of(page, b'x'));
-    print_count(count_of(page, b'\n'));
-    print_count(count_of(page, b' '));
+// The refusal and the count of a call for a text, and of the bytes then there how many are as they were, line ends and such bytes.
+fn print_bytes(shown: Shown, bytes: &[u8], byte: u8) {
+    print_shown(shown);
+    print_count(count_of(bytes, b'x'));
+    print_count(count_of(bytes, b'\n'));
+    print_count(count_of(bytes, byte));
     io::write_all(STDOUT_FILENO, b"\n");
 }
 
-fn print_lines(page: &[u8]) {
-    if 438 <= page.len() {
-        io::write_all(STDOUT_FILENO, &page[..438]);
+fn page_into(d: Scheduler, page: &mut [u8])
+    requires { ⌜ Premise d ⌝ }
+{
+    let shown = lent_page(d, page);
+    print_bytes(shown, page, b' ');
+}
+
+fn print_front(bytes: &[u8], size: usize) {
+    if size <= bytes.len() {
+        io::write_all(STDOUT_FILENO, &bytes[..size]);
     }
 }
 
@@ -327,7 +353,25 @@ fn status_page(d: Scheduler)
     page_into(d, &mut exact);
     let mut longer = [b'x'; 4822];
     page_into(d, &mut longer);
-    print_lines(&longer);
+    print_front(&longer, 438);
+}
+
+// The lines, into the first bytes of so many.
+fn text_into_part(d: Scheduler, bytes: &mut [u8], size: usize) -> Shown
+    requires { ⌜ (Premise d) × (size ≤ length (now bytes)) ⌝ }
+{
+    lent_text(d, &mut bytes[..size])
+}
+
+fn text_into(d: Scheduler, bytes: &mut [u8], size: usize) -> usize
+    requires { ⌜ Premise d ⌝ }
+{
+    if bytes.len() < size {
+        return 0;
+    }
+    let shown = text_into_part(d, bytes, size);
+    print_bytes(shown, bytes, b'\t');
+    shown.count
 }
 
 fn print_kind(kind: Kind) {
@@ -357,6 +401,78 @@ fn print_opened(opened: Opened)
     print(d.next);
     print_count(job_table::first_unused(d));
     io::write_all(STDOUT_FILENO, b"\n");
+}
+
+// What lines give back, by value and where a scheduler was lent.
+fn reread(d: Scheduler, text: &[u8]) -> Scheduler
+    ensures { λ r. ⌜ Premise r ⌝ }
+{
+    print_opened(calls::restore(text));
+    let left = lent_restore(d, text);
+    print_opened(left);
+    left.scheduler
+}
+
+// The first bytes of so many, read back.
+fn reread_part(d: Scheduler, bytes: &[u8], size: usize) -> Scheduler
+    requires { ⌜ Premise d ⌝ }
+    ensures { λ r. ⌜ Premise r ⌝ }
+{
+    if size <= bytes.len() {
+        return reread(d, &bytes[..size]);
+    }
+    d
+}
+
+// The same with another byte in a place.
+fn reread_changed(d: Scheduler, bytes: &mut [u8], size: usize, at: usize, byte: u8)
+    requires { ⌜ Premise d ⌝ }
+{
+    if at < bytes.len() {
+        let was = bytes[at];
+        bytes[at] = byte;
+        reread_part(d, bytes, size);
+        bytes[at] = was;
+    }
+}
+
+// None of the lines, with a space in place of their first tab, with the last not closed, with the last number moved by one, and as they are.
+fn read_back(d: Scheduler, text: &mut [u8], size: usize) -> Scheduler
+    requires { ⌜ Premise d ⌝ }
+    ensures { λ r. ⌜ Premise r ⌝ }
+{
+    reread_part(d, text, 0);
+    reread_changed(d, text, size, 4, b' ');
+    if size < 2 {
+        return d;
+    }
+    reread_part(d, text, size - 1);
+    reread_changed(d, text, size, size - 2, b'1');
+    reread_part(d, text, size)
+}
+
+// Into just as many bytes as the lines have, and into one too few.
+fn text_into_few(d: Scheduler, size: usize)
+    requires { ⌜ Premise d ⌝ }
+{
+    let mut exact = [b'x'; 512];
+    text_into(d, &mut exact, size);
+    if 1 <= size {
+        let mut short = [b'x'; 512];
+        text_into(d, &mut short, size - 1);
+    }
+}
+
+// The lines, first into more bytes; and what they give back.
+fn checkpoint(d: Scheduler) -> Scheduler
+    requires { ⌜ Premise d ⌝ }
+    ensures { λ r. ⌜ Premise r ⌝ }
+{
+    let mut text = [b'x'; 512];
+    let size = text_into(d, &mut text, 512);
+    text_into_few(d, size);
+    print_front(&text, size);
+    read_back(d, &mut text, size)
 }
 
 fn open_up_to(
@@ -416,7 +532,8 @@ fn main() {
     longest(d3, 11, Tenant::Nobody, 0);
     longest(d3, 11, Tenant::A, 0);
     status_page(d3);
-    let d4 = submit(d3, 1, 5, Tenant::A);
+    let again = checkpoint(d3);
+    let d4 = submit(again, 1, 5, Tenant::A);
     show(d4);
     let d5 = submit(d4, 11, 5, Tenant::A);
     let d6 = complete(d5, 2);
@@ -480,6 +597,9 @@ fn main() {
     let l5 = submit(l4, 11, 5, Tenant::Nobody);
     let l6 = submit(l5, 10, 121, Tenant::A);
     status_page(l6);
+    let l7 = checkpoint(l6);
+    let l8 = complete(l7, 2);
+    let l9 = tick(l8);
     // a longest estimate outside its range is refused ahead of all else
     open_up_to(Kind::Conservative, 10, 5, 7, 63, 0);
     open_up_to(Kind::Easy, 0, 5, 31, 62, 10081);

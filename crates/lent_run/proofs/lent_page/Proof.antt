@@ -4,7 +4,7 @@ use mathlib.Core.Bool.{true}
 use Rattle.scheduler.proofs.Scheduler as D
 use Rattle.scheduler.proofs.Scheduler.Laws as D′
 use Rattle.guarantees.specs.Premise.{Premise}
-use Rattle.calls.specs.PageCall.{ShowsPage}
+use Rattle.calls.specs.TextCall.{ShowsPage}
 use Rattle.lent_lemmas.proofs.OwnPasses_ds.{own-passes-ds}
 use Rattle.lent_calls.proofs.FlatTypes.{shown, shown-laws}
 use Rattle.lent_calls.proofs.status_page.Symbol as callee
