@@ -18,6 +18,7 @@ use std::io::Write;
 use std::path::{Path, PathBuf};
 use std::process::{Command, Stdio};
 
+/// So many random seasons, where SEASONS says nothing else.
 const SEASONS: u64 = 1_000;
 
 fn root() -> PathBuf {
@@ -118,7 +119,8 @@ fn random_seasons() {
         eprintln!("no season program: random seasons are left out");
         return;
     };
-    for number in 0..SEASONS {
+    let count = std::env::var("SEASONS").map_or(SEASONS, |n| n.parse().expect("SEASONS is a number"));
+    for number in 0..count {
         let list = random_list(&mut Random::new(number));
         let (expected, printed) = (season::printout(list.as_bytes()), printed(&program, list.as_bytes()));
         assert!(expected.as_bytes() == printed, "season {number}:\n{list}\nprints\n{}", String::from_utf8_lossy(&printed));
