@@ -1,5 +1,5 @@
 -- The earliest start of a job that stands in the plan, sought in the table with the job in it: before its start the others leave as much,
--- and from its start on its own nodes are there for it. So only the places before its start are looked at.
+-- and from its start on its own nodes are there for it. So the search ends with the first place that is not before its start.
 -- Assumes nothing.
 use Prim.Native.Nat.{ℕ, zero, suc, _+_, _-_, min, _≤_, _<_}
 use native.Mathlib.Omega.{arith}
@@ -44,39 +44,38 @@ pub record Finds {ms fs : List ℕ} {start n h : ℕ} (s : Seeks ms fs start n h
   pub near-in : r .near < s .count
   pub near-to : getD ms (r .near) 0 ≤ r .minute
 
--- from place i on there is one whose minute is not before u
-pub record Bounded (ms fs : List ℕ) (i u : ℕ) : Type 0 where
-  pub minutes-long : length ms ≡ rows
-  pub free-long : length fs ≡ rows
+-- A walk over a list from place i on, to the first number that is not below u, ends: there is one.
+pub record Ending (xs : List ℕ) (i u : ℕ) : Type 0 where
+  pub long : length xs ≡ rows
   pub last : ℕ
   pub after : i ≤ last
   pub fit : last < rows
-  pub late : u ≤ getD ms last 0
+  pub high : u ≤ getD xs last 0
 
--- the places from i up to k are before u, and P holds of them
-pub record Going (ms : List ℕ) (P : ℕ → Type 0) (i u k : ℕ) : Type 0 where
+-- It has come to place k: the numbers of the places from i up to there are below u, and P holds of these places.
+pub record Going (xs : List ℕ) (P : ℕ → Type 0) (i u k : ℕ) : Type 0 where
   pub above : i ≤ k
   pub fit : k < rows
-  pub to : (j : ℕ) → i ≤ j → u ≤ getD ms j 0 → k ≤ j
+  pub to : (j : ℕ) → i ≤ j → u ≤ getD xs j 0 → k ≤ j
   pub each : (j : ℕ) → i ≤ j → j < k → P j
 
-module _ {ms fs : List ℕ} (P : ℕ → Type 0) {i u : ℕ} (b : Bounded ms fs i u) where
-  pub going-begin : Going ms P i u i
+module _ {xs : List ℕ} (P : ℕ → Type 0) {i u : ℕ} (b : Ending xs i u) where
+  pub going-begin : Going xs P i u i
   going-begin = record { above = omega arith; fit = omega (arith, b .after, b .fit); to = λ j a l. a; each = λ j a l. absurd (omega arith) }
 
-  pub going-on : {k : ℕ} → Going ms P i u k → getD ms k 0 < u → P k → Going ms P i u (k + 1)
+  pub going-on : {k : ℕ} → Going xs P i u k → getD xs k 0 < u → P k → Going xs P i u (k + 1)
   going-on {k} v l p = record {
     above = omega (arith, v .above);
-    fit = omega (arith, to (b .last) (b .after) (b .late), b .fit);
+    fit = omega (arith, to (b .last) (b .after) (b .high), b .fit);
     to = to;
     each = λ j a c. go j a c (le-or k j);
   }
     where
-      late : (j : ℕ) → u ≤ getD ms j 0 → k ≤ j → (j ≤ k) ⊎ (k < j) → k + 1 ≤ j
-      late j a c (inl d) = let q : j ≡ k = omega arith in absurd (omega (arith, ap (λ (m : ℕ). getD ms m 0) q))
+      late : (j : ℕ) → u ≤ getD xs j 0 → k ≤ j → (j ≤ k) ⊎ (k < j) → k + 1 ≤ j
+      late j a c (inl d) = let q : j ≡ k = omega arith in absurd (omega (arith, ap (λ (m : ℕ). getD xs m 0) q))
       late j a c (inr d) = omega arith
 
-      to : (j : ℕ) → i ≤ j → u ≤ getD ms j 0 → k + 1 ≤ j
+      to : (j : ℕ) → i ≤ j → u ≤ getD xs j 0 → k + 1 ≤ j
       to j a c = late j c (v .to j a c) (le-or j k)
 
       go : (j : ℕ) → i ≤ j → j < k + 1 → (k ≤ j) ⊎ (j < k) → P j
@@ -89,14 +88,15 @@ enough fs n j = n ≤ getD fs j 0
 abbrev pub few : List ℕ → ℕ → ℕ → Type 0
 few fs n j = getD fs j 0 < n
 
--- k is the first place from i on whose minute is not before u, or at which too few are free; or at which nodes enough are
+-- k is the first place from i on whose minute is not before u, or at which too few are free
 pub record Reached (ms fs : List ℕ) (i n u k : ℕ) : Type 0 where
   pub going : Going ms (enough fs n) i u k
   pub stop : getD ms k 0 < u → few fs n k
 
-pub record Skipped (ms fs : List ℕ) (i n u k : ℕ) : Type 0 where
-  pub going : Going ms (few fs n) i u k
-  pub stop : getD ms k 0 < u → enough fs n k
+-- k is the first place from i on at which nodes enough are free
+pub record Skipped (fs : List ℕ) (i n k : ℕ) : Type 0 where
+  pub going : Going fs (few fs n) i n k
+  pub stop : enough fs n k
 
 -- before the job's start no minute before that of place i will do
 pub record Past (ms fs : List ℕ) (start n h i : ℕ) : Type 0 where
@@ -171,23 +171,25 @@ module _ {ms fs : List ℕ} {start n h : ℕ} (q : Seeks ms fs start n h) where
       go (inl u) = u
       go (inr u) = absurd (omega (arith, more s (s .count - 1) (omega (arith, s .table .some)) u, s .table .some))
 
-  bounded : {i u : ℕ} → i < q .count → u ≤ start → Bounded ms fs i u
-  bounded l v = record {
-    minutes-long = q .table .minutes-long;
-    free-long = q .table .free-long;
-    last = q .count - 1;
-    after = omega arith;
-    fit = omega (arith, q .fit, q .table .some);
-    late = omega (arith, last-late q);
-  }
+  -- all nodes are free from the last place on
+  last-enough : (s : Seeks ms fs start n h) → enough fs n (s .count - 1)
+  last-enough s =
+      let t : ℕ = getD ms (s .count - 1) 0 + lastEnd (s .all) in
+      let v = s .table .value (s .count - 1) t (omega (arith, s .table .some)) (omega arith) (λ z. absurd (omega (arith, s .table .some))) in
+      omega (arith, v, used-last t (s .all) (omega arith), s .enough)
+
+  -- so both lists have a place at which a walk ends
+  ending : {xs : List ℕ} {i u : ℕ} → length xs ≡ rows → i < q .count → u ≤ getD xs (q .count - 1) 0 → Ending xs i u
+  ending e l v = record { long = e; last = q .count - 1; after = omega arith; fit = omega (arith, q .fit, q .table .some); high = v }
 
   -- what was reached lies in the table
   inside-going : {P : ℕ → Type 0} {i u k : ℕ} → Going ms P i u k → u ≤ start → (s : Seeks ms fs start n h) → i < s .count → k < s .count
   inside-going v l s m = omega (arith, v .to (s .count - 1) (omega arith) (omega (arith, last-late s)), s .table .some)
 
   module _ {i : ℕ} (p : Past ms fs start n h i) where
-    pub past-bounded : Bounded ms fs i start
-    past-bounded = bounded (p .inside q) (omega arith)
+    -- a place with nodes enough is found
+    pub skip-ends : Ending fs i n
+    skip-ends = ending (q .table .free-long) (p .inside q) (last-enough q)
 
     -- the job stays where it is
     pub past-last : start ≤ getD ms i 0 → (s : Seeks ms fs start n h) → Finds s (record { minute = start; near = 0 })
@@ -217,34 +219,38 @@ module _ {ms fs : List ℕ} {start n h : ℕ} (q : Seeks ms fs start n h) where
             ))
         go s r u v w c (inr y) (inr z) = absurd (omega (arith, w r (omega arith) (omega (arith, s .some)), s .early r u v, value s k r c (omega arith) y))
 
-  -- no minute of the places passed will do
-  past-skipped : {i : ℕ} → Past ms fs start n h i → (k : ℕ) → i ≤ k → ((j : ℕ) → i ≤ j → j < k → (getD ms j 0 < start) × few fs n j) → Past ms fs start n h k
-  past-skipped {i} p zero l e = let z : i ≡ 0 = omega arith in subst (Past ms fs start n h) z p
-  past-skipped {i} p (suc k) l e = go (le-or i k) (λ m. past-skipped p k m (λ j a b. e j a (omega arith)))
+  -- no minute of the places passed will do; once they reach the start, none before it does
+  past-skipped : {i : ℕ} → Past ms fs start n h i → (k : ℕ) → i ≤ k → ((s : Seeks ms fs start n h) → k < s .count) → ((j : ℕ) → i ≤ j → j < k → few fs n j)
+      → Past ms fs start n h k
+  past-skipped {i} p zero l m e = let z : i ≡ 0 = omega arith in subst (Past ms fs start n h) z p
+  past-skipped {i} p (suc k) l m e = go (le-or i k) (λ x. past-skipped p k x (λ s. omega (arith, m s)) (λ j a b. e j a (omega arith)))
     where
-      go : (i ≤ k) ⊎ (k < i) → (i ≤ k → Past ms fs start n h k) → Past ms fs start n h (suc k)
-      go (inr m) f = let z : i ≡ suc k = omega arith in subst (Past ms fs start n h) z p
-      go (inl m) f =
-          let v = e k m (omega arith) in
-          subst (Past ms fs start n h) (add-one k) (past-cross (f m) k (omega arith) (omega (arith, v .0, q .some)) (v .1) (f m .inside))
+      on : i ≤ k → Past ms fs start n h k → (start ≤ getD ms k 0) ⊎ (getD ms k 0 < start) → Past ms fs start n h (suc k)
+      on x f (inl y) = record { inside = m; none = λ s r u v w. absurd (omega (arith, f .none s r u v w)) }
+      on x f (inr y) =
+          subst (Past ms fs start n h) (add-one k) (past-cross f k (omega arith) (omega (arith, y, q .some)) (e k x (omega arith)) (f .inside))
 
-  pub skipped : {i k : ℕ} → Past ms fs start n h i → Skipped ms fs i n start k → Standing ms fs start n h k
+      go : (i ≤ k) ⊎ (k < i) → (i ≤ k → Past ms fs start n h k) → Past ms fs start n h (suc k)
+      go (inr x) f = let z : i ≡ suc k = omega arith in subst (Past ms fs start n h) z p
+      go (inl x) f = on x (f x) (le-or start (getD ms k 0))
+
+  pub skipped : {i k : ℕ} → Past ms fs start n h i → Skipped fs i n k → Standing ms fs start n h k
   skipped {i} {k} p z = record {
     fit = z .going .fit;
-    past = past-skipped p k (z .going .above) (λ j a b. (before j a b (le-or start (getD ms j 0)), z .going .each j a b));
-    here = z .stop;
+    past = past-skipped p k (z .going .above) inside (z .going .each);
+    here = λ e. z .stop;
   }
     where
-      before : (j : ℕ) → i ≤ j → j < k → (start ≤ getD ms j 0) ⊎ (getD ms j 0 < start) → getD ms j 0 < start
-      before j a b (inl u) = absurd (omega (arith, z .going .to j a u))
-      before j a b (inr u) = u
+      inside : (s : Seeks ms fs start n h) → k < s .count
+      inside s = omega (arith, z .going .to (s .count - 1) (omega (arith, p .inside s)) (last-enough s), s .table .some)
 
   module _ {i : ℕ} (t : Standing ms fs start n h i) (e : getD ms i 0 < start) where
     abbrev u : ℕ
     u = min (getD ms i 0 + h) start
 
-    pub reach-bounded : Bounded ms fs (i + 1) u
-    reach-bounded = bounded (more q i (t .past .inside q) e) (omega arith)
+    -- and so is one that is not before the end of the hold, or the start
+    pub reach-ends : Ending ms (i + 1) u × (length fs ≡ rows)
+    reach-ends = (ending (q .table .minutes-long) (more q i (t .past .inside q) e) (omega (arith, last-late q)), q .table .free-long)
 
     module _ {k : ℕ} (z : Reached ms fs (i + 1) n u k) where
       inside-reached : (s : Seeks ms fs start n h) → k < s .count

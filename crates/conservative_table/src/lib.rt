@@ -9,7 +9,7 @@ ghost use Rattle.conservative_table.specs.Table.{Ascends, Place, Split};
 ghost use Rattle.conservative_table.specs.Join.{Inside, Joined};
 ghost use Rattle.conservative_table.specs.LaidSpans.{LaysAt, LaidAt, Lays, Laid};
 ghost use Rattle.conservative_table.specs.ProfileLists.{IsProfile, Changed, Laying, Lifting, Advancing};
-ghost use Rattle.conservative_table.specs.Search.{Bounded, Reached, Skipped, Seeks, Finds};
+ghost use Rattle.conservative_table.specs.Search.{Ending, Reached, Skipped, Seeks, Finds};
 
 // A place of the lists, and how many places are used: of a minute; or the first that may have changed.
 pub struct Row {
@@ -41,6 +41,21 @@ fn place_after(minutes: &[u32; 131], near: usize, count: usize, t: u32) -> usize
     low
 }
 
+// The same, place after place from the near one on: quicker where few places lie between.
+fn place_by_steps(minutes: &[u32; 131], near: usize, count: usize, t: u32) -> usize
+    requires { ⌜ Ascends (now minutes) near count t ⌝ }
+    ensures { λ r. ⌜ Place (now (minutes .entry)) count t r ⌝ }
+{
+    let mut k = near + 1;
+    while k < count {
+        if t < minutes[k] {
+            return k;
+        }
+        k += 1;
+    }
+    k
+}
+
 // The value goes into this place; what stood there and after it moves up.
 fn insert(list: &mut [u32; 131], count: usize, at: usize, value: u32)
     requires { ⌜ (length (now list) ≡ rows) × (at ≤ count) × (count < rows) ⌝ }
@@ -54,18 +69,11 @@ fn insert(list: &mut [u32; 131], count: usize, at: usize, value: u32)
     list[at] = value;
 }
 
-// There is a place for minute t, and the lists say the same as before. The minute of the near place is not later.
-fn split(minutes: &mut [u32; 131], free: &mut [u32; 131], near: usize, count: usize, t: u32) -> Row
-    requires { ⌜ Ascends (now minutes) near count t × (length (now free) ≡ rows) × (count < rows) ⌝ }
+// There is a place for minute t, and the lists say the same as before. Place k is the one after the last minute that is not later.
+fn split_at(minutes: &mut [u32; 131], free: &mut [u32; 131], count: usize, k: usize, t: u32) -> Row
+    requires { ⌜ Place (now minutes) count t k × (length (now minutes) ≡ rows) × (length (now free) ≡ rows) × (count < rows) ⌝ }
     ensures { λ r. ⌜ Split (now (minutes .entry)) (now (free .entry)) count t r (now (minutes .exit)) (now (free .exit)) ⌝ }
 {
-    if minutes[near] == t {
-        return Row {
-            at: near,
-            count: count,
-        };
-    }
-    let k = place_after(minutes, near, count, t);
     let last = k - 1;
     if minutes[last] == t {
         return Row {
@@ -80,6 +88,21 @@ fn split(minutes: &mut [u32; 131], free: &mut [u32; 131], near: usize, count: us
         at: k,
         count: count + 1,
     }
+}
+
+// The same, with that place sought by halves. The minute of the near place is not later.
+fn split(minutes: &mut [u32; 131], free: &mut [u32; 131], near: usize, count: usize, t: u32) -> Row
+    requires { ⌜ Ascends (now minutes) near count t × (length (now free) ≡ rows) × (count < rows) ⌝ }
+    ensures { λ r. ⌜ Split (now (minutes .entry)) (now (free .entry)) count t r (now (minutes .exit)) (now (free .exit)) ⌝ }
+{
+    if minutes[near] == t {
+        return Row {
+            at: near,
+            count: count,
+        };
+    }
+    let k = place_after(minutes, near, count, t);
+    split_at(minutes, free, count, k, t)
 }
 
 // `by` places leave from this one on; those after them move down.
@@ -126,7 +149,7 @@ fn adjust(free: &mut [u32; 131], from: usize, to: usize, nodes: u32, release: bo
     }
 }
 
-// The span's nodes are taken, or free again, from the place in which it begins.
+// The span's nodes are taken, or free again, from the place in which it begins. Its end is sought by steps: a span has few points.
 fn lay_at(
     minutes: &mut [u32; 131],
     free: &mut [u32; 131],
@@ -137,7 +160,8 @@ fn lay_at(
     requires { ⌜ LaysAt (now minutes) (now free) begin x release ⌝ }
     ensures { λ r. ⌜ ((l : LaysAt (now (minutes .entry)) (now (free .entry)) begin x release) → LaidAt l r (now (minutes .exit)) (now (free .exit))) ⌝ }
 {
-    let end = split(minutes, free, begin.at, begin.count, x.until);
+    let k = place_by_steps(minutes, begin.at, begin.count, x.until);
+    let end = split_at(minutes, free, begin.count, k, x.until);
     adjust(free, begin.at, end.at, x.nodes, release);
     let later = join(minutes, free, end.count, end.at);
     join(minutes, free, later, begin.at)
@@ -236,7 +260,7 @@ pub fn advance(minutes: &mut [u32; 131], free: &mut [u32; 131], count: usize, t:
 
 // The first place from this one on whose minute is not before the end, or at which too few nodes are free.
 fn reach(minutes: &[u32; 131], free: &[u32; 131], from: usize, nodes: u32, until: u32) -> usize
-    requires { ⌜ Bounded (now minutes) (now free) from until ⌝ }
+    requires { ⌜ Ending (now minutes) from until × (length (now free) ≡ rows) ⌝ }
     ensures { λ r. ⌜ Reached (now (minutes .entry)) (now (free .entry)) from nodes until r ⌝ }
 {
     let mut k = from;
@@ -249,16 +273,13 @@ fn reach(minutes: &[u32; 131], free: &[u32; 131], from: usize, nodes: u32, until
     k
 }
 
-// The first place from this one on whose minute is not before the end, or at which nodes enough are free.
-fn skip(minutes: &[u32; 131], free: &[u32; 131], from: usize, nodes: u32, until: u32) -> usize
-    requires { ⌜ Bounded (now minutes) (now free) from until ⌝ }
-    ensures { λ r. ⌜ Skipped (now (minutes .entry)) (now (free .entry)) from nodes until r ⌝ }
+// The first place from this one on at which nodes enough are free. At the last point all are, so that no minute is looked at.
+fn skip(free: &[u32; 131], from: usize, nodes: u32) -> usize
+    requires { ⌜ Ending (now free) from nodes ⌝ }
+    ensures { λ r. ⌜ Skipped (now (free .entry)) from nodes r ⌝ }
 {
     let mut k = from;
-    while minutes[k] < until {
-        if nodes <= free[k] {
-            return k;
-        }
+    while free[k] < nodes {
         k += 1;
     }
     k
@@ -273,8 +294,8 @@ fn sooner(a: u32, b: u32) -> u32
     b
 }
 
-// The earliest minute for a job that stands in the plan from this start on: there its own nodes are there for it, so only the places
-// before are looked at. No minute before that of place i will do.
+// The earliest minute for a job that stands in the plan from this start on: there its own nodes are there for it, so the search ends with
+// the first place that is not before it. No minute before that of place i will do.
 pub fn search_before(
     minutes: &[u32; 131],
     free: &[u32; 131],
@@ -285,7 +306,7 @@ pub fn search_before(
     requires { ⌜ Seeks (now minutes) (now free) start nodes hold ⌝ }
     ensures { λ r. ⌜ ((s : Seeks (now (minutes .entry)) (now (free .entry)) start nodes hold) → Finds s r) ⌝ }
 {
-    let mut i = skip(minutes, free, 0, nodes, start);
+    let mut i = skip(free, 0, nodes);
     while minutes[i] < start {
         let here = minutes[i];
         let until = sooner(here + hold, start);
@@ -296,7 +317,7 @@ pub fn search_before(
                 near: i,
             };
         }
-        i = skip(minutes, free, k + 1, nodes, start);
+        i = skip(free, k + 1, nodes);
     }
     Found {
         minute: start,

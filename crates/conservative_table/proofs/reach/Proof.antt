@@ -14,7 +14,7 @@ abbrev μ-loop : tie.MeasureT-loop
 μ-loop minutes free from nodes until k₀ k = 131 - k
 
 loop-holds : tie.Need-loop-holds Inv-loop μ-loop
-loop-holds c = going-begin (enough (c .args .free .now) (c .args .nodes)) (c .pre)
+loop-holds c = going-begin (enough (c .args .free .now) (c .args .nodes)) (c .pre .0)
 
 returns : tie.Need-returns Inv-loop μ-loop
 returns c = record { going = c .before .before .before .before .loop .inv; stop = λ a. omega arith }
@@ -22,7 +22,7 @@ returns c = record { going = c .before .before .before .before .loop .inv; stop 
 loop-again : tie.Need-loop-again Inv-loop μ-loop
 loop-again c =
     let s = c .before .before .before .before .before in
-    going-on (enough (s .args .free .now) (s .args .nodes)) (s .pre) (c .before .before .before .before .loop .inv) (omega arith) (omega arith)
+    going-on (enough (s .args .free .now) (s .args .nodes)) (s .pre .0) (c .before .before .before .before .loop .inv) (omega arith) (omega arith)
 
 returns-2 : tie.Need-returns-2 Inv-loop μ-loop
 returns-2 c = record { going = c .before .before .loop .inv; stop = λ a. absurd (omega arith) }

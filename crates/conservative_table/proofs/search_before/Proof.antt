@@ -2,7 +2,7 @@
 -- Assumes nothing.
 use Prim.Native.Nat.{_-_}
 use native.Mathlib.Omega.{arith}
-use Rattle.conservative_table.specs.Search.{Standing, past-begin, past-bounded, past-last, skipped, reach-bounded, past-reached, found-reached}
+use Rattle.conservative_table.specs.Search.{Standing, past-begin, skip-ends, past-last, skipped, reach-ends, past-reached, found-reached}
 use borrow.Author.Needs.{needs}
 use Rattle.conservative_table.proofs.search_before.Statement.{statement}
 use Rattle.conservative_table.proofs.search_before.Tie as tie
@@ -14,7 +14,7 @@ abbrev μ-loop : tie.MeasureT-loop
 μ-loop minutes free start nodes hold i₀ i = 131 - i
 
 skip-requires : tie.Need-skip-requires Inv-loop μ-loop
-skip-requires c κs = past-bounded (c .pre) (past-begin (c .pre))
+skip-requires c κs = skip-ends (c .pre) (past-begin (c .pre))
 
 loop-holds : tie.Need-loop-holds Inv-loop μ-loop
 loop-holds c = skipped (c .before .pre) (past-begin (c .before .pre)) (c .skip .ensures)
@@ -26,7 +26,7 @@ add-sooner c =
     omega (arith, s .table .low (l .i) (l .inv .past .inside s), s .hold-to)
 
 reach-requires : tie.Need-reach-requires Inv-loop μ-loop
-reach-requires c κs = rw (c .sooner .ensures) (reach-bounded (c .before .before .before .before .before .before .pre)
+reach-requires c κs = rw (c .sooner .ensures) (reach-ends (c .before .before .before .before .before .before .pre)
     (c .before .before .before .before .loop .inv) (omega arith))
 
 mul-if2 : tie.Need-mul-if2 Inv-loop μ-loop
@@ -48,7 +48,7 @@ skip-requires-2 : tie.Need-skip-requires-2 Inv-loop μ-loop
 skip-requires-2 c κs =
     let e = c .before .before .before .sooner .ensures in
     let s = c .before .before .before .before .before .before .before .before .before .pre in
-    past-bounded s (past-reached s (c .before .before .before .before .before .before .before .loop .inv) (omega arith)
+    skip-ends s (past-reached s (c .before .before .before .before .before .before .before .loop .inv) (omega arith)
     (rw e at (c .before .before .reach .ensures)) (omega (arith, e)))
 
 loop-less : tie.Need-loop-less Inv-loop μ-loop
