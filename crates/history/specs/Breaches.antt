@@ -1,9 +1,9 @@
 -- The guarantees can fail: for each claim histories that break it, their words computed, and no further than they must: a job that waits
--- in the minute it was told, or starts in the next; one node too many.
+-- in the minute it was told, or starts in the next; one node too many. And what the words say of several jobs, one by one.
 -- Assumes nothing.
 use mathlib.Core.Path.{_≡_, refl, sym, ap, subst, _∙_}
 use mathlib.Core.Bool.{true}
-use mathlib.Core.List.{List, [], _∷_}
+use mathlib.Core.List.{List, [], _∷_, map}
 use mathlib.Core.Option.{Option, none, some}
 use Prim.Native.Nat.{ℕ, zero, suc, _+_, _<_}
 use native.Mathlib.Omega.{arith}
@@ -11,13 +11,19 @@ use lib.ListN.{replicate}
 use Rattle.lists.specs.Lists.{sum, In, here, there, in-nil}
 use Rattle.scheduler.specs.declared.Kind.the-variants.{Conservative, Easy}
 use Rattle.scheduler.specs.declared.Refusal.the-variants as refusal
+use Rattle.scheduler.specs.declared.Job.{Job}
 use Rattle.scheduler.specs.declared.Settings.{Settings}
+use Rattle.scheduler.specs.declared.State.{State}
+use Rattle.scheduler.specs.declared.State.the-variants.{Waiting, Running, Cleanup}
 use Rattle.scheduler.specs.declared.Tenant.{Tenant}
 use Rattle.scheduler.specs.declared.Tenant.the-variants.{A, B}
 use Rattle.scheduler.specs.Answers.{Forecast}
+use Rattle.scheduler.specs.Model.{Model}
+use Rattle.scheduler.specs.Settings as times
 use Rattle.history.specs.Calls.{submit, orderOf, cancel, tick, Event}
 use Rattle.history.specs.News.{news}
-use Rattle.history.specs.Book.{Book, Entry, waiting, start, enter, enterAll}
+use Rattle.history.specs.Book.{Fate, waiting, running, cleaning, ended, withdrawn, Entry, Book, start, headOf, enter, enterAll}
+use Rattle.history.specs.Beginning.{beginning}
 use Rattle.history.specs.Guarantee.{StartedBy, Kept, held-nodes, live-jobs, Guarantee}
 
 -- a submission accepted under a ticket, with a promise, the tickets that start and a forecast
@@ -202,3 +208,147 @@ place-still-taken g = let w = g .shares B in absurd (omega arith)
 pub place-free-again : live-jobs B (cleared-B (idle ∷ idle ∷ takenFor B 2 1 0 [] none ∷ taken 3 1 0 [] none ∷ []) .entries) ≡ 1
 unfolding enter
 place-free-again = refl
+
+-- ## Several jobs
+
+abbrev fateOf : Entry → Fate
+fateOf x = x .fate
+
+abbrev boundOf : Entry → Option ℕ
+boundOf x = x .bound
+
+abbrev forecastOf : Entry → Option ℕ
+forecastOf x = x .forecast
+
+-- the first has ended, the second runs, the third waits, the fourth was withdrawn; then these events
+abbrev several : List Event → Book
+several es =
+    book
+    (taken 1 6 0 (1 ∷ []) none
+    ∷ taken 2 3 0 (2 ∷ []) none
+    ∷ taken 3 8 0 [] none
+    ∷ taken 4 2 0 [] none
+    ∷ dropped 4 []
+    ∷ turned (1 ∷ []) []
+    ∷ es)
+
+-- "It has started once a call, its intake or a later one, gives its ticket among those started"; "It runs from then until a call gives its
+-- ticket among those ended": the start, the end or the withdrawal of one job is that of no other
+pub fates-of-several : map fateOf (several [] .entries) ≡ ended 0 ∷ running 0 ∷ waiting ∷ withdrawn 0 ∷ []
+unfolding enter
+fates-of-several = refl
+
+pub nodes-of-several : sum held-nodes (several [] .entries) ≡ 3
+unfolding enter
+nodes-of-several = refl
+
+-- "r is one more than the number of stacks waiting just before its intake": it is 1, 1, 1 and 2, and of two more jobs in minute 1 it is 2 and
+-- 3. "Its bound is the clock at intake + r × 10,080."
+pub bounds-of-several :
+    map boundOf (several (taken 5 1 0 [] none ∷ taken 6 1 0 [] none ∷ []) .entries)
+    ≡ some 10080 ∷ some 10080 ∷ some 10080 ∷ some 20160 ∷ some 20161 ∷ some 30241 ∷ []
+unfolding enter
+bounds-of-several = refl
+
+-- "The head is the waiting stack with the lowest ticket", and not the one that came first or last
+pub head-of-several : headOf (several (taken 5 1 0 [] none ∷ []) .entries) ≡ some 3
+unfolding enter
+head-of-several = refl
+
+pub head-by-ticket : headOf (book (taken 8 1 0 [] none ∷ taken 7 1 0 [] none ∷ taken 9 1 0 [] none ∷ []) .entries) ≡ some 7
+unfolding enter
+head-by-ticket = refl
+
+-- a tick, with the tickets that start, after which a head is told a minute
+abbrev tells : List ℕ → (ticket minute : ℕ) → Event
+tells ss t m = record {
+  call = tick;
+  reply =
+      record { refusal = refusal.None; ticket = 0; promise = 0; reads = 0; ended = []; started = ss; head = some (record { ticket = t; minute = m }) };
+}
+
+-- "Its forecast is the minute given by the call after which it is head for the first time": the first is told 1, and 9 counts no more; the
+-- second is told 5 when the first starts; the third hears nothing, where the minute is another ticket's
+pub forecasts-of-three : map forecastOf (book
+    (taken 1 4 0 [] soon
+    ∷ taken 2 4 0 [] none
+    ∷ taken 3 4 0 [] none
+    ∷ tells [] 1 9
+    ∷ tells (1 ∷ []) 2 5
+    ∷ tells (2 ∷ []) 4 6
+    ∷ []) .entries) ≡ some 1 ∷ some 5 ∷ none ∷ []
+unfolding enter
+forecasts-of-three = refl
+
+-- ## Jobs that are there when a list begins
+
+abbrev promiseOf : Entry → ℕ
+promiseOf x = x .promise
+
+-- a record with a promise, or with what a record of EASY keeps
+abbrev kept : Tenant → State → (ticket start promise end submitted rank forecast : ℕ) → Job
+kept h z t s p e i r f = record {
+  ticket = t;
+  nodes = 1;
+  estimate = 60;
+  state = z;
+  tenant = h;
+  least = 0;
+  rank = r;
+  start = s;
+  promise = p;
+  end = e;
+  submitted = i;
+  forecast = f;
+}
+
+-- in minute 40 one job runs, one is in cleanup, two wait; then these events
+abbrev begun : List Event → Book
+begun es =
+    let m : Model = record {
+      settings = ten;
+      clock = 40;
+      next = 5;
+      jobs =
+          kept A Running 1 3 4 0 2 1 1
+          ∷ kept B Cleanup 2 9 10 30 5 1 8
+          ∷ kept A Waiting 3 0 60 0 7 2 50
+          ∷ kept A Waiting 4 0 70 0 8 3 0
+          ∷ [];
+    } in
+    enterAll 10080 12 (beginning m) es
+
+-- document 02, No. 11: "whose stacks count as the lines give them. The promise, bound and forecast that the lines give a waiting stack are kept
+-- after": no bound and no forecast is claimed of the first two, which have started
+pub fates-begun : map fateOf (begun [] .entries) ≡ running 3 ∷ cleaning 9 30 ∷ waiting ∷ waiting ∷ []
+fates-begun = refl
+
+pub promises-begun : map promiseOf (begun [] .entries) ≡ 4 ∷ 10 ∷ 60 ∷ 70 ∷ []
+promises-begun = refl
+
+pub bounds-begun : map boundOf (begun [] .entries) ≡ none ∷ none ∷ some 20167 ∷ some 30248 ∷ []
+unfolding times.longest times.cleanup times.runTime times.holdTime times.unit
+bounds-begun = refl
+
+-- a forecast of 0 is none
+pub forecasts-begun : map forecastOf (begun [] .entries) ≡ none ∷ none ∷ some 50 ∷ none ∷ []
+forecasts-begun = refl
+
+-- the head has heard its own, and 55 counts no more; the last is told 65 when the head starts
+pub forecasts-told : map forecastOf (begun (tells [] 3 55 ∷ tells (3 ∷ []) 4 65 ∷ []) .entries) ≡ none ∷ none ∷ some 50 ∷ some 65 ∷ []
+unfolding enter
+forecasts-told = refl
+
+-- the clock goes on from 40, and who waits counts in r, which is 3 of one that comes in minute 41
+pub bounds-told : map boundOf (begun (idle ∷ taken 5 1 0 [] none ∷ []) .entries) ≡ none ∷ none ∷ some 20167 ∷ some 30248 ∷ some 30281 ∷ []
+unfolding enter times.longest times.cleanup times.runTime times.holdTime times.unit
+bounds-told = refl
+
+-- the second, which is B's, gives its node and its place back in minute 42
+pub nodes-told : (sum held-nodes (begun (idle ∷ []) .entries) ≡ 2) × (sum held-nodes (begun (idle ∷ idle ∷ []) .entries) ≡ 1)
+unfolding enter
+nodes-told = (refl, refl)
+
+pub places-told : (live-jobs B (begun (idle ∷ []) .entries) ≡ 1) × (live-jobs B (begun (idle ∷ idle ∷ []) .entries) ≡ 0)
+unfolding enter
+places-told = (refl, refl)
