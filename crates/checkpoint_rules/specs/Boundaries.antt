@@ -2,8 +2,8 @@
 -- and one that breaks it by one and is refused by 23. Then what is refused by 22, also where a condition is broken.
 -- Assumes nothing.
 use mathlib.Core.Path.{_≡_, refl}
-use mathlib.Core.Bool.{true, cond, _&&_}
-use mathlib.Core.List.{List, [], _∷_, _++_, map, flatMap}
+use mathlib.Core.Bool.{true, _&&_}
+use mathlib.Core.List.{List, [], _∷_, _++_, flatMap}
 use Prim.Native.Nat.{ℕ}
 use Prim.Native.String.{String}
 use lib.Dec.{eqb}
@@ -11,7 +11,7 @@ use Rattle.lists.specs.Every.{every}
 use Rattle.text.specs.Fields.{fieldsOf}
 use Rattle.text.specs.Letters as letters
 use Rattle.text.specs.Numbers as numbers
-use Rattle.text.specs.Quoted.{bytes}
+use Rattle.text.specs.Quoted.{fields, textOf}
 use Rattle.text.specs.Words.{isWord}
 use Rattle.spans.specs.Spans as spans
 use Rattle.scheduler.specs.Settings as times
@@ -21,14 +21,6 @@ use Rattle.desk_lines.specs.Lines.{linesOf}
 use Rattle.desk_lines.specs.DeskLine as desk
 use Rattle.checkpoint_rules.specs.Acceptance as acceptance
 use Rattle.checkpoint_rules.specs.Texts as texts
-
--- document 01: "fields parted by one tab (byte 9; a space below)"
-abbrev fields : String → List ℕ
-fields s = map (λ (b : ℕ). cond (eqb b 32) 9 b) (bytes s)
-
--- lines that are each closed
-abbrev textOf : List String → List ℕ
-textOf ls = flatMap (λ (l : String). fields l ++ (10 ∷ [])) ls
 
 -- the number by which a text is refused; 0 if it is accepted
 abbrev number : List ℕ → ℕ
