@@ -1,3 +1,4 @@
 pub mod Reading
 pub mod Season
 pub mod Computed
+pub mod Boundaries
