@@ -1,5 +1,6 @@
--- Document 02, computed from the definitions. No. 4: how the places are divided, and who is refused for lack of them. No. 6: the longest
--- estimate, as an opening fixes it. No. 7: a least above the most, and an end before the least.
+-- Refusals computed from the definitions. Document 02, No. 4: how the places are divided, and who is refused for lack of them. No. 6: the longest
+-- estimate, as an opening fixes it. No. 7: a least above the most, and an end before the least. Document 01, with document 02's numbers: the
+-- order of refusals of openings, waits and submissions.
 -- Assumes nothing.
 use mathlib.Core.Path.{_≡_, refl}
 use mathlib.Core.Bool.{true, false}
@@ -20,7 +21,7 @@ use Rattle.scheduler.specs.Jobs.{fresh, cleaning}
 use Rattle.scheduler.specs.Model.{Model}
 use Rattle.scheduler.specs.Answers.{verdict}
 use Rattle.scheduler.specs.declared.Departure.the-variants.{Complete}
-use Rattle.scheduler.specs.Refusals.{submitTests, departRefusal}
+use Rattle.scheduler.specs.Refusals.{submitTests, departRefusal, waitRefusal}
 use Rattle.scheduler.specs.Opening.{openingRefusal}
 
 abbrev asks : Tenant → (nodes : ℕ) → Submission
@@ -113,3 +114,59 @@ pub longest-examples : (opens-with (up-to 0) ≡ refusal.LongestOutOfRange)
     × (unit (up-to 481) ≡ 517)
 unfolding openingRefusal verdict longest cleanup runTime holdTime unit
 longest-examples = (refl, refl, refl, refl, refl, refl, refl, refl)
+
+-- ## Orders
+
+abbrev opens : (nodes minute ticket cleanup places : ℕ) → Refusal
+opens n m t c a = openingRefusal (record {
+  settings = record { kind = Easy; nodes = n; cleanup = c; «quota_a» = a; «quota_b» = 1; longest = 60 };
+  minute = m;
+  ticket = t;
+})
+
+-- "order: opening 1, 3"; "12, clearing above 30, after 3 at opening; 13, the places do not sum to 64 or one is 0, last at opening"; each limit just
+-- met is no reason
+pub opening-order : (opens 0 1000001 0 31 0 ≡ refusal.NodesOutOfRange)
+    × (opens 1025 0 1 0 63 ≡ refusal.NodesOutOfRange)
+    × (opens 1024 1000001 1 31 0 ≡ refusal.OpeningOutOfRange)
+    × (opens 1024 1000000 0 31 0 ≡ refusal.OpeningOutOfRange)
+    × (opens 1024 1000000 1000000 31 0 ≡ refusal.OpeningOutOfRange)
+    × (opens 1024 1000000 999999 31 0 ≡ refusal.CleanupOutOfRange)
+    × (opens 1024 1000000 999999 30 0 ≡ refusal.QuotasOutOfRange)
+    × (opens 1024 1000000 999999 30 63 ≡ refusal.None)
+    × (opens 1 0 1 0 63 ≡ refusal.None)
+unfolding openingRefusal verdict
+opening-order = (refl, refl, refl, refl, refl, refl, refl, refl, refl)
+
+abbrev waits-for : (clock minutes : ℕ) → Refusal
+waits-for c n = waitRefusal (record { settings = up-to 60; clock = c; next = 9; jobs = [] }) n
+
+-- "`wait` 2, 6"; "`wait` outside 1 to 10,080", whatever the longest estimate is, here 60
+pub wait-order : (waits-for 0 0 ≡ refusal.MinutesOutOfRange)
+    × (waits-for 0 61 ≡ refusal.None)
+    × (waits-for 0 10080 ≡ refusal.None)
+    × (waits-for 999999 10081 ≡ refusal.MinutesOutOfRange)
+    × (waits-for 999999 1 ≡ refusal.None)
+    × (waits-for 999999 2 ≡ refusal.PastHorizon)
+unfolding waitRefusal verdict longest
+wait-order = (refl, refl, refl, refl, refl, refl)
+
+-- A's two places are taken; this is the next ticket
+abbrev submits : (next : ℕ) → Submission → Refusal
+submits t o = verdict (submitTests (record {
+  settings = up-to 60;
+  clock = 9;
+  next = t;
+  jobs = runs A 1 ∷ waits A 2 ∷ [];
+}) o [])
+
+-- "intake 1, 2, .. 5", with 14 first, "19, least above most, after 2" and 15 in place of 4
+pub submission-order : (submits 1000000 (record { nodes = 0; estimate = 0; tenant = Nobody; least = 1 }) ≡ refusal.UnknownTenant)
+    × (submits 1000000 (record { nodes = 0; estimate = 0; tenant = A; least = 1 }) ≡ refusal.NodesOutOfRange)
+    × (submits 1000000 (record { nodes = 1; estimate = 0; tenant = A; least = 1 }) ≡ refusal.MinutesOutOfRange)
+    × (submits 1000000 (record { nodes = 1; estimate = 1; tenant = A; least = 2 }) ≡ refusal.LeastAboveMost)
+    × (submits 1000000 (record { nodes = 1; estimate = 1; tenant = A; least = 1 }) ≡ refusal.QuotaFull)
+    × (submits 1000000 (record { nodes = 1; estimate = 1; tenant = B; least = 1 }) ≡ refusal.NoTicketLeft)
+    × (submits 999999 (record { nodes = 1; estimate = 1; tenant = B; least = 1 }) ≡ refusal.None)
+unfolding verdict longest
+submission-order = (refl, refl, refl, refl, refl, refl, refl)
