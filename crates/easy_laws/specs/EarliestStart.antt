@@ -4,20 +4,21 @@ use Prim.Native.Nat.{ℕ, _+_, _≤_, max}
 use native.Mathlib.Omega.{arith}
 use mathlib.Core.Path.{_≡_, sym, ap, _∙_}
 use mathlib.Core.Bool.{true, false}
+use lib.Dec.{leb}
 use lib.ListN.{length-map}
-use Rattle.lists.specs.Tests.{case, true-false}
+use Rattle.lists.specs.Tests.{case, true-false, on}
 use Rattle.lists.specs.Lists.{In, map-in, sum-map, sum-cong}
 use Rattle.scheduler.specs.declared.Job.{Job}
 use Rattle.scheduler.specs.declared.Settings.{Settings}
-use Rattle.scheduler.specs.Jobs.{isRunning, isCleaning, isHolding, held}
+use Rattle.scheduler.specs.Jobs.{isWaiting, isRunning, isCleaning, isHolding, held}
 use Rattle.scheduler.specs.Settings.{cleanup, unit, until}
 use Rattle.scheduler.specs.Times.{run-from, hold-is, hold-unit, cleanup-unit, until-cleaning, until-cleaned}
 use Rattle.scheduler.specs.Table.{nodesHeld}
 use Rattle.scheduler.specs.Model.{Model}
-use Rattle.jobs.specs.Soundness.{SoundJob, Sound, running-holds, running-clean, holds-short}
-use Rattle.easy_rules.specs.Easy.{avail}
+use Rattle.jobs.specs.Soundness.{SoundJob, Sound, running-holds, cleaning-holds, running-clean, waiting-is, holds-short}
+use Rattle.easy_rules.specs.Easy.{freed, avail}
 use Rattle.easy_rules.specs.EarliestStart.{overAtLeast, atLeast, earliestFor}
-use Rattle.easy_laws.specs.Settling.{shadow-from, shadow-min, Releasing}
+use Rattle.easy_laws.specs.Settling.{shadow-from, shadow-min, Releasing, shadow-suffices}
 
 -- it holds its nodes still
 module _ (now : ℕ) (j : Job) where
@@ -86,3 +87,25 @@ module _ (m : Model) (s : Sound m) where
           let k = map-in (overAtLeast (m .clock)) (m .jobs) i in
           rw (k .2) (over-soon (m .settings) (m .clock) (k .0) (s .each (k .0) (k .1))
           (sym (over-holding (m .clock) (k .0)) ∙ sym (ap isHolding (k .2)) ∙ h))
+
+-- ## For the reader
+
+-- Document 02, No. 7: nodes come free "if every running stack ended at its least, or now if that is past, followed by clearing, and no waiting one
+-- were there", those of one in cleanup as they do anyway.
+module _ (S : Settings) (now t : ℕ) (j : Job) where
+  pub running-frees-least : isRunning j ≡ true → freed S t (overAtLeast now j) ≡ on (leb (max now (j .start + j .least) + cleanup S) t) (j .nodes)
+  running-frees-least r = rw (over-holding now j, running-holds (j .state) r, until-over S now j r, over-nodes now j)
+
+  pub cleaning-frees-least : isCleaning j ≡ true → freed S t (overAtLeast now j) ≡ on (leb (j .end + cleanup S) t) (j .nodes)
+  cleaning-frees-least c = rw (over-holding now j, cleaning-holds (j .state) c, until-cleared S now j c, over-nodes now j)
+
+  pub waiting-frees-least : isWaiting j ≡ true → freed S t (overAtLeast now j) ≡ 0
+  waiting-frees-least w = rw (over-holding now j, waiting-is (j .state) w)
+
+-- The soonest minute is "the smallest, now or later, at which its nodes would be free" then.
+pub earliest-smallest : (m : Model) (n : ℕ) → Sound m → n ≤ m .settings .nodes
+    → (m .clock ≤ earliestFor m n)
+    × (n ≤ avail (atLeast m) (earliestFor m n))
+    × ((t : ℕ) → m .clock ≤ t → n ≤ avail (atLeast m) t → earliestFor m n ≤ t)
+earliest-smallest m n s l =
+    (shadow-from (atLeast m) n, shadow-suffices (atLeast m) n (least-releasing m s) l, λ t c h. shadow-min (atLeast m) n t h c)
