@@ -117,9 +117,15 @@ queued = after call (fresh 0) (submit (order 2 5) ∷ submit (order 2 10) ∷ su
 abbrev withdrawn : Model
 withdrawn = call queued (cancel 2) .model
 
+-- two jobs whose estimates are no held times: one runs on both nodes for 6 minutes, the next waits for a node for 1
+abbrev rounded : Model
+rounded = after call (fresh 0) (submit (order 2 6) ∷ submit (order 1 1) ∷ [])
+
 pub examples : (ticketsOf (figure2 .jobs) ≡ 1 ∷ 2 ∷ 3 ∷ 4 ∷ [])
     × (map promiseOf (figure2 .jobs) ≡ 0 ∷ 0 ∷ 15 ∷ 5 ∷ [])
     × (points figure2 ≡ record { minute = 0; free = 0 } ∷ record { minute = 20; free = 2 } ∷ [])
+    -- "less those of running stacks whose end is after t, less those of waiting stacks with start ≤ t < start + held"
+    × (points rounded ≡ record { minute = 0; free = 0 } ∷ record { minute = 10; free = 1 } ∷ record { minute = 15; free = 2 } ∷ [])
     × (fifth-tick .ended ≡ 1 ∷ [])
     × (fifth-tick .started ≡ 4 ∷ [])
     -- "Promise, minute 999,990: `in 1 10` is taken", and `in 1 11` refused by 6; 1 comes before 6
@@ -195,4 +201,4 @@ unfolding
     ticked
     call
     replan
-examples = (refl, refl, refl, refl, refl, refl, refl, refl, refl, refl, refl, refl, refl, refl, refl, refl, refl, refl, refl, refl, refl, refl, refl, refl, refl, refl, refl, refl, refl, refl, refl, refl, refl, refl, refl, refl, refl, refl)
+examples = (refl, refl, refl, refl, refl, refl, refl, refl, refl, refl, refl, refl, refl, refl, refl, refl, refl, refl, refl, refl, refl, refl, refl, refl, refl, refl, refl, refl, refl, refl, refl, refl, refl, refl, refl, refl, refl, refl, refl)

@@ -127,6 +127,9 @@ pub examples : (call (call (fresh 10 0) (submit (order 6 20)) .model) (submit (o
     × (started waited-for (submit (order 4 20)) ≡ 3 ∷ [])
     × (started waited-for (submit (order 2 100)) ≡ 3 ∷ [])
     × (started waited-for (submit (order 3 21)) ≡ [])
+    -- "(i) has now + held ≤ shadow": a minute later 15 minutes end before 20, and 16, which are held for 20, after it
+    × (started (after call waited-for (tick ∷ [])) (submit (order 4 15)) ≡ 3 ∷ [])
+    × (started (after call waited-for (tick ∷ [])) (submit (order 4 16)) ≡ [])
     × (extra together 4 ≡ 6)
     -- the first that passes takes the extra nodes, and the rules are tested afresh for the second
     × (started one-may-pass (complete 1) ≡ 4 ∷ [])
@@ -214,6 +217,8 @@ unfolding
     call
     earliestStart
 examples = (
+  refl,
+  refl,
   refl,
   refl,
   refl,

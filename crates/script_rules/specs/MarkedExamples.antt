@@ -2,9 +2,10 @@
 -- Assumes nothing.
 use mathlib.Core.Path.{_≡_, refl}
 use mathlib.Core.Bool.{cond}
-use mathlib.Core.List.{List, [], _∷_, map}
+use mathlib.Core.List.{List, [], _∷_, map, flatMap}
 use mathlib.Core.Option.{Option, none, some}
 use Prim.Native.Nat.{ℕ}
+use Prim.Native.String.{String}
 use lib.Dec.{eqb}
 use lib.ListN.{drop}
 use Rattle.lists.specs.Lists.{All}
@@ -24,6 +25,7 @@ use Rattle.guarantees.specs.Rules.{call}
 use Rattle.text.specs.Letters as letters
 use Rattle.text.specs.Fields.{fieldsOf}
 use Rattle.text.specs.Numbers as numbers
+use Rattle.text.specs.Quoted.{textOf}
 use Rattle.text.specs.Words.{isWord}
 use Rattle.desk_lines.specs.Lines.{linesOf}
 use Rattle.desk_lines.specs.DeskLine as desk
@@ -67,9 +69,12 @@ fresh k = opening.opening (record {
 abbrev play : Kind → List Command → List Said
 play k qs = map said (events call (fresh k) (allCalls call (fresh k) qs))
 
--- "after `in 6 20` and `in 8 10`": the answer to one submission more
+-- "after `in 6 20` and `in 8 10`": the answers to what comes then, and to one submission more
+abbrev next : Kind → List Command → List Said
+next k qs = drop 2 (play k (ask (submit (order 6 20)) ∷ ask (submit (order 8 10)) ∷ qs))
+
 abbrev third : Kind → ℕ → ℕ → List Said
-third k n e = drop 2 (play k (ask (submit (order 6 20)) ∷ ask (submit (order 8 10)) ∷ ask (submit (order n e)) ∷ []))
+third k n e = next k (ask (submit (order n e)) ∷ [])
 
 -- the scheduler after some submissions
 abbrev with-jobs : List Command → Model
@@ -93,41 +98,12 @@ answered x y = record { got = answers x; want = answers y }
 abbrev took : List ℕ → List ℕ → List ℕ → Said
 took t s h = record { number = 0; took = t; over = []; start = s; head = h }
 
--- the day sheet of the example; a space stands for a tab
-abbrev sheet : List ℕ
-sheet =
-    -- desk promise 10 0 1 0 63 1
-    100 ∷ 101 ∷ 115 ∷ 107 ∷ 9 ∷ 112 ∷ 114 ∷ 111 ∷ 109 ∷ 105 ∷ 115 ∷ 101 ∷ 9 ∷ 49 ∷ 48 ∷ 9 ∷ 48 ∷ 9 ∷ 49 ∷ 9 ∷ 48 ∷ 9 ∷ 54 ∷ 51 ∷ 9 ∷ 49 ∷ 10 ∷
-    -- in 6 20 A
-    105 ∷ 110 ∷ 9 ∷ 54 ∷ 9 ∷ 50 ∷ 48 ∷ 9 ∷ 65 ∷ 10 ∷
-    -- in 8 10 A
-    105 ∷ 110 ∷ 9 ∷ 56 ∷ 9 ∷ 49 ∷ 48 ∷ 9 ∷ 65 ∷ 10 ∷
-    -- in 4 25 A
-    105 ∷ 110 ∷ 9 ∷ 52 ∷ 9 ∷ 50 ∷ 53 ∷ 9 ∷ 65 ∷ 10 ∷
-    -- end 1
-    101 ∷ 110 ∷ 100 ∷ 9 ∷ 49 ∷ 10 ∷
-    -- wait 30
-    119 ∷ 97 ∷ 105 ∷ 116 ∷ 9 ∷ 51 ∷ 48 ∷ 10 ∷ []
+-- the day sheet of the example, with document 02's fields, and what it prints
+abbrev sheet : List String
+sheet = "desk promise 10 0 1 0 63 1" ∷ "in 6 20 A" ∷ "in 8 10 A" ∷ "in 4 25 A" ∷ "end 1" ∷ "wait 30" ∷ []
 
--- what it prints
-abbrev sheetPrints : List ℕ
-sheetPrints =
-    -- took 1 0
-    116 ∷ 111 ∷ 111 ∷ 107 ∷ 9 ∷ 49 ∷ 9 ∷ 48 ∷ 10 ∷
-    -- start 1 0
-    115 ∷ 116 ∷ 97 ∷ 114 ∷ 116 ∷ 9 ∷ 49 ∷ 9 ∷ 48 ∷ 10 ∷
-    -- took 2 20
-    116 ∷ 111 ∷ 111 ∷ 107 ∷ 9 ∷ 50 ∷ 9 ∷ 50 ∷ 48 ∷ 10 ∷
-    -- took 3 30
-    116 ∷ 111 ∷ 111 ∷ 107 ∷ 9 ∷ 51 ∷ 9 ∷ 51 ∷ 48 ∷ 10 ∷
-    -- over 1 0
-    111 ∷ 118 ∷ 101 ∷ 114 ∷ 9 ∷ 49 ∷ 9 ∷ 48 ∷ 10 ∷
-    -- start 2 0
-    115 ∷ 116 ∷ 97 ∷ 114 ∷ 116 ∷ 9 ∷ 50 ∷ 9 ∷ 48 ∷ 10 ∷
-    -- over 2 10
-    111 ∷ 118 ∷ 101 ∷ 114 ∷ 9 ∷ 50 ∷ 9 ∷ 49 ∷ 48 ∷ 10 ∷
-    -- start 3 10
-    115 ∷ 116 ∷ 97 ∷ 114 ∷ 116 ∷ 9 ∷ 51 ∷ 9 ∷ 49 ∷ 48 ∷ 10 ∷ []
+abbrev sheetPrints : List String
+sheetPrints = "took 1 0" ∷ "start 1 0" ∷ "took 2 20" ∷ "took 3 30" ∷ "over 1 0" ∷ "start 2 0" ∷ "over 2 10" ∷ "start 3 10" ∷ []
 
 unfoldable pub rows : List Row
 rows =
@@ -136,9 +112,12 @@ rows =
     ∷ gives (wallTime 120) 120
     ∷ gives (wallTime 121) 130
     ∷ gives (wallTime 481) 510
-    -- "Promise: `in 4 20` starts at 0. `in 4 21` is held 25 and gets 30."
+    -- "Promise: `in 4 20` starts at 0. `in 4 21` is held 25 and gets 30": then one that needs all 10 nodes gets 55
     ∷ answered (third Conservative 4 20) (took (3 ∷ 0 ∷ []) (3 ∷ []) [] ∷ [])
-    ∷ answered (third Conservative 4 21) (took (3 ∷ 30 ∷ []) [] [] ∷ [])
+    ∷ gives (wallTime 21) 25
+    ∷ answered
+    (next Conservative (ask (submit (order 4 21)) ∷ ask (submit (order 10 1)) ∷ []))
+    (took (3 ∷ 30 ∷ []) [] [] ∷ took (4 ∷ 55 ∷ []) [] [] ∷ [])
     -- "Loose: the head's forecast is 20, extra 2."
     ∷ answered (play Easy (ask (submit (order 6 20)) ∷ ask (submit (order 8 10)) ∷ [])) (took (1 ∷ 0 ∷ []) (1 ∷ []) [] ∷ took (2 ∷ 0 ∷ []) [] (2 ∷ 20 ∷ []) ∷ [])
     ∷ gives (easy.extra (with-jobs (ask (submit (order 6 20)) ∷ ask (submit (order 8 10)) ∷ [])) 8) 2
@@ -149,12 +128,13 @@ rows =
     -- "Loose, rack of 10, running 5 and 3 nodes, both to 20, head needing 4: extra is 6, not 3."
     ∷ gives (easy.extra (with-jobs (ask (submit (order 5 20)) ∷ ask (submit (order 3 20)) ∷ ask (submit (order 4 20)) ∷ [])) 4) 6
     -- "Input .. prints exactly", byte for byte
-    ∷ record { got = bytes (script.printout sheet); want = bytes sheetPrints }
+    ∷ record { got = bytes (script.printout (textOf sheet)); want = bytes (textOf sheetPrints) }
     ∷ []
 
 pub marked : All (λ (r : Row). r .got ≡ r .want) rows
 unfolding
     rows
+    flatMap
     fieldsOf
     isWord
     numbers.digitsFrom
@@ -215,4 +195,4 @@ unfolding
     easy.submitRefusal
     easy.advanced
     easy.call
-marked = (refl, (refl, (refl, (refl, (refl, (refl, (refl, (refl, (refl, (refl, (refl, (refl, (refl, tt)))))))))))))
+marked = (refl, (refl, (refl, (refl, (refl, (refl, (refl, (refl, (refl, (refl, (refl, (refl, (refl, (refl, tt))))))))))))))
