@@ -4,3 +4,4 @@ pub mod Printout
 pub mod Beginnings
 pub mod PlayedCalls
 pub mod MarkedExamples
+pub mod Computed
