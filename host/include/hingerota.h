@@ -160,7 +160,7 @@ typedef struct {
     uint32_t refusal;
     uint32_t ticket;   /* of a submission that is taken */
     uint32_t promise;  /* and, on a Promise Desk, the minute by which it starts */
-    uint32_t reads;    /* and how many points of the profile were read to find it */
+    uint32_t reads;    /* and how many points of the profile were read to find it (see hingerota_index) */
     uint32_t head;     /* on a Loose Desk: the first waiting job, if it was not the first before this call */
     uint32_t forecast; /* and the minute by which it starts */
     hingerota_tickets ended;   /* ascending */
@@ -231,9 +231,9 @@ hingerota_answer hingerota_tick(hingerota_desk *d);
 hingerota_shown hingerota_profile(const hingerota_desk *d, hingerota_point *points, size_t room);
 
 /* The index of that profile: `count` blocks are written into `blocks`, which has places for `room`, one for each 16 points in their order;
- * the last may have fewer. The places past the last block keep what they held. A submission reads, each once, the points of those blocks
- * that begin before its nodes are free again, and whose fewest is below its nodes and whose most is not; `reads` says how many. Refused by
- * 10. A Loose Desk has no index: nothing is refused and nothing written. */
+ * the last may have fewer. The places past the last block keep what they held. A submission that is taken reads all points of those blocks
+ * that begin before its nodes are free again, and whose fewest is below its nodes and whose most is not, each point once, also those after
+ * that minute; `reads` says how many. Refused by 10. A Loose Desk has no index: nothing is refused and nothing written. */
 hingerota_shown hingerota_index(const hingerota_desk *d, hingerota_block *blocks, size_t room);
 
 /* Why a wait of `minutes` is refused, by 2 or 6, the first that applies, or 0 where it is not: it is then that number of ticks.

@@ -2,9 +2,11 @@
 -- Assumes nothing.
 use Prim.Native.Nat.{ℕ, zero, suc, _+_, _≤_, _<_}
 use native.Mathlib.Omega.{arith}
-use mathlib.Core.Path.{_≡_, refl, sym}
+use mathlib.Core.Path.{_≡_, refl, sym, ap, _∙_}
 use mathlib.Core.Bool.{Bool, true, false, cond}
+use mathlib.Core.List.{List}
 use lib.Dec.{leb, ltb}
+use lib.ListN.{getD, length}
 use borrow.Author.Tests.{le-leb, lt-leb, lt-ltb, le-ltb}
 use Rattle.lists.specs.Tests.{case, true-false}
 use Rattle.conservative_index.specs.declared.Anchor.{Anchor}
@@ -43,30 +45,52 @@ minuteOf Lost = 0
 minuteOf (From a) = a
 minuteOf (Found a) = a
 
-abbrev pub readPoint : ℕ → ℕ → ℕ → ℕ → Anchor → Anchor
-readPoint n h t v s = settle t (leb n v) (enter h t s)
+abbrev pub passPoint : ℕ → ℕ → Bool → Anchor → Anchor
+passPoint h t enough s = settle t enough (enter h t s)
 
--- the five ways of a point
-module _ (n h t v a : ℕ) where
-  pub read-found : a + h ≤ t → readPoint n h t v (From a) ≡ Found a
-  read-found l = rw (le-leb (a + h) t l)
+-- the three ways of a point
+module _ (h t a : ℕ) (enough : Bool) where
+  pub pass-found : a + h ≤ t → passPoint h t enough (From a) ≡ Found a
+  pass-found l = rw (le-leb (a + h) t l)
 
-  pub read-on : t < a + h → n ≤ v → readPoint n h t v (From a) ≡ From a
-  read-on l e = rw (lt-leb (a + h) t l, le-leb n v e)
+  pub pass-open : t < a + h → passPoint h t enough (From a) ≡ standing enough a
+  pass-open l = rw (lt-leb (a + h) t l) (go enough)
+    where
+      go : (b : Bool) → cond b (From a) Lost ≡ standing b a
+      go true = refl
+      go false = refl
 
-  pub read-short : t < a + h → v < n → readPoint n h t v (From a) ≡ Lost
-  read-short l e = rw (lt-leb (a + h) t l, lt-leb n v e)
+  pub pass-shut : passPoint h t enough Lost ≡ standing enough t
+  pass-shut = go enough
+    where
+      go : (b : Bool) → cond b (From t) Lost ≡ standing b t
+      go true = refl
+      go false = refl
 
-  pub read-first : n ≤ v → readPoint n h t v Lost ≡ From t
-  read-first e = rw (le-leb n v e)
+-- k places from p on, of which e says whether there are nodes enough
+unfoldable pub passPoints : ℕ → (ℕ → ℕ) → (ℕ → Bool) → ℕ → ℕ → Anchor → Anchor
+passPoints h m e p zero s = s
+passPoints h m e p (suc k) s = passPoint h (m (p + k)) (e k) (passPoints h m e p k s)
 
-  pub read-none : v < n → readPoint n h t v Lost ≡ Lost
-  read-none e = rw (lt-leb n v e)
+pub points-same : (h : ℕ) (m : ℕ → ℕ) (e e′ : ℕ → Bool) (p k : ℕ) (s : Anchor) → ((j : ℕ) → j < k → e j ≡ e′ j)
+    → passPoints h m e p k s ≡ passPoints h m e′ p k s
+unfolding passPoints
+points-same h m e e′ p zero s q = refl
+points-same h m e e′ p (suc k) s q = rw (q k (omega arith), points-same h m e e′ p k s (λ j l. q j (omega arith)))
 
--- k places from p on
-unfoldable pub readPoints : ℕ → ℕ → (ℕ → ℕ) → (ℕ → ℕ) → ℕ → ℕ → Anchor → Anchor
-readPoints n h m g p zero s = s
-readPoints n h m g p (suc k) s = readPoint n h (m (p + k)) (g (p + k)) (readPoints n h m g p k s)
+-- are there n nodes in the place j after p?
+abbrev pub has : ℕ → (ℕ → ℕ) → ℕ → ℕ → Bool
+has n g p j = leb n (g (p + j))
+
+-- what is noted of a place
+abbrev pub note : List Bool → ℕ → Bool
+note bs j = getD bs j false
+
+-- All k points from p on have been read: as many as r says, and of each it is noted whether there are n nodes.
+pub record Noted (n : ℕ) (g : ℕ → ℕ) (p k r : ℕ) (bs : List Bool) : Type 0 where
+  pub long : length bs ≡ 16
+  pub count : r ≡ k
+  pub each : (j : ℕ) → j < k → note bs j ≡ has n g p j
 
 pub stands : (s : Anchor) → over s ≡ false → standing (isOpen s) (minuteOf s) ≡ s
 stands Lost e = refl
@@ -74,17 +98,17 @@ stands (From a) e = refl
 stands (Found a) e = true-false true refl e
 
 -- a minute that was found stays
-pub found-stays : (n h : ℕ) (m g : ℕ → ℕ) (p k r a : ℕ) (s : Anchor) → readPoints n h m g p k s ≡ Found a → readPoints n h m g p (k + r) s ≡ Found a
-unfolding readPoints
-found-stays n h m g p k zero a s e = let z : k + 0 ≡ k = omega arith in rw z e
-found-stays n h m g p k (suc r) a s e = let z : k + suc r ≡ suc (k + r) = omega arith in rw (z, found-stays n h m g p k r a s e)
+pub found-stays : (h : ℕ) (m : ℕ → ℕ) (e : ℕ → Bool) (p k r a : ℕ) (s : Anchor) → passPoints h m e p k s ≡ Found a → passPoints h m e p (k + r) s ≡ Found a
+unfolding passPoints
+found-stays h m e p k zero a s q = let z : k + 0 ≡ k = omega arith in rw z q
+found-stays h m e p k (suc r) a s q = let z : k + suc r ≡ suc (k + r) = omega arith in rw (z, found-stays h m e p k r a s q)
 
 -- a block of k places from p on, whose fewest and most are low and high, once the search has come to it
 unfoldable pub passEntered : ℕ → ℕ → (ℕ → ℕ) → (ℕ → ℕ) → ℕ → ℕ → ℕ → ℕ → Anchor → Step
 passEntered n h m g low high p k s =
     cond (over s) (record { anchor = s; reads = 0 })
     (cond (leb n low) (record { anchor = settle (m p) true s; reads = 0 })
-    (cond (ltb high n) (record { anchor = Lost; reads = 0 }) (record { anchor = readPoints n h m g p k s; reads = k })))
+    (cond (ltb high n) (record { anchor = Lost; reads = 0 }) (record { anchor = passPoints h m (has n g p) p k s; reads = k })))
 
 abbrev pub passBlock : ℕ → ℕ → (ℕ → ℕ) → (ℕ → ℕ) → ℕ → ℕ → ℕ → ℕ → Anchor → Step
 passBlock n h m g low high p k s = passEntered n h m g low high p k (enter h (m p) s)
@@ -103,10 +127,14 @@ module _ (n h : ℕ) (m g : ℕ → ℕ) (low high p k : ℕ) {s t : Anchor} (e 
   unfolding passEntered
   pass-lost o a b = rw (sym e, o, lt-leb n low a, lt-ltb high n b)
 
-  pub pass-read : {r : Anchor} → over s ≡ false → low < n → n ≤ high → r ≡ readPoints n h m g p k s
-      → record { anchor = r; reads = k } ≡ passEntered n h m g low high p k t
+  -- the points have been read and noted, and the search has passed them
+  pub pass-read : {r : Anchor} {c : ℕ} {bs : List Bool} → over s ≡ false → low < n → n ≤ high → Noted n g p k c bs → r ≡ passPoints h m (note bs) p c s
+      → record { anchor = r; reads = c } ≡ passEntered n h m g low high p k t
   unfolding passEntered
-  pass-read o a b q = rw (sym e, o, lt-leb n low a, le-ltb high n b, q)
+  pass-read {r} {c} {bs} o a b v q =
+      let z : r ≡ passPoints h m (has n g p) p k s =
+      q ∙ ap (λ (c : ℕ). passPoints h m (note bs) p c s) (v .count) ∙ points-same h m (note bs) (has n g p) p k s (v .each) in
+      rw (sym e, o, lt-leb n low a, le-ltb high n b, z, v .count)
 
 pub pass-few : (n h : ℕ) (m g : ℕ → ℕ) (low high p k : ℕ) (s : Anchor) → passEntered n h m g low high p k s .reads ≤ k
 unfolding passEntered

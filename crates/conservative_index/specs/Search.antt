@@ -27,7 +27,7 @@ use Rattle.conservative_index.specs.declared.Step.{Step}
 use Rattle.conservative_index.specs.declared.Start.{Start}
 use Rattle.spans.specs.Index.{blocks, size, fewest, most, minuteAt, freeAt, readsOf, reads}
 use Rattle.conservative_index.specs.BuiltIndex.{at, Indexed, fewest-le, most-le, reads-same}
-use Rattle.conservative_index.specs.Anchors.{enter, settle, over, minuteOf, readPoint, readPoints, passEntered, passBlock, pass-few}
+use Rattle.conservative_index.specs.Anchors.{enter, settle, over, minuteOf, has, passPoint, passPoints, passEntered, passBlock, pass-few}
 
 -- the lists are a profile and its index
 pub record Searches (ms fs : List ℕ) (n : ℕ) (lo hi : List ℕ) (nodes h : ℕ) : Type 0 where
@@ -147,16 +147,16 @@ module _ {ms fs : List ℕ} {n : ℕ} {lo hi : List ℕ} {nodes h : ℕ} (s : Se
     settled-on (From a) p q true e = from-on a (leb-true nodes (getD fs i 0) e) p
     settled-on (From a) p q false e = lost-on (leb-false nodes (getD fs i 0) e) (lost-stands (From a) p q refl (leb-false nodes (getD fs i 0) e))
 
-    read-on : (k : Anchor) → Stands k i → Stands (readPoint nodes h (getD ms i 0) (getD fs i 0) k) (i + 1)
-    read-on k p = let q = enter-stands k p in settled-on (enter h (getD ms i 0) k) (q .0) (q .1) (leb nodes (getD fs i 0)) refl
+    point-on : (k : Anchor) → Stands k i → Stands (passPoint h (getD ms i 0) (leb nodes (getD fs i 0)) k) (i + 1)
+    point-on k p = let q = enter-stands k p in settled-on (enter h (getD ms i 0) k) (q .0) (q .1) (leb nodes (getD fs i 0)) refl
 
   -- j places on
-  reads-on : (i j : ℕ) (k : Anchor) → i + j ≤ n → Stands k i → Stands (readPoints nodes h (at ms) (at fs) i j k) (i + j)
-  unfolding readPoints
-  reads-on i zero k l p = let e : i + 0 ≡ i = omega arith in rw e p
-  reads-on i (suc j) k l p =
+  points-on : (i j : ℕ) (k : Anchor) → i + j ≤ n → Stands k i → Stands (passPoints h (at ms) (has nodes (at fs) i) i j k) (i + j)
+  unfolding passPoints
+  points-on i zero k l p = let e : i + 0 ≡ i = omega arith in rw e p
+  points-on i (suc j) k l p =
       let e : i + j + 1 ≡ i + suc j = omega arith in
-      rw e at (read-on (i + j) (omega arith) (readPoints nodes h (at ms) (at fs) i j k) (reads-on i j k (omega arith) p))
+      rw e at (point-on (i + j) (omega arith) (passPoints h (at ms) (has nodes (at fs) i) i j k) (points-on i j k (omega arith) p))
 
   free-on : (i j a : ℕ) → i + j ≤ n → ((c : ℕ) → c < j → nodes ≤ getD fs (i + c) 0) → Stands (From a) i → Stands (From a) (i + j)
   free-on i zero a l v p = let e : i + 0 ≡ i = omega arith in rw e p
@@ -202,7 +202,7 @@ module _ {ms fs : List ℕ} {n : ℕ} {lo hi : List ℕ} {nodes h : ℕ} (s : Se
         (λ u. case (ltb high nodes)
         (λ w. rw (e, u, w) (blocked-on p (suc k) l (λ c z. omega (arith, ltb-true high nodes w, most-le (at fs) p k c (omega arith)))
         (lost-stands p inside a q t e (first-few (ltb-true high nodes w)))))
-        (λ w. rw (e, u, w) (reads-on p (suc k) a l q))))
+        (λ w. rw (e, u, w) (points-on p (suc k) a l q))))
 
     -- a block that the search comes to begins before the hold's end, unless the start is known
     reached : (a : Anchor) → Stands a p → Short a p → over a ≡ false → getD ms p 0 < start + h

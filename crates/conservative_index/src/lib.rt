@@ -8,7 +8,7 @@ ghost use Rattle.conservative_table.specs.ProfileLists.{IsProfile, Laying, Adva
 ghost use Rattle.spans.specs.Index.{blocks};
 ghost use Rattle.conservative_index.specs.BuiltIndex.{at, extremes, Built, Indexed, held};
 ghost use Rattle.conservative_index.specs.StoredIndex.{storedBlocks};
-ghost use Rattle.conservative_index.specs.Anchors.{standing, isOpen, over, minuteOf, enter, settle, readPoints, passBlock};
+ghost use Rattle.conservative_index.specs.Anchors.{standing, isOpen, over, minuteOf, enter, settle, note, Noted, passPoints, passBlock};
 ghost use Rattle.conservative_index.specs.Search.{Searches, Sought};
 ghost use Rattle.conservative_index.specs.Intake.{Took};
 
@@ -185,42 +185,57 @@ fn minute_of(anchor: Anchor) -> u32
     }
 }
 
-// The points of these places are read, where the nodes have been free since a minute, or are not. (In two locals: an enum matched at each
-// point takes three times as long.)
+// The free nodes of these points are read, of each once, and it is noted where there are enough. It gives how many points were read.
 fn read_points(
-    minutes: &[u32; 131],
     free: &[u32; 131],
     from: usize,
     to: usize,
-    enough: bool,
-    since: u32,
     nodes: u32,
+    enough: &mut [bool; 16],
+) -> usize
+    requires { ⌜ (length (now free) ≡ rows) × (length (now enough) ≡ 16) × (from ≤ to) × (to ≤ rows) × (to ≤ from + 16) ⌝ }
+    ensures { λ r. ⌜ Noted nodes (at (now (free .entry))) from (to - from) r (now (enough .exit)) ⌝ }
+{
+    let mut reads: usize = 0;
+    let mut place = from;
+    while place < to {
+        enough[reads] = nodes <= free[place];
+        reads += 1;
+        place += 1;
+    }
+    reads
+}
+
+// The search passes so many points, of which it is noted where there are nodes enough. They have been free since a minute, or are not. (In
+// two locals: an enum matched at each point takes three times as long.)
+fn pass_points(
+    minutes: &[u32; 131],
+    from: usize,
+    enough: &[bool; 16],
+    count: usize,
+    opened: bool,
+    since: u32,
     hold: u32,
 ) -> Anchor
-    requires { ⌜ (length (now minutes) ≡ rows) × (length (now free) ≡ rows) × (from ≤ to) × (to ≤ rows) ⌝ }
-    ensures { λ r. ⌜ r ≡ readPoints nodes hold (at (now (minutes .entry))) (at (now (free .entry))) from (to - from) (standing enough since) ⌝ }
+    requires { ⌜ (length (now minutes) ≡ rows) × (length (now enough) ≡ 16) × (from + count ≤ rows) × (count ≤ 16) ⌝ }
+    ensures { λ r. ⌜ r ≡ passPoints hold (at (now (minutes .entry))) (note (now (enough .entry))) from count (standing opened since) ⌝ }
 {
-    let mut on = enough;
+    let mut on = opened;
     let mut first = since;
-    let mut i = from;
-    while i < to {
-        let minute = minutes[i];
+    let mut k: usize = 0;
+    while k < count {
+        let minute = minutes[from + k];
         if on {
             if first <= minute {
                 if hold <= minute - first {
                     return Anchor::Found(first);
                 }
             }
-            if free[i] < nodes {
-                on = false;
-            }
         } else {
-            if nodes <= free[i] {
-                on = true;
-                first = minute;
-            }
+            first = minute;
         }
-        i += 1;
+        on = enough[k];
+        k += 1;
     }
     if on {
         return Anchor::From(first);
@@ -228,7 +243,7 @@ fn read_points(
     Anchor::Lost
 }
 
-// A block is passed as a whole, or its points are read.
+// A block is passed as a whole, or each of its points is read.
 fn pass_block(
     minutes: &[u32; 131],
     free: &[u32; 131],
@@ -240,7 +255,7 @@ fn pass_block(
     nodes: u32,
     hold: u32,
 ) -> Step
-    requires { ⌜ (length (now minutes) ≡ rows) × (length (now free) ≡ rows) × (from < to) × (to ≤ rows) ⌝ }
+    requires { ⌜ (length (now minutes) ≡ rows) × (length (now free) ≡ rows) × (from < to) × (to ≤ rows) × (to ≤ from + 16) ⌝ }
     ensures { λ r. ⌜ r ≡ passBlock nodes hold (at (now (minutes .entry))) (at (now (free .entry))) low high from (to - from) anchor ⌝ }
 {
     let minute = minutes[from];
@@ -264,12 +279,14 @@ fn pass_block(
             reads: 0,
         };
     }
-    let on = is_open(here);
+    let mut enough = [false; 16];
+    let reads = read_points(free, from, to, nodes, &mut enough);
+    let opened = is_open(here);
     let since = minute_of(here);
-    let next = read_points(minutes, free, from, to, on, since, nodes, hold);
+    let next = pass_points(minutes, from, &enough, reads, opened, since, hold);
     Step {
         anchor: next,
-        reads: to - from,
+        reads: reads,
     }
 }
 

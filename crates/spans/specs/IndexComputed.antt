@@ -20,7 +20,8 @@ abbrev rising : ℕ → ℕ → List Point
 rising a zero = []
 rising a (suc k) = record { minute = a; free = a } ∷ rising (suc a) k
 
--- 4 nodes for 20 minutes start at 0: the block's fewest is 2, so its three points are read; for 1 or 2 nodes none is
+-- 4 nodes for 20 minutes start at 0: the block's fewest is 2, so that all its three points are read, those at 20 and 30 too, where the job is
+-- over; for 1 or 2 nodes none is
 pub small : (index (profile 10 spans 0) ≡ (block 2 10 ∷ []))
     × (reads (profile 10 spans 0) 4 20 ≡ 3)
     × (reads (profile 10 spans 0) 1 20 ≡ 0)

@@ -18,15 +18,23 @@ returns-3 : tie.Need-returns-3
 returns-3 c = pass-lost _ _ _ _ _ _ _ _ (c .before .before .before .before .enter .ensures)
     (sym (c .before .before .before .over .ensures) ∙ c .before .before .if1 .left) (omega arith) (omega arith)
 
+pass-points-requires : tie.Need-pass-points-requires
+pass-points-requires c κs =
+    let r = c .before .before .before in
+    let p = r .before .before .before .before .before .before .before .before .pre in
+    let v = r .read-points .ensures in
+    (p .0, v .long, omega (arith, v .count), omega (arith, v .count))
+
 returns-4 : tie.Need-returns-4
 returns-4 c =
-    let o = c .before .before in
-    let e = o .before .before .before in
+    let o = c .before .before .before in
+    let r = o .before in
+    let e = r .before .before .before .before in
     let n = sym (e .before .over .ensures) ∙ e .if1 .left in
-    pass-read _ _ _ _ _ _ _ _ (e .before .before .enter .ensures) n (omega arith) (omega arith)
-    (c .read-points .ensures ∙ rw (c .before .minute-of .ensures, o .is-open .ensures, stands _ n))
+    pass-read _ _ _ _ _ _ _ _ (e .before .before .enter .ensures) n (omega arith) (omega arith) (r .read-points .ensures)
+    (c .pass-points .ensures ∙ rw (c .before .before .minute-of .ensures, o .is-open .ensures, stands _ n))
 
 pub pass-block-spec : {M : Type 1} → statement M
 pass-block-spec =
     tie.close (tie.spec (λ c. search needs) (λ c. search needs) (λ c κs. search needs) (λ c κs. search needs) returns
-    (λ c κs. search needs) returns-2 returns-3 (λ c κs. search needs) (λ c κs. search needs) (λ c κs. search needs) (λ c. search needs) returns-4)
+    (λ c κs. search needs) returns-2 returns-3 (λ c κs. search needs) (λ c κs. search needs) (λ c κs. search needs) pass-points-requires returns-4)

@@ -1,95 +1,73 @@
--- `conservative_index::read_points` meets its contract: the points passed have been read.
+-- `conservative_index::read_points` meets its contract: of each point passed it is noted whether there are nodes enough.
 -- Assumes nothing.
-use Prim.Native.Nat.{ℕ, suc, _+_, _-_, _≤_, _<_}
+use Prim.Native.Nat.{ℕ, _+_, _-_, _≤_, _<_}
 use native.Mathlib.Omega.{arith}
-use mathlib.Core.Path.{_≡_, sym, ap, _∙_}
-use mathlib.Core.Bool.{Bool}
+use mathlib.Core.Path.{_≡_, ap, _∙_}
+use mathlib.Core.Bool.{Bool, false}
 use mathlib.Core.List.{List}
-use mathlib.Core.Logic.{⊎-elim}
-use lib.ListN.{getD}
-use Rattle.conservative_index.specs.declared.Anchor.{Anchor}
-use Rattle.conservative_index.specs.declared.Anchor.the-variants.{Found}
+use mathlib.Core.Logic.{_⊎_, inl, inr}
+use lib.Dec.{leb}
+use lib.ListN.{getD, set, length, length-set}
+use lib.Seq.{getD-set-same, getD-set-other}
+use Rattle.lists.specs.Tests.{le-or}
 use Rattle.conservative_index.specs.BuiltIndex.{at}
-use Rattle.conservative_index.specs.Anchors.{standing, readPoint, readPoints, found-stays, read-found, read-on, read-short, read-first, read-none}
+use Rattle.conservative_index.specs.Anchors.{has, note, Noted}
 use borrow.Author.Needs.{needs}
 use Rattle.conservative_index.proofs.read_points.Statement.{statement}
 use Rattle.conservative_index.proofs.read_points.Tie as tie
 
-module _ (ms fs : List ℕ) (from to nodes hold : ℕ) (a : Anchor) where
-  record Inv (b : Anchor) (i : ℕ) : Type 0 where
-    low : from ≤ i
-    high : i ≤ to
-    is : b ≡ readPoints nodes hold (at ms) (at fs) from (i - from) a
+-- k points are read, and place i is next
+record Inv (fs : List ℕ) (nodes from to : ℕ) (bs : List Bool) (k i : ℕ) : Type 0 where
+  here : i ≡ from + k
+  inside : i ≤ to
+  long : length bs ≡ 16
+  each : (j : ℕ) → j < k → note bs j ≡ has nodes (at fs) from j
 
-  begin : from ≤ to → Inv a from
-  unfolding readPoints
-  begin l = let e : from - from ≡ 0 = omega arith in record { low = omega arith; high = l; is = rw e }
+one-more : {fs : List ℕ} {nodes from to : ℕ} {bs : List Bool} {k i : ℕ} → Inv fs nodes from to bs k i → i < to → k < 16
+    → Inv fs nodes from to (set bs k (leb nodes (getD fs i 0))) (k + 1) (i + 1)
+one-more {fs} {nodes} {from} {to} {bs} {k} {i} q l r = record {
+  here = omega (arith, q .here);
+  inside = omega arith;
+  long = length-set bs k b ∙ q .long;
+  each = λ j u. go j u (le-or k j);
+}
+  where
+    b : Bool
+    b = leb nodes (getD fs i 0)
 
-  read-more : {b d : Anchor} {i : ℕ} → Inv b i → d ≡ readPoint nodes hold (getD ms i 0) (getD fs i 0) b
-      → d ≡ readPoints nodes hold (at ms) (at fs) from (suc (i - from)) a
-  unfolding readPoints
-  read-more {i = i} q e = let y : from + (i - from) ≡ i = omega (arith, q .low) in e ∙ rw (y, q .is)
+    go : (j : ℕ) → j < k + 1 → (k ≤ j) ⊎ (j < k) → note (set bs k b) j ≡ has nodes (at fs) from j
+    go j u (inl v) =
+        let e : j ≡ k = omega arith in
+        rw e (getD-set-same bs k b false (omega (arith, q .long)) ∙ ap (λ (m : ℕ). leb nodes (getD fs m 0)) (q .here))
+    go j u (inr v) = getD-set-other bs k j b false (λ e. omega arith) ∙ q .each j v
 
-  one-more : {b d : Anchor} {i : ℕ} → Inv b i → i < to → d ≡ readPoint nodes hold (getD ms i 0) (getD fs i 0) b → Inv d (i + 1)
-  one-more {i = i} q l e =
-      let x : i + 1 - from ≡ suc (i - from) = omega (arith, q .low) in
-      record { low = omega (arith, q .low); high = omega arith; is = rw x (read-more q e) }
-
-  -- a minute is found before all points are read
-  found : {b : Anchor} {i : ℕ} (m : ℕ) → Inv b i → i < to → Found m ≡ readPoint nodes hold (getD ms i 0) (getD fs i 0) b
-      → Found m ≡ readPoints nodes hold (at ms) (at fs) from (to - from) a
-  found {i = i} m q l e =
-      let r = to - from - suc (i - from) in
-      let x : to - from ≡ suc (i - from) + r = omega (arith, q .low) in
-      rw x (sym (found-stays nodes hold (at ms) (at fs) from (suc (i - from)) r m a (sym (read-more q e))))
-
-  all-read : {b : Anchor} {i : ℕ} → Inv b i → to ≤ i → b ≡ readPoints nodes hold (at ms) (at fs) from (to - from) a
-  all-read q l = q .is ∙ ap (λ (i : ℕ). readPoints nodes hold (at ms) (at fs) from (i - from) a) (omega (arith, q .high))
+all-read : {fs : List ℕ} {nodes from to : ℕ} {bs : List Bool} {k i : ℕ} → Inv fs nodes from to bs k i → to ≤ i → Noted nodes (at fs) from (to - from) k bs
+all-read q l = record { long = q .long; count = omega (arith, q .here, q .inside); each = λ j u. q .each j (omega (arith, q .here, q .inside)) }
 
 abbrev Inv-loop : tie.InvT-loop
-Inv-loop minutes free from to enough since nodes hold on₀ first₀ i₀ on first i = Inv minutes free from to nodes hold (standing on₀ first₀) (standing on first) i
+Inv-loop free from to nodes enough₀ reads₀ place₀ enough reads place = Inv free nodes from to enough reads place
 
 abbrev μ-loop : tie.MeasureT-loop
-μ-loop minutes free from to enough since nodes hold on₀ first₀ i₀ on first i = to - i
+μ-loop free from to nodes enough₀ reads₀ place₀ enough reads place = to - place
 
 loop-holds : tie.Need-loop-holds Inv-loop μ-loop
-loop-holds c = begin _ _ _ _ _ _ _ (c .pre .2)
+loop-holds c = record { here = omega arith; inside = c .pre .2; long = c .pre .1; each = λ j l. absurd (omega arith) }
 
-returns : tie.Need-returns Inv-loop μ-loop
-returns c =
-    let o = c .before .before in
-    let l = o .before .before .before .loop in
-    let a = o .before .before .before .before .args in
-    found _ _ _ _ _ _ _ (l .first) (l .inv) (omega arith)
-    (rw (o .if1 .taken) (sym (read-found (a .nodes) (a .hold) (getD (a .minutes .now) (l .i) 0) (getD (a .free .now) (l .i) 0) (l .first) (omega arith))))
+element-write-enough : tie.Need-element-write-enough Inv-loop μ-loop
+element-write-enough c = omega (arith, c .before .before .loop .inv .here)
+
+add-reads : tie.Need-add-reads Inv-loop μ-loop
+add-reads c = omega (arith, c .before .before .loop .inv .here)
 
 loop-again : tie.Need-loop-again Inv-loop μ-loop
 loop-again c =
-    let l = c .before .before .before .loop in
-    let a = c .before .before .before .before .args in
-    let t = getD (a .minutes .now) (l .i) 0 in
-    let v = getD (a .free .now) (l .i) 0 in
-    one-more _ _ _ _ _ _ _ (l .inv) (omega arith)
-    (⊎-elim
-    (λ w. rw (w .4, w .0 .taken) (sym (read-short (a .nodes) (a .hold) t v (l .first) (⊎-elim (λ u. omega (arith, u .0 .taken, u .1 .left)) (λ u. omega (arith, u .left)) (w .1 .came)) (omega (arith, w .3 .taken)))))
-    (⊎-elim
-    (λ w. rw (w .4, w .5, w .0 .taken) (sym (read-on (a .nodes) (a .hold) t v (l .first) (⊎-elim (λ u. omega (arith, u .0 .taken, u .1 .left)) (λ u. omega (arith, u .left)) (w .1 .came)) (omega (arith, w .3 .left)))))
-    (⊎-elim
-    (λ w. rw (w .3, w .4, w .0 .left) (sym (read-first (a .nodes) (a .hold) t v (l .first) (omega (arith, w .2 .taken)))))
-    (λ w. rw (w .3, w .0 .left) (sym (read-none (a .nodes) (a .hold) t v (l .first) (omega (arith, w .2 .left)))))))
-    (c .if1 .came))
+    let q = c .before .before .loop .inv in
+    one-more q (omega arith) (omega (arith, q .here))
 
-returns-2 : tie.Need-returns-2 Inv-loop μ-loop
-returns-2 c =
-    let l = c .before .before .loop in
-    ap (λ (b : Bool). standing b (l .first)) (sym (c .if6 .taken)) ∙ all-read _ _ _ _ _ _ _ (l .inv) (omega arith)
-
-returns-3 : tie.Need-returns-3 Inv-loop μ-loop
-returns-3 c =
-    let l = c .before .before .loop in
-    ap (λ (b : Bool). standing b (l .first)) (sym (c .if6 .left)) ∙ all-read _ _ _ _ _ _ _ (l .inv) (omega arith)
+returns : tie.Need-returns Inv-loop μ-loop
+returns c = all-read (c .before .loop .inv) (omega arith)
 
 pub read-points-spec : {M : Type 1} → statement M
 read-points-spec =
-    tie.close (tie.spec Inv-loop μ-loop loop-holds (λ c. search needs) (λ c. search needs) returns (λ c. search needs) (λ c. search needs)
-    (λ c. search needs) (λ c. search needs) (λ c. search needs) (λ c. search needs) loop-again returns-2 returns-3)
+    tie.close (tie.spec Inv-loop μ-loop loop-holds (λ c. search needs) (λ c. search needs) element-write-enough add-reads
+    (λ c. search needs) (λ c. search needs) loop-again returns)

@@ -26,7 +26,7 @@ pass-block-requires : tie.Need-pass-block-requires Inv-loop μ-loop
 pass-block-requires c κs =
     let s = c .before .before .before .before .before in
     let e = c .before .before .end-of .ensures in
-    (s .pre .profile .minutes-long, s .pre .profile .free-long, omega (arith, e), omega (arith, e, s .pre .fit))
+    (s .pre .profile .minutes-long, s .pre .profile .free-long, omega (arith, e), omega (arith, e, s .pre .fit), omega (arith, e))
 
 add-reads : tie.Need-add-reads Inv-loop μ-loop
 add-reads c =
