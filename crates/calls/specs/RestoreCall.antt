@@ -13,13 +13,13 @@ use Rattle.scheduler.specs.Limits.{longestEstimate}
 use Rattle.scheduler.specs.Model.{view}
 use Rattle.scheduler.specs.Answers.{accepts}
 use Rattle.jobs.specs.Premise.{store-holds}
-use Rattle.checkpoint_rules.specs.Texts.{deskText, Restored, restored}
+use Rattle.checkpoint_rules.specs.Texts.{deskText, restored}
 use Rattle.checkpoint_laws.specs.Restored.{restored-valid, restored-lined}
 use Rattle.guarantees.specs.Premise.{Valid, Premise}
 use Rattle.guarantees.specs.Restored.{valid-comes-back}
 use Rattle.restoring.specs.Restoring.{handedBack, restoring}
 use Rattle.calls.specs.declared.Shown.{Shown}
-use Rattle.calls.specs.ListCall.{written, shown}
+use Rattle.calls.specs.ListCall.{written}
 use Rattle.calls.specs.TextCall.{ShowsText}
 
 -- every reading, a refused one too, hands back a scheduler that meets the premise of calls

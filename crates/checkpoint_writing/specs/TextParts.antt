@@ -1,18 +1,16 @@
 -- The lines of a scheduler in the parts that are written one after another, slot by slot.
 -- Assumes nothing.
-use mathlib.Core.Path.{_≡_, refl, sym, ap, subst, _∙_}
-use mathlib.Core.Bool.{Bool, true, false, cond}
-use mathlib.Core.List.{List, [], _∷_, _++_, flatMap, append-assoc, append-nil}
-use Prim.Native.Nat.{ℕ, suc, _+_, _≤_, _<_}
-use native.Mathlib.Omega.{arith}
-use lib.ListN.{length, getD, take, replicate}
+use mathlib.Core.Path.{_≡_, refl, sym, ap, _∙_}
+use mathlib.Core.Bool.{cond}
+use mathlib.Core.List.{List, [], _∷_, _++_, flatMap, append-assoc}
+use Prim.Native.Nat.{ℕ, _+_, _≤_, _<_}
+use lib.ListN.{length, getD, take}
 use lib.Seq.{take-all}
 use Rattle.lists.specs.Tests.{case}
-use Rattle.lists.specs.Lists.{keep, In, here, there}
-use Rattle.lists.specs.Flat.{flat-append, flat-more}
+use Rattle.lists.specs.Lists.{keep}
+use Rattle.lists.specs.Flat.{flat-more}
 use Rattle.text.specs.Numbers.{decimalOf}
 use Rattle.scheduler.specs.declared.Kind.{Kind}
-use Rattle.scheduler.specs.declared.Kind.the-variants.{Conservative, Easy}
 use Rattle.scheduler.specs.declared.Job.{Job}
 use Rattle.scheduler.specs.declared.Scheduler.{Scheduler}
 use Rattle.scheduler.specs.declared.Settings.{Settings}
@@ -20,7 +18,7 @@ use Rattle.scheduler.specs.Tenants.{letterOf}
 use Rattle.scheduler.specs.Jobs.{unused, isLive}
 use Rattle.scheduler.specs.Model.{Model, view}
 use Rattle.desk_lines.specs.DeskLine.{deskWord, andField}
-use Rattle.checkpoint_rules.specs.Texts.{bytesOf, lineText, kindWord, stateWord, deskFields, jobFields, deskLine, jobLine, deskText}
+use Rattle.checkpoint_rules.specs.Texts.{lineText, kindWord, stateWord, deskFields, jobFields, deskLine, jobLine, deskText}
 
 -- a line, field after field
 abbrev rest : List (List ℕ) → List ℕ

@@ -2,8 +2,8 @@
 -- shorter than what goes into it"). The number is that of lines whose numbers have 10 digits each; those of a valid model have 7 at most.
 -- Assumes nothing.
 use mathlib.Core.Path.{_≡_, refl, sym}
-use mathlib.Core.List.{List, [], _∷_, _++_, flatMap}
-use Prim.Native.Nat.{ℕ, _+_, _*_, _≤_}
+use mathlib.Core.List.{List, [], _∷_, flatMap}
+use Prim.Native.Nat.{ℕ, _*_, _≤_}
 use native.Mathlib.Omega.{arith}
 use lib.Dec.{ltb}
 use lib.ListN.{length, length-append}
@@ -11,7 +11,6 @@ use borrow.Author.Tests.{ltb-true}
 use Rattle.lists.specs.Tests.{both}
 use Rattle.lists.specs.Lists.{In, here, there}
 use Rattle.lists.specs.Every.{every, every-in}
-use Rattle.text.specs.Numbers.{decimalOf}
 use Rattle.text.specs.NumberLaws.{decimal-seven}
 use Rattle.scheduler.specs.declared.Kind.{Kind}
 use Rattle.scheduler.specs.declared.Kind.the-variants.{Conservative, Easy}
@@ -26,7 +25,7 @@ use Rattle.checkpoint_rules.specs.Texts.{kindWord, stateWord, deskLine, jobLine
 use Rattle.checkpoint_laws.specs.Accepted.{Parts, parts-of, lacks-three}
 use Rattle.checkpoint_laws.specs.AcceptedEasy.{ranks-of}
 use Rattle.checkpoint_laws.specs.Restored.{valid-accepted}
-use Rattle.checkpoint_writing.specs.TextParts.{deskLineOf, desk-line, orderText, timesText, keptText, jobText, job-text}
+use Rattle.checkpoint_writing.specs.TextParts.{deskLineOf, desk-line, orderText, timesText, keptText, job-text}
 
 -- at most so many
 abbrev pub textBytes : ℕ

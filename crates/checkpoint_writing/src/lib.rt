@@ -1,5 +1,5 @@
 // A scheduler written out (document 02, No. 11): its lines, written into a page of bytes with room for the longest.
-ghost use mathlib.Core.List.{[], _∷_, _++_};
+ghost use mathlib.Core.List.{[], _∷_};
 ghost use Prim.Native.Nat.{_+_, _≤_};
 ghost use lib.ListN.{length};
 ghost use Rattle.text.specs.Numbers.{decimalOf};
@@ -8,7 +8,7 @@ ghost use Rattle.scheduler.specs.Tenants.{letterOf};
 ghost use Rattle.scheduler.specs.Model.{view};
 ghost use Rattle.desk_lines.specs.DeskLine.{andField};
 ghost use Rattle.guarantees.specs.Premise.{Premise};
-ghost use Rattle.checkpoint_rules.specs.Texts.{kindWord, stateWord, deskText};
+ghost use Rattle.checkpoint_rules.specs.Texts.{stateWord, deskText};
 ghost use Rattle.checkpoint_writing.specs.TextParts.{headText, deskLineOf, orderText, timesText, keptText, jobText, slotText};
 ghost use Rattle.checkpoint_writing.specs.TextSize.{textBytes};
 use scheduler::Job;

@@ -8,7 +8,7 @@ use Prim.Native.Nat.{ℕ, zero, suc, _+_, _-_, _≤_}
 use native.Mathlib.Omega.{arith}
 use lib.Dec.{leb, eqb}
 use lib.ListN.{length, replicate, length-append, length-map, length-replicate}
-use borrow.Author.Tests.{leb-true, le-leb, eqb-true, eqb-false, eq-eqb}
+use borrow.Author.Tests.{leb-true, eqb-true, eqb-false, eq-eqb}
 use Rattle.lists.specs.Tests.{case, true-false, both}
 use Rattle.lists.specs.Lists.{All}
 use Rattle.lists.specs.Every.{every, and-both}
@@ -38,7 +38,7 @@ use Rattle.hingerota.specs.declared.Record.{Record}
 use Rattle.hingerota.specs.Mirror.{kindNumber, kindOf, stateNumber, stateOf, mirrorJob, noRecord, mirror, readRecord, read, read-mirror}
 use Rattle.hingerota.specs.DeskPremise.{Handed, mirror-handed}
 
--- document 01: "unused ones all zero"
+-- document 01: "holds its 64 records as one value, in ticket order, unused ones all zero"
 abbrev pub isZero : ℕ → Bool
 isZero n = eqb n 0
 
@@ -65,7 +65,7 @@ allZero r = every isZero (numbersOf r)
 unfoldable pub isJob : Record → Bool
 isJob r = leb (r .state) 3 && eqb (letterOf (tenantOf (r .tenant))) (r .tenant)
 
--- "live records stand first": whether all before it are live
+-- a record after others, which are all live or not: the live ones stand first
 unfoldable pub follows : (live : Bool) → Record → Bool
 follows live r = cond (eqb (r .state) 0) (allZero r) (live && isJob r)
 

@@ -1,5 +1,5 @@
--- What a host program has to keep, and that every opening and every call, refused ones too, hands it back. Document 01: "a desk came from
--- an opening or from a call here".
+-- What a host program has to keep, and that every opening, every reading of lines and every call, refused ones too, hands it back. Document 01: "a desk
+-- came from an opening or from a call here".
 -- Assumes nothing.
 use mathlib.Core.Path.{_≡_, sym, ap, subst, _∙_}
 use mathlib.Core.List.{List, [], _∷_, map}
@@ -39,11 +39,10 @@ pub record Handed (d : Desk) : Type 0 where
   pub mirrored : d ≡ mirror (read d)
   pub premise : Premise (read d)
 
--- what an opening, and what a call gives to a host
+-- what an opening, a reading of lines and a call give to a host
 abbrev pub opens : Opening → Opened
 opens o = mirrorOpened (opened o)
 
--- what a reading of lines gives to a host
 abbrev pub restores : List ℕ → Opened
 restores t = mirrorOpened (restoring t)
 

@@ -7,7 +7,6 @@ use mathlib.Core.List.{List}
 use Prim.Native.Nat.{ℕ}
 use lib.Dec.{eqb}
 use lib.ListN.{length, take}
-use Rattle.scheduler.specs.declared.Opened as scheduler-opened
 use Rattle.scheduler.specs.Model.{view}
 use Rattle.scheduler.specs.declared.Scheduler.{Scheduler}
 use Rattle.checkpoint_rules.specs.Texts.{deskText, Restored}
@@ -16,7 +15,6 @@ use Rattle.guarantees.specs.Restored.{valid-comes-back}
 use Rattle.calls.specs.ListCall.{shown}
 use Rattle.calls.specs.RestoreCall as calls-restore
 use Rattle.hingerota.specs.declared.Desk.{Desk}
-use Rattle.hingerota.specs.declared.Opened.{Opened}
 use Rattle.hingerota.specs.declared.Shown.{Shown}
 use Rattle.hingerota.specs.Mirror.{mirror, read, mirrorOpened}
 use Rattle.hingerota.specs.DeskPremise.{Handed, restores}

@@ -9,7 +9,6 @@ use mathlib.Core.List.{List, map}
 use Prim.Native.Nat.{ℕ}
 use Rattle.spans.specs.declared.Point.{Point}
 use Rattle.scheduler.specs.declared.Answer.{Answer}
-use Rattle.scheduler.specs.declared.Opening.{Opening}
 use Rattle.scheduler.specs.declared.Outcome.{Outcome}
 use Rattle.scheduler.specs.declared.Refusal.{Refusal}
 use Rattle.scheduler.specs.declared.Scheduler.{Scheduler}

@@ -2,7 +2,7 @@
 --     pub fn f(d: D, bytes: &[u8]) -> S { let mut e = d; let a = g(&mut e, bytes); S { answer: a, desk: e } }
 -- g is as `Renews_ds.antt` proves one, with its contracts: Pre ys, what both require; Ens ys a e, what g ensures; and Fin ys s, what f ensures.
 -- Whoever calls f is covered. Assumes nothing.
-use mathlib.Core.Path.{_≡_, refl, ap}
+use mathlib.Core.Path.{refl, ap}
 use Prim.Native.Nat.{ℕ}
 use mathlib.Core.Bool.{Bool, not}
 use mathlib.Core.List.{[], _∷_, List}

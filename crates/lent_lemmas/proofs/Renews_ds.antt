@@ -6,7 +6,7 @@
 --     Ret ys s             what g ensures of its result s
 --     Ens ys a e           what f ensures of the answer a and of the struct e at exit
 -- Assumes nothing.
-use mathlib.Core.Path.{_≡_, refl, ap}
+use mathlib.Core.Path.{refl, ap}
 use Prim.Native.Nat.{ℕ}
 use mathlib.Core.List.{[], _∷_, List}
 use lib.ListN.{length}
