@@ -203,6 +203,20 @@ fn submit(d: Scheduler, nodes: u32, estimate: u32, tenant: Tenant) -> Scheduler
     e
 }
 
+// Jobs of different sizes and lengths, so that the profile gets a point more with nearly each.
+fn submit_many(d: Scheduler, from: u32, to: u32) -> Scheduler
+    requires { ⌜ (Premise d) × (to ≤ 40) ⌝ }
+    ensures { λ r. ⌜ Premise r ⌝ }
+{
+    let mut e = d;
+    let mut i = from;
+    while i < to {
+        e = submit(e, 1 + 5 * i % 23, 5 + 55 * i % 115, Tenant::A);
+        i += 1;
+    }
+    e
+}
+
 fn complete(d: Scheduler, ticket: u32) -> Scheduler
     requires { ⌜ Premise d ⌝ }
     ensures { λ r. ⌜ Premise r ⌝ }
@@ -278,6 +292,21 @@ fn index(d: Scheduler)
     let list = two.blocks;
     print_block(list[0]);
     print_block(list[1]);
+    io::write_all(STDOUT_FILENO, b"\n");
+}
+
+// How many points the profile has, and the first three blocks of its index.
+fn blocks(d: Scheduler)
+    requires { ⌜ Premise d ⌝ }
+{
+    let points = calls::profile(d, 129);
+    print_shown(points.answer);
+    let whole = calls::index(d, 9);
+    print_shown(whole.answer);
+    let list = whole.blocks;
+    print_block(list[0]);
+    print_block(list[1]);
+    print_block(list[2]);
     io::write_all(STDOUT_FILENO, b"\n");
 }
 
@@ -616,4 +645,16 @@ fn main() {
     let p2 = submit(p1, 10, 60, Tenant::A);
     let p3 = submit(p2, 1, 5, Tenant::A);
     let p4 = submit(p3, 1, 61, Tenant::A);
+    // longer profiles: searches that read points of one, two and three blocks
+    let q = open(Kind::Conservative, 64, 0, 0, 63);
+    let q1 = submit_many(q, 0, 20);
+    blocks(q1);
+    let q2 = submit_many(q1, 20, 40);
+    blocks(q2);
+    let q3 = complete(q2, 3);
+    blocks(q3);
+    let q4 = cancel(q3, 33);
+    blocks(q4);
+    let q5 = submit(q4, 12, 300, Tenant::A);
+    blocks(q5);
 }
