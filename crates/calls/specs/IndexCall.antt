@@ -22,7 +22,7 @@ use Rattle.conservative_index.specs.declared.Blocks.{Blocks}
 use Rattle.conservative_index.specs.StoredIndex.{noBlock, storedBlocks}
 use Rattle.conservative_rules.specs.Conservative.{points}
 use Rattle.calls.specs.declared.IndexOutcome.{IndexOutcome}
-use Rattle.calls.specs.ListCall.{listRefusal, written, ofConservative, items-of}
+use Rattle.calls.specs.ListCall.{listRefusal, written, ofConservative, items-of, none-of-easy}
 
 -- the index of a conservative scheduler's profile
 abbrev pub indexed : Model → List Block
@@ -39,6 +39,7 @@ indexing r bs = record { count = length bs; answer = record { refusal = r; count
 abbrev pub indexOutcome : Model → ℕ → IndexOutcome
 indexOutcome m room = indexing (listRefusal blocksOf m room) (written blocksOf m room)
 
+-- in a place, and all zero past the last one
 abbrev pub blockAt : IndexOutcome → ℕ → Block
 blockAt p i = getD (p .blocks) i noBlock
 
@@ -66,4 +67,4 @@ module _ (d : Scheduler) (room : ℕ) where
 
   pub index-easy : d .settings .kind ≡ Easy → indexing refusal.None [] ≡ indexOutcome (view d) room
   unfolding written verdict
-  index-easy e = rw (items-of indexed d Easy e, le-ltb room 0 (omega arith))
+  index-easy e = rw (none-of-easy indexed d e, le-ltb room 0 (omega arith))

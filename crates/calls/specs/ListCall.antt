@@ -2,13 +2,13 @@
 -- lent list, page or text is shorter than what goes into it"; "Places past the last point (or past the end of what is written in a lent text)
 -- keep what they held"; "A refusal gives .. any lent list unchanged".
 -- Assumes nothing.
-use mathlib.Core.Path.{_≡_, refl}
+use mathlib.Core.Path.{_≡_, sym}
 use mathlib.Core.Bool.{false, cond}
 use mathlib.Core.List.{List, [], _∷_, _++_}
 use Prim.Native.Nat.{ℕ, _≤_}
 use native.Mathlib.Omega.{arith}
 use lib.Dec.{ltb}
-use lib.ListN.{length, drop}
+use lib.ListN.{length, getD, drop, List·getD-eq-default}
 use borrow.Author.Tests.{ltb-false}
 use Rattle.lists.specs.Tests.{case}
 use Rattle.scheduler.specs.declared.Kind.{Kind}
@@ -18,14 +18,16 @@ use Rattle.scheduler.specs.declared.Refusal.the-variants as refusal
 use Rattle.scheduler.specs.declared.Scheduler.{Scheduler}
 use Rattle.scheduler.specs.Model.{Model, view}
 use Rattle.scheduler.specs.Answers.{accepts, verdict}
-use Rattle.jobs.specs.Premise.{Holds}
-use Rattle.guarantees.specs.Premise.{ValidBy, Premise, premise-of}
 use Rattle.calls.specs.declared.Shown.{Shown}
 
 module _ {A : Type 0} where
   -- elements written over the front of a list
   abbrev pub over : List A → List A → List A
   over xs lent = xs ++ drop (length xs) lent
+
+  -- past the n places of an array `getD` gives z
+  pub past-last : (z : A) (xs : List A) (n : ℕ) {i : ℕ} → length xs ≡ n → n ≤ i → z ≡ getD xs i z
+  past-last z xs n e l = sym (List·getD-eq-default xs z (omega arith))
 
 module _ {A : Type 0} (items : Model → List A) where
   -- what a list with so much room is refused by: the whole of its answer in a history of calls (`unchanged`)
@@ -58,11 +60,6 @@ module _ {A : Type 0} (items : Model → List A) where
   unfolding written verdict
   written-fit m room = let n = length (items m) in case (ltb room n) (λ e. rw e (omega arith)) (λ e. rw e (ltb-false room n e))
 
-  -- and has places in an array that has them for all
-  pub written-few : (m : Model) (room places : ℕ) → length (items m) ≤ places → length (written m room) ≤ places
-  unfolding written
-  written-few m room places l = case (accepts (listRefusal m room)) (λ e. rw e l) (λ e. rw e (omega arith))
-
 -- ## Elements that a conservative scheduler has, and EASY does not. Document 01: "The Loose Desk has no profile."
 
 module _ {A : Type 0} (items : Model → List A) where
@@ -77,10 +74,5 @@ module _ {A : Type 0} (items : Model → List A) where
   unfolding view
   items-of d k e = rw e
 
-  pub items-few : (places : ℕ) → ((d : Scheduler) → Holds (ValidBy Conservative) d → length (items (view d)) ≤ places) → (d : Scheduler) → Premise d
-      → length (ofConservative (view d)) ≤ places
-  items-few places f d h = by (d .settings .kind) refl
-    where
-      by : (k : Kind) → d .settings .kind ≡ k → length (ofConservative (view d)) ≤ places
-      by Conservative e = rw (items-of d Conservative e) (f d (premise-of d Conservative e h))
-      by Easy e = rw (items-of d Easy e) (omega arith)
+  pub none-of-easy : (d : Scheduler) → d .settings .kind ≡ Easy → ofConservative (view d) ≡ []
+  none-of-easy d e = items-of d Easy e

@@ -21,7 +21,7 @@ use Rattle.conservative_profile.specs.declared.Profile.{Profile}
 use Rattle.conservative_profile.specs.StoredProfile.{noPoint, stored}
 use Rattle.conservative_rules.specs.Conservative.{points}
 use Rattle.calls.specs.declared.ProfileOutcome.{ProfileOutcome}
-use Rattle.calls.specs.ListCall.{listRefusal, written, ofConservative, items-of}
+use Rattle.calls.specs.ListCall.{listRefusal, written, ofConservative, items-of, none-of-easy}
 
 -- of a scheduler of either kind
 abbrev pub pointsOf : Model → List Point
@@ -34,6 +34,7 @@ showing r ps = record { count = length ps; answer = record { refusal = r; count 
 abbrev pub profileOutcome : Model → ℕ → ProfileOutcome
 profileOutcome m room = showing (listRefusal pointsOf m room) (written pointsOf m room)
 
+-- in a place, and all zero past the last one
 abbrev pub pointAt : ProfileOutcome → ℕ → Point
 pointAt p i = getD (p .points) i noPoint
 
@@ -61,4 +62,4 @@ module _ (d : Scheduler) (room : ℕ) where
 
   pub show-easy : d .settings .kind ≡ Easy → showing refusal.None [] ≡ profileOutcome (view d) room
   unfolding written verdict
-  show-easy e = rw (items-of points d Easy e, le-ltb room 0 (omega arith))
+  show-easy e = rw (none-of-easy points d e, le-ltb room 0 (omega arith))

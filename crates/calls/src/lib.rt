@@ -1,12 +1,9 @@
 // The calls on a scheduler of either kind, by value: each goes by the kind's rules.
 ghost use mathlib.Core.Path.{_≡_};
 ghost use mathlib.Core.List.{[]};
-ghost use Prim.Native.Nat.{_<_};
 ghost use Rattle.scheduler.specs.Model.{view};
 ghost use Rattle.scheduler.specs.Answers.{outcome};
 ghost use Rattle.scheduler.specs.Refusals.{waitRefusal};
-ghost use Rattle.conservative_index.specs.StoredIndex.{blockPlaces};
-ghost use Rattle.conservative_profile.specs.StoredProfile.{places};
 ghost use Rattle.history.specs.Calls as calls;
 ghost use Rattle.easy_rules.specs.EarliestStart.{earliestStart};
 ghost use Rattle.guarantees.specs.Rules.{call};
@@ -141,11 +138,13 @@ pub fn profile(d: Scheduler, room: usize) -> ProfileOutcome
     }
 }
 
-// The point in a place.
+// The point in a place; past the last one, a point that is all zero.
 pub fn point_at(p: ProfileOutcome, i: usize) -> Point
-    requires { ⌜ i < places ⌝ }
     ensures { λ r. ⌜ r ≡ pointAt p i ⌝ }
 {
+    if 129 <= i {
+        return Point { minute: 0, free: 0 };
+    }
     p.points[i]
 }
 
@@ -207,11 +206,13 @@ pub fn index(d: Scheduler, room: usize) -> IndexOutcome
     }
 }
 
-// The block in a place.
+// The block in a place; past the last one, a block that is all zero.
 pub fn block_at(p: IndexOutcome, i: usize) -> Block
-    requires { ⌜ i < blockPlaces ⌝ }
     ensures { λ r. ⌜ r ≡ blockAt p i ⌝ }
 {
+    if 9 <= i {
+        return Block { fewest: 0, most: 0 };
+    }
     p.blocks[i]
 }
 

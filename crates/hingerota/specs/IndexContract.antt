@@ -14,13 +14,12 @@ use Rattle.calls.specs.declared.IndexOutcome as calls-outcome
 use Rattle.calls.specs.ListCall.{written}
 use Rattle.calls.specs.IndexCall.{blocksOf, indexing, indexOutcome}
 use Rattle.lent_lemmas.specs.Lists.{tabulate}
-use Rattle.lent_calls.specs.IndexContract.{blocks-fits, blocks-few}
+use Rattle.lent_calls.specs.IndexContract.{blocks-fits}
 use Rattle.hingerota.specs.declared.Desk.{Desk}
 use Rattle.hingerota.specs.declared.Block.{Block}
 use Rattle.hingerota.specs.declared.Shown.{Shown}
 use Rattle.hingerota.specs.declared.IndexOutcome.{IndexOutcome}
 use Rattle.hingerota.specs.Mirror.{read}
-use Rattle.hingerota.specs.DeskPremise.{Handed}
 use Rattle.hingerota.specs.ListContract.{mirrorShown, HostShows, tabulate-front, shows-by}
 
 abbrev pub mirrorBlock : spans-block.Block → Block
@@ -60,7 +59,3 @@ blocks-written d lent p e =
 
 pub host-blocks-fits : (d : Desk) (room : ℕ) (p : IndexOutcome) → p ≡ blocksIn d room → p .count ≤ room
 host-blocks-fits d room p e = subst (λ (q : IndexOutcome). q .count ≤ room) (sym e) (blocks-fits (read d) room (indexOutcome (view (read d)) room) refl)
-
-pub host-blocks-few : (d : Desk) (room : ℕ) (p : IndexOutcome) → Handed d → p ≡ blocksIn d room → p .count ≤ blockPlaces
-host-blocks-few d room p h e =
-    subst (λ (q : IndexOutcome). q .count ≤ blockPlaces) (sym e) (blocks-few (read d) room (indexOutcome (view (read d)) room) (h .premise) refl)

@@ -14,13 +14,12 @@ use Rattle.calls.specs.declared.ProfileOutcome as calls-outcome
 use Rattle.calls.specs.ListCall.{written}
 use Rattle.calls.specs.ProfileCall.{pointsOf, showing, profileOutcome}
 use Rattle.lent_lemmas.specs.Lists.{tabulate}
-use Rattle.lent_calls.specs.ProfileContract.{points-fits, points-few}
+use Rattle.lent_calls.specs.ProfileContract.{points-fits}
 use Rattle.hingerota.specs.declared.Desk.{Desk}
 use Rattle.hingerota.specs.declared.Point.{Point}
 use Rattle.hingerota.specs.declared.Shown.{Shown}
 use Rattle.hingerota.specs.declared.ProfileOutcome.{ProfileOutcome}
 use Rattle.hingerota.specs.Mirror.{read}
-use Rattle.hingerota.specs.DeskPremise.{Handed}
 use Rattle.hingerota.specs.ListContract.{mirrorShown, HostShows, tabulate-front, shows-by}
 
 abbrev pub mirrorPoint : spans-point.Point → Point
@@ -60,7 +59,3 @@ points-written d lent p e =
 
 pub host-points-fits : (d : Desk) (room : ℕ) (p : ProfileOutcome) → p ≡ pointsIn d room → p .count ≤ room
 host-points-fits d room p e = subst (λ (q : ProfileOutcome). q .count ≤ room) (sym e) (points-fits (read d) room (profileOutcome (view (read d)) room) refl)
-
-pub host-points-few : (d : Desk) (room : ℕ) (p : ProfileOutcome) → Handed d → p ≡ pointsIn d room → p .count ≤ places
-host-points-few d room p h e =
-    subst (λ (q : ProfileOutcome). q .count ≤ places) (sym e) (points-few (read d) room (profileOutcome (view (read d)) room) (h .premise) refl)

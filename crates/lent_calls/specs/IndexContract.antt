@@ -11,12 +11,10 @@ use Rattle.spans.specs.declared.Block.{Block}
 use Rattle.scheduler.specs.declared.Scheduler.{Scheduler}
 use Rattle.scheduler.specs.Model.{view}
 use Rattle.conservative_index.specs.StoredIndex.{blockPlaces, noBlock, storedBlocks}
-use Rattle.conservative_plan.specs.PlannedSlots.{blocks-fit}
-use Rattle.guarantees.specs.Premise.{Premise}
 use Rattle.calls.specs.declared.Shown.{Shown}
 use Rattle.calls.specs.declared.IndexOutcome.{IndexOutcome}
-use Rattle.calls.specs.ListCall.{written, Shows, written-few, written-fit, items-few}
-use Rattle.calls.specs.IndexCall.{indexed, blocksOf, indexing, indexOutcome, blockAt}
+use Rattle.calls.specs.ListCall.{written, Shows, written-fit}
+use Rattle.calls.specs.IndexCall.{blocksOf, indexing, indexOutcome, blockAt}
 use Rattle.lent_lemmas.specs.Lists.{tabulate}
 use Rattle.lent_calls.specs.ListContract.{tabulate-front, shows-by}
 
@@ -35,7 +33,3 @@ blocks-given d lent p e =
 pub blocks-fits : (d : Scheduler) (room : ℕ) (p : IndexOutcome) → p ≡ indexOutcome (view d) room → p .count ≤ room
 unfolding indexing
 blocks-fits d room p e = omega (arith, ap (λ (q : IndexOutcome). q .count) e, written-fit blocksOf (view d) room)
-
-pub blocks-few : (d : Scheduler) (room : ℕ) (p : IndexOutcome) → Premise d → p ≡ indexOutcome (view d) room → p .count ≤ blockPlaces
-unfolding indexing
-blocks-few d room p h e = omega (arith, ap (λ (q : IndexOutcome). q .count) e, written-few blocksOf (view d) room blockPlaces (items-few indexed blockPlaces blocks-fit d h))

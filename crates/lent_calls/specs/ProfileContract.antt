@@ -11,12 +11,9 @@ use Rattle.spans.specs.declared.Point.{Point}
 use Rattle.scheduler.specs.declared.Scheduler.{Scheduler}
 use Rattle.scheduler.specs.Model.{view}
 use Rattle.conservative_profile.specs.StoredProfile.{places, noPoint, stored}
-use Rattle.conservative_plan.specs.PlannedSlots.{points-fit}
-use Rattle.guarantees.specs.Premise.{Premise}
 use Rattle.calls.specs.declared.Shown.{Shown}
 use Rattle.calls.specs.declared.ProfileOutcome.{ProfileOutcome}
-use Rattle.calls.specs.ListCall.{written, Shows, written-few, written-fit, items-few}
-use Rattle.conservative_rules.specs.Conservative.{points}
+use Rattle.calls.specs.ListCall.{written, Shows, written-fit}
 use Rattle.calls.specs.ProfileCall.{pointsOf, showing, profileOutcome, pointAt}
 use Rattle.lent_lemmas.specs.Lists.{tabulate}
 use Rattle.lent_calls.specs.ListContract.{tabulate-front, shows-by}
@@ -36,7 +33,3 @@ points-given d lent p e =
 pub points-fits : (d : Scheduler) (room : ℕ) (p : ProfileOutcome) → p ≡ profileOutcome (view d) room → p .count ≤ room
 unfolding showing
 points-fits d room p e = omega (arith, ap (λ (q : ProfileOutcome). q .count) e, written-fit pointsOf (view d) room)
-
-pub points-few : (d : Scheduler) (room : ℕ) (p : ProfileOutcome) → Premise d → p ≡ profileOutcome (view d) room → p .count ≤ places
-unfolding showing
-points-few d room p h e = omega (arith, ap (λ (q : ProfileOutcome). q .count) e, written-few pointsOf (view d) room places (items-few points places points-fit d h))

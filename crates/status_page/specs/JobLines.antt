@@ -10,7 +10,7 @@ use Rattle.scheduler.specs.declared.Settings.{Settings}
 use Rattle.scheduler.specs.Tenants.{letterOf}
 use Rattle.scheduler.specs.Jobs.{isWaiting}
 use Rattle.scheduler.specs.Settings.{runTime}
-use Rattle.status_page_rules.specs.StatusPage.{Column, column, number, stateWord, promised, startText, jobColumns, set, line}
+use Rattle.status_page_rules.specs.StatusPage.{Column, column, number, stateWord, promised, startText, jobColumns, setRight, line}
 use Rattle.status_page_laws.specs.Columns.{Fits, Fitting}
 use Rattle.status_page_laws.specs.Lines.{line-written}
 
@@ -32,7 +32,7 @@ module _ (S : Settings) (j : Job) where
 
   -- the parts are the line
   pub job-line-written : Fitting (jobColumns S j)
-      → flatMap set (orderColumns j) ++ (flatMap set (minuteColumns S j) ++ (set (column 10 (stateWord (j .state))) ++ (replicate 26 space ++ (10 ∷ []))))
+      → flatMap setRight (orderColumns j) ++ (flatMap setRight (minuteColumns S j) ++ (setRight (column 10 (stateWord (j .state))) ++ (replicate 26 space ++ (10 ∷ []))))
       ≡ line (jobColumns S j)
   unfolding jobColumns flatMap
   job-line-written f = simp append-assoc (sym (line-written (jobColumns S j) f))

@@ -9,7 +9,7 @@ ghost use Rattle.text.specs.WrittenBytes.{Wrote};
 ghost use Rattle.scheduler.specs.Tenants.{letterOf};
 ghost use Rattle.scheduler.specs.Model.{view};
 ghost use Rattle.guarantees.specs.Premise.{Premise};
-ghost use Rattle.status_page_rules.specs.StatusPage.{column, heading, stateWord, promised, startText, jobColumns, set, line, statusPage};
+ghost use Rattle.status_page_rules.specs.StatusPage.{column, heading, stateWord, promised, startText, jobColumns, setRight, line, statusPage};
 ghost use Rattle.status_page_laws.specs.Columns.{Fits, Fitting};
 ghost use Rattle.status_page_laws.specs.Pages.{lineBytes, pageBytes};
 ghost use Rattle.status_page.specs.JobLines.{orderColumns, minuteColumns};
@@ -93,7 +93,7 @@ fn put_state(page: &mut [u8], at: usize, state: State) -> usize
 // What was ordered: the ticket, whose job it is, and its nodes.
 fn put_order(page: &mut [u8], at: usize, j: Job) -> usize
     requires { ⌜ All Fits (orderColumns j) × (at + 14 ≤ length (now page)) ⌝ }
-    ensures { λ r. ⌜ Wrote 14 (now (page .entry)) at (flatMap set (orderColumns j)) (now (page .exit)) r ⌝ }
+    ensures { λ r. ⌜ Wrote 14 (now (page .entry)) at (flatMap setRight (orderColumns j)) (now (page .exit)) r ⌝ }
 {
     let tenant = j.tenant;
     let a = text::put_number_right(page, at, 7, j.ticket);
@@ -104,7 +104,7 @@ fn put_order(page: &mut [u8], at: usize, j: Job) -> usize
 // Its start and its promise, and for how long it runs.
 fn put_minutes(page: &mut [u8], at: usize, settings: Settings, j: Job) -> usize
     requires { ⌜ All Fits (minuteColumns settings j) × (at + 22 ≤ length (now page)) ⌝ }
-    ensures { λ r. ⌜ Wrote 22 (now (page .entry)) at (flatMap set (minuteColumns settings j)) (now (page .exit)) r ⌝ }
+    ensures { λ r. ⌜ Wrote 22 (now (page .entry)) at (flatMap setRight (minuteColumns settings j)) (now (page .exit)) r ⌝ }
 {
     let kind = settings.kind;
     let waits = j.is_waiting();

@@ -12,7 +12,7 @@ use borrow.Author.Tests.{ne-eqb}
 use Rattle.lists.specs.Lists.{keep, All, In, all-in, all-at, all-append, keep-append, keep-none, keep-all}
 use Rattle.lists.specs.Pads.{pad, length-pad, all-pad, all-same}
 use Rattle.text.specs.RightSet.{space, rightSet, right-length}
-use Rattle.status_page_rules.specs.StatusPage.{pageColumns, Column, set, line}
+use Rattle.status_page_rules.specs.StatusPage.{pageColumns, Column, setRight, line}
 use Rattle.status_page_laws.specs.Columns.{Plain, Fits, widths, Fitting}
 
 -- byte 10 closes a line
@@ -22,40 +22,40 @@ isEnd b = eqb b 10
 space-plain : Plain space
 space-plain = (omega arith, omega arith)
 
-columns-length : (cs : List Column) → All Fits cs → length (flatMap set cs) ≡ widths cs
+columns-length : (cs : List Column) → All Fits cs → length (flatMap setRight cs) ≡ widths cs
 unfolding flatMap
 columns-length [] f = refl
 columns-length (c ∷ cs) f =
-    omega (arith, length-append (set c) (flatMap set cs), right-length (c .width) (c .text) (f .0 .within), columns-length cs (f .1))
+    omega (arith, length-append (setRight c) (flatMap setRight cs), right-length (c .width) (c .text) (f .0 .within), columns-length cs (f .1))
 
 -- columns, and what stands after them
 abbrev pub columnsThen : List Column → List ℕ → List ℕ
 columnsThen [] t = t
-columnsThen (c ∷ cs) t = set c ++ columnsThen cs t
+columnsThen (c ∷ cs) t = setRight c ++ columnsThen cs t
 
-columns-then : (cs : List Column) (t : List ℕ) → flatMap set cs ++ t ≡ columnsThen cs t
+columns-then : (cs : List Column) (t : List ℕ) → flatMap setRight cs ++ t ≡ columnsThen cs t
 unfolding flatMap
 columns-then [] t = refl
 columns-then (c ∷ cs) t = rw (append-assoc, columns-then cs t)
 
-columns-plain : (cs : List Column) → All Fits cs → All Plain (flatMap set cs)
+columns-plain : (cs : List Column) → All Fits cs → All Plain (flatMap setRight cs)
 unfolding flatMap rightSet
 columns-plain [] f = tt
 columns-plain (c ∷ cs) f =
     let n = c .width - length (c .text) in
-    all-append Plain (set c) (flatMap set cs)
+    all-append Plain (setRight c) (flatMap setRight cs)
     (all-append Plain (replicate n space) (c .text) (all-same n space Plain space-plain n) (f .0 .plain)) (columns-plain cs (f .1))
 
 module _ (cs : List Column) (f : Fitting cs) where
   -- the characters before its end
   abbrev pub characters : List ℕ
-  characters = pad pageColumns space (flatMap set cs)
+  characters = pad pageColumns space (flatMap setRight cs)
 
   pub characters-length : length characters ≡ pageColumns
-  characters-length = length-pad pageColumns space (flatMap set cs) (omega (arith, columns-length cs (f .each), f .wide))
+  characters-length = length-pad pageColumns space (flatMap setRight cs) (omega (arith, columns-length cs (f .each), f .wide))
 
   characters-plain : All Plain characters
-  characters-plain = all-pad pageColumns space Plain (flatMap set cs) space-plain (columns-plain cs (f .each))
+  characters-plain = all-pad pageColumns space Plain (flatMap setRight cs) space-plain (columns-plain cs (f .each))
 
   open-all : (b : ℕ) → In b characters → isEnd b ≡ false
   open-all b i = let p = all-in Plain characters-plain i in ne-eqb b 10 (λ e. omega arith)

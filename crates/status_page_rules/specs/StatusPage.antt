@@ -66,12 +66,12 @@ jobColumns S j =
     ∷ []
 
 -- "all right-set, rest spaces"
-abbrev pub set : Column → List ℕ
-set c = rightSet (c .width) (c .text)
+abbrev pub setRight : Column → List ℕ
+setRight c = rightSet (c .width) (c .text)
 
 -- a line of so many columns, and its end
 unfoldable pub line : List Column → List ℕ
-line cs = pad pageColumns space (flatMap set cs) ++ (10 ∷ [])
+line cs = pad pageColumns space (flatMap setRight cs) ++ (10 ∷ [])
 
 -- the heading, "then a line for each live stack in ticket order"; the lines after them have no columns
 unfoldable pub rows : Model → List (List Column)
