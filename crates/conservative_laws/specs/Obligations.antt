@@ -189,7 +189,7 @@ abbrev StartsBy : ℕ → ℕ → Result → Type 0
 StartsBy u b r = ((elem u (r .reply .started) ≡ true) × (r .model .clock ≤ b)) ⊎ ((elem u (r .reply .started) ≡ false) × OnCourse (r .model) u b)
 
 -- one that waits and does not start goes on waiting
-follows-waits : (now : ℕ) (j k : Job) → Follows now j k → isWaiting j ≡ true → isRunning k ≡ false → isWaiting k ≡ true
+pub follows-waits : (now : ℕ) (j k : Job) → Follows now j k → isWaiting j ≡ true → isRunning k ≡ false → isWaiting k ≡ true
 follows-waits now j k (stays e) w r = w
 follows-waits now j k (moves s e a b) w r = case (eqb s now) (λ q. true-false true refl (rw q at r)) (λ q. rw q)
 

@@ -56,7 +56,7 @@ Tight m =
     (holdTime (m .settings) (j .estimate)) (j .start)
 
 -- the same with all jobs together, less what this one takes itself
-abbrev Fixed : Settings → ℕ → List Job → Job → Type 0
+abbrev pub Fixed : Settings → ℕ → List Job → Job → Type 0
 Fixed S now js j =
     (r : ℕ) → now ≤ r
     → ((t : ℕ) → r ≤ t → t < r + holdTime S (j .estimate) → used t (spans S js) + j .nodes ≤ S .nodes + takes t (span S j))
@@ -64,7 +64,7 @@ Fixed S now js j =
 
 -- ## One job and the others
 
-used-others : (S : Settings) (t lo : ℕ) (js : List Job) {j : Job} → Asc lo js → In j js
+pub used-others : (S : Settings) (t lo : ℕ) (js : List Job) {j : Job} → Asc lo js → In j js
     → used t (spans S js) ≡ takes t (span S j) + used t (spans S (others (j .ticket) js))
 used-others S t lo [] a i = in-nil i
 used-others S t lo (x ∷ xs) {j} a i = go (in-cons i) (λ k. used-others S t (suc (x .ticket)) xs (a .1) k)
@@ -86,10 +86,10 @@ module _ (m : Model) (v : Valid m) where
   abbrev S : Settings
   S = m .settings
 
-  tight-fixed : Tight m → (j : Job) → In j (m .jobs) → isWaiting j ≡ true → Fixed S (m .clock) (m .jobs) j
+  pub tight-fixed : Tight m → (j : Job) → In j (m .jobs) → isWaiting j ≡ true → Fixed S (m .clock) (m .jobs) j
   tight-fixed T j i w r l f = T j i w .smallest r l (λ t a b. omega (arith, f t a b, used-others S t 1 (m .jobs) (v .sound .asc) i))
 
-  fixed-tight : ((j : Job) → In j (m .jobs) → isWaiting j ≡ true → Fixed S (m .clock) (m .jobs) j) → Tight m
+  pub fixed-tight : ((j : Job) → In j (m .jobs) → isWaiting j ≡ true → Fixed S (m .clock) (m .jobs) j) → Tight m
   fixed-tight F j i w =
       let u : (t : ℕ) → used t (spans S (m .jobs)) ≡ takes t (span S j) + used t (spans S (others (j .ticket) (m .jobs))) =
       λ t. used-others S t 1 (m .jobs) (v .sound .asc) i in
@@ -109,7 +109,7 @@ module _ (m : Model) (v : Valid m) where
 -- ## An early end or a withdrawal
 
 -- where a pass moves nobody, nobody could begin earlier; `done` have had their turn
-still-fixed : (S : Settings) (now : ℕ) (done js all : List Job) → ((j : Job) → In j js → j .nodes ≤ S .nodes) → pass S now done js ≡ js
+pub still-fixed : (S : Settings) (now : ℕ) (done js all : List Job) → ((j : Job) → In j js → j .nodes ≤ S .nodes) → pass S now done js ≡ js
     → ((t : ℕ) → used t (spans S all) ≡ used t (spans S done) + used t (spans S js))
     → (j : Job) → In j js → isWaiting j ≡ true → Fixed S now all j
 unfolding pass

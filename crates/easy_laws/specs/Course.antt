@@ -100,7 +100,7 @@ module _ (m : Model) (h : Job) (later : List Job) (e : queue (m .jobs) ≡ h ∷
       (λ (k : In (w .job) later). omega (arith, head-lowest a (w .job) k, w .named))
       (in-cons (subst (λ (q : List Job). In (w .job) q) e (in-keep isWaiting (w .isin) (w .waits))))
 
-  none-ahead : Asc 1 (m .jobs) → ahead (h .ticket) (m .jobs) ≡ 0
+  pub none-ahead : Asc 1 (m .jobs) → ahead (h .ticket) (m .jobs) ≡ 0
   none-ahead a = sum-zero (before (h .ticket)) (m .jobs) one
     where
       one : (j : Job) → In j (m .jobs) → before (h .ticket) j ≡ 0
@@ -155,7 +155,7 @@ module _ (m : Model) (u b : ℕ) (o : OnCourse m u b) where
 -- ## A start keeps it
 
 module _ (m : Model) (j : Job) (s : Sound m) (c : Chosen m j) where
-  avail-begin : (t : ℕ) → avail (begin (j .ticket) m) t ≡ free m - j .nodes +
+  pub avail-begin : (t : ℕ) → avail (begin (j .ticket) m) t ≡ free m - j .nodes +
       (sum (freed (m .settings) t) (m .jobs) + on (leb (m .clock + holdTime (m .settings) (j .estimate)) t) (j .nodes))
   avail-begin t =
       let a = sum-mark held (m .clock) 1 (m .jobs) (s .asc) (c .isin) in

@@ -33,7 +33,7 @@ use Rattle.history_proof.specs.Cleaning.{cleans, cleans-job}
 use Rattle.conservative_laws.specs.Obligations.{conservative-lawful}
 use Rattle.easy_laws.specs.Obligations.{easy-lawful}
 use Rattle.guarantees.specs.Rules.{rulesOf, call}
-use Rattle.guarantees.specs.Premise.{ValidBy, Valid, call-valid, valid-sound}
+use Rattle.guarantees.specs.Premise.{ValidBy, Valid, call-valid, after-valid, valid-sound}
 
 -- ## One call
 
@@ -55,10 +55,6 @@ stays-by Easy m c v = history.cleaning-stays easy-lawful m c v
 pub settings-stay : (m : Model) (cs : List Call) → Valid m → after call m cs .settings ≡ m .settings
 settings-stay m [] v = refl
 settings-stay m (c ∷ cs) v = settings-stay (call m c .model) cs (call-valid m c v) ∙ settings-by (m .settings .kind) m c v
-
-pub after-valid : (m : Model) (cs : List Call) → Valid m → Valid (after call m cs)
-after-valid m [] v = v
-after-valid m (c ∷ cs) v = after-valid (call m c .model) cs (call-valid m c v)
 
 clock-rises : (m : Model) (cs : List Call) → Valid m → m .clock ≤ after call m cs .clock
 clock-rises m [] v = omega arith

@@ -135,11 +135,11 @@ module _ (k c u t : ℕ) where
 -- ## A lower bound is kept
 
 -- to start no sooner than b
-abbrev from : ℕ → Aim
+abbrev pub from : ℕ → Aim
 from b = record { mayStart = λ (s : ℕ). b ≤ s; mayWait = λ (w : ℕ). w ≡ w }
 
 -- it waits for n nodes, and cannot start before b
-abbrev NoSooner : (n b : ℕ) → Model → ℕ → Type 0
+abbrev pub NoSooner : (n b : ℕ) → Model → ℕ → Type 0
 NoSooner n b m t = WaitsFor m t n × (b ≤ earliestFor m n)
 
 module _ {κ : Kind} {Fit : Model → Type 0} {OnCourse : Model → ℕ → ℕ → Type 0} (L : Lawful κ (rulesOf κ) Fit OnCourse) (T : Ticketed (rulesOf κ) Fit OnCourse)
@@ -264,7 +264,7 @@ module _ {κ : Kind} {Fit : Model → Type 0} {OnCourse : Model → ℕ → ℕ 
     }
 
     -- whatever calls come, of a job with a fate
-    holds-on : (n b : ℕ) (m : Model) (t : ℕ) (f : Fate) (cs : List Call) → Fit m → Meets (from b) (NoSooner n b) m t f
+    pub holds-on : (n b : ℕ) (m : Model) (t : ℕ) (f : Fate) (cs : List Call) → Fit m → Meets (from b) (NoSooner n b) m t f
         → Meets (from b) (NoSooner n b) (after (rulesOf κ) m cs) t (fateFrom (cleanup (m .settings)) (m .clock) t f (events (rulesOf κ) m cs))
     holds-on n b m t f [] v o = o
     holds-on n b m t f (c ∷ cs) v o =
@@ -291,7 +291,7 @@ module _ {κ : Kind} {Fit : Model → Type 0} {OnCourse : Model → ℕ → ℕ 
         started m′ (ended x) e o = let z : x ≡ s = cc in omega arith
         started m′ (withdrawn x) e o = absurd (let z : _≡_ {A = ℕ} 0 1 = cc in omega arith)
 
-    no-sooner-call : (n : ℕ) (m : Model) (t s : ℕ) (cs : List Call) → Fit m → WaitsFor m t n
+    pub no-sooner-call : (n : ℕ) (m : Model) (t s : ℕ) (cs : List Call) → Fit m → WaitsFor m t n
         → start (fateFrom (cleanup (m .settings)) (m .clock) t waiting (events call m cs)) ≡ some s → earliestFor m n ≤ s
     no-sooner-call n m t s cs v w e =
         no-sooner n m t s cs v w
@@ -300,7 +300,7 @@ module _ {κ : Kind} {Fit : Model → Type 0} {OnCourse : Model → ℕ → ℕ 
 -- ## For the reader
 
 -- whom the question is answered: a job that waits, with the earliest start for its nodes
-answered : (m : Model) (t : ℕ) → accepts (earliestStart m t .refusal) ≡ true → (n : ℕ) × WaitsFor m t n × (earliestStart m t .minute ≡ earliestFor m n)
+pub answered : (m : Model) (t : ℕ) → accepts (earliestStart m t .refusal) ≡ true → (n : ℕ) × WaitsFor m t n × (earliestStart m t .minute ≡ earliestFor m n)
 unfolding earliestStart
 answered m t a = by (first (departsAs Cancel t) (m .jobs)) refl
   where

@@ -13,3 +13,5 @@ pub mod EarliestStart
 pub mod NoGaps
 pub mod Restored
 pub mod RecordedBounds
+pub mod Bounded
+pub mod Migration

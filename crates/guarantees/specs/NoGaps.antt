@@ -21,7 +21,7 @@ use Rattle.guarantees.specs.Statement.{by-rules}
 use Rattle.guarantees.specs.Premise.{ValidBy, Valid}
 
 -- every list of calls keeps it
-stays-tight : (m : Model) (cs : List Call) → conservative.Valid m → Tight m → Tight (after call m cs)
+pub stays-tight : (m : Model) (cs : List Call) → conservative.Valid m → Tight m → Tight (after call m cs)
 stays-tight m [] v T = T
 stays-tight m (c ∷ cs) v T =
     subst (λ (r : Result). Tight (after call (r .model) cs)) (sym (by-rules conservative-lawful m c v))

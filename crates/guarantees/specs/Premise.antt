@@ -2,6 +2,7 @@
 -- scheduler that meets it.
 -- Assumes nothing.
 use mathlib.Core.Path.{_≡_, refl, sym, ap, subst}
+use mathlib.Core.List.{List, [], _∷_}
 use Rattle.lists.specs.Lists.{All}
 use Rattle.scheduler.specs.declared.Kind.{Kind}
 use Rattle.scheduler.specs.declared.Kind.the-variants.{Conservative, Easy}
@@ -14,7 +15,7 @@ use Rattle.scheduler.specs.Answers.{outcome}
 use Rattle.scheduler.specs.Opening.{opening, opened}
 use Rattle.jobs.specs.Soundness.{Sound}
 use Rattle.jobs.specs.Premise.{Holds, store-holds}
-use Rattle.history.specs.Calls.{Call}
+use Rattle.history.specs.Calls.{Call, after}
 use Rattle.conservative_laws.specs.Validity as conservative
 use Rattle.conservative_laws.specs.Obligations.{conservative-lawful}
 use Rattle.easy_laws.specs.Validity as easy
@@ -51,7 +52,11 @@ valid-as k m v = subst (λ (j : Kind). ValidBy j m) (sym (by-kind k m v)) v
 pub call-valid : (m : Model) (c : Call) → Valid m → Valid (call m c .model)
 call-valid m c v = valid-as (m .settings .kind) (call m c .model) (stays-valid (m .settings .kind) m c v)
 
-stored-premise : (m : Model) → Valid m → Premise (store m)
+pub after-valid : (m : Model) (cs : List Call) → Valid m → Valid (after call m cs)
+after-valid m [] v = v
+after-valid m (c ∷ cs) v = after-valid (call m c .model) cs (call-valid m c v)
+
+pub stored-premise : (m : Model) → Valid m → Premise (store m)
 stored-premise m v = store-holds Valid m (live-by (m .settings .kind) m v) v
 
 pub call-premise : (d : Scheduler) (c : Call) → Premise d → Premise (outcome (call (view d) c) .scheduler)

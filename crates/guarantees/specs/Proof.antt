@@ -11,15 +11,18 @@ use Rattle.scheduler.specs.Settings.{refusedSettings}
 use Rattle.scheduler.specs.Model.{Model, empty}
 use Rattle.scheduler.specs.Answers.{accepts}
 use Rattle.scheduler.specs.Opening.{openingRefusal, opening}
-use Rattle.history.specs.Calls.{Call, events, allCalls}
+use Rattle.history.specs.Calls.{Call, after, events, allCalls}
 use Rattle.history.specs.Guarantee.{Guarantee}
 use Rattle.conservative_laws.specs.Validity as conservative
 use Rattle.conservative_laws.specs.Obligations.{conservative-lawful, conservative-seeded}
 use Rattle.easy_laws.specs.Validity as easy
 use Rattle.easy_laws.specs.Obligations.{easy-lawful, easy-seeded}
 use Rattle.checkpoint_laws.specs.Restored.{ValidAs, restored-valid}
+use Rattle.migration_rules.specs.Migration.{migrated, changedBy, changed}
+use Rattle.migration_laws.specs.Migrated.{migrated-valid}
 use Rattle.guarantees.specs.Rules.{call}
-use Rattle.guarantees.specs.Statement.{bookOf, Start, opens, reads, startOf, Demand3, Demand3WithWaits, from-valid}
+use Rattle.guarantees.specs.Premise.{Valid, valid-as, after-valid}
+use Rattle.guarantees.specs.Statement.{bookOf, Start, opens, reads, changes, startOf, Demand3, Demand3WithWaits, from-valid}
 
 -- an opening takes in no job
 pub opening-empty : (o : Opening) → opening o .jobs ≡ []
@@ -39,6 +42,14 @@ opening-kind o = by (accepts (openingRefusal o))
     by true = refl
     by false = refl
 
+-- the change keeps it: "so the change always goes through"
+pub change-valid : (m : Model) → Valid m → Valid (changed m)
+change-valid m v = by (m .settings .kind) v
+  where
+    by : (k : Kind) → ValidAs k m → Valid (changedBy k m)
+    by Conservative v = valid-as Conservative m v
+    by Easy v = valid-as Conservative (migrated m) (migrated-valid m v)
+
 -- what a list starts from is valid, by its kind
 pub start-valid : (s : Start) → ValidAs (startOf s .settings .kind) (startOf s)
 start-valid (opens o) = by (o .settings .kind) refl
@@ -47,6 +58,7 @@ start-valid (opens o) = by (o .settings .kind) refl
     by Conservative e = subst (λ (k : Kind). ValidAs k (opening o)) (sym (opening-kind o ∙ e)) (conservative.opening-valid o e)
     by Easy e = subst (λ (k : Kind). ValidAs k (opening o)) (sym (opening-kind o ∙ e)) (easy.opening-valid o e)
 start-valid (reads t) = restored-valid t
+start-valid (changes s cs) = change-valid (after call (startOf s) cs) (after-valid (startOf s) cs (start-valid s))
 
 -- from every valid model, so from every start
 pub from-any : (m : Model) (cs : List Call) → ValidAs (m .settings .kind) m → Guarantee (m .settings .kind) (m .settings) (bookOf m (events call m cs))

@@ -21,9 +21,9 @@ use Rattle.checkpoint_laws.specs.RoundTrip.{comes-back}
 use Rattle.checkpoint_laws.specs.Restored.{valid-accepted, restored-lined}
 use Rattle.guarantees.specs.Rules.{call}
 use Rattle.guarantees.specs.Statement.{Start, startOf}
-use Rattle.guarantees.specs.Premise.{Valid, valid-sound}
+use Rattle.guarantees.specs.Premise.{Valid, valid-sound, after-valid}
 use Rattle.guarantees.specs.Proof.{start-valid}
-use Rattle.guarantees.specs.Cleanup.{settings-stay, after-valid}
+use Rattle.guarantees.specs.Cleanup.{settings-stay}
 use Rattle.guarantees.specs.NoGaps.{no-gaps-from}
 
 -- a valid model with the longest estimate that there is comes back from its own lines

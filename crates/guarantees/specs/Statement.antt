@@ -14,8 +14,9 @@ use Rattle.scheduler.specs.Times.{longest-is, cleanup-is, hold-is}
 use Rattle.scheduler.specs.Model.{Model}
 use Rattle.scheduler.specs.Opening.{opening}
 use Rattle.checkpoint_rules.specs.Texts.{restored}
+use Rattle.migration_rules.specs.Migration.{changed}
 use Rattle.jobs.specs.Soundness.{opening-sound}
-use Rattle.history.specs.Calls.{Call, Command, Event, events, allCalls}
+use Rattle.history.specs.Calls.{Call, Command, Event, after, events, allCalls}
 use Rattle.history.specs.Book.{Book, enterAll}
 use Rattle.history.specs.Beginning.{beginning}
 use Rattle.history.specs.Guarantee.{Guarantee}
@@ -56,14 +57,17 @@ pub cleanup-is-set : (o : Opening) → cleanup (opening o .settings) ≡ opening
 cleanup-is-set o = cleanup-is (opening o .settings) (opening-sound o .cleanup-to)
 
 -- "It starts from the desk that an opening hands back, a refused opening too, or from another that a later request names": document 02, No. 11,
--- "A list of demand 3 may also start from a desk read back", of a refused reading too
+-- "A list of demand 3 may also start from a desk read back", of a refused reading too; No. 12, "A list of demand 3 ends with the change. Another
+-- starts from the new desk": of a list with another start, after these calls
 pub data Start : Type 0 where
   opens : Opening → Start
   reads : (text : List ℕ) → Start
+  changes : Start → (before : List Call) → Start
 
 abbrev pub startOf : Start → Model
 startOf (opens o) = opening o
 startOf (reads t) = restored t .model
+startOf (changes s cs) = changed (after call (startOf s) cs)
 
 -- For every start and every list of calls: with the words by the calls and their answers, promises are kept, bounds and forecasts are kept, every
 -- head hears one, and running jobs never hold more nodes than the machine has. ("After every call": every front of a list is a list.) Of a job

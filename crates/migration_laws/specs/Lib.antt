@@ -1,0 +1,4 @@
+pub mod Holders
+pub mod Planning
+pub mod Migrated
+pub mod Soonest

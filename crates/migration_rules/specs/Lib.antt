@@ -1,0 +1,2 @@
+pub mod Migration
+pub mod Computed
