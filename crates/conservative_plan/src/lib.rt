@@ -27,7 +27,7 @@ use scheduler::Settings;
 use scheduler::State;
 
 // `nodes` nodes, from the minute `from` on, for `hold` minutes.
-fn span(nodes: u32, from: u32, hold: u32) -> spans::Span
+pub fn span(nodes: u32, from: u32, hold: u32) -> spans::Span
     requires { ⌜ (from ≤ horizon) × (hold ≤ longestHold) ⌝ }
     ensures { λ r. ⌜ r ≡ spanAt nodes from hold ⌝ }
 {
@@ -39,7 +39,7 @@ fn span(nodes: u32, from: u32, hold: u32) -> spans::Span
 }
 
 // The minute from which the job's nodes are free again.
-fn held_until(job: Job, settings: Settings, hold: u32) -> u32
+pub fn held_until(job: Job, settings: Settings, hold: u32) -> u32
     requires { ⌜ Low job × (hold ≡ holdTime settings (job .estimate)) ⌝ }
     ensures { λ r. ⌜ r ≡ until settings job ⌝ }
 {

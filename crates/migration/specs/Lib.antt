@@ -1,0 +1,3 @@
+pub mod HeldSlots
+pub mod StoredChange
+pub mod Replanning
