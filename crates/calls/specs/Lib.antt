@@ -4,3 +4,4 @@ pub mod IndexCall
 pub mod LongestCall
 pub mod TextCall
 pub mod RestoreCall
+pub mod MigrateCall

@@ -13,6 +13,7 @@ ghost use Rattle.calls.specs.ProfileCall.{showing, showIn, profileOutcom
 ghost use Rattle.calls.specs.IndexCall.{indexing, indexIn, indexOutcome, blockAt};
 ghost use Rattle.calls.specs.LongestCall.{longestOf};
 ghost use Rattle.calls.specs.TextCall.{ShowsPage, ShowsText};
+ghost use Rattle.calls.specs.MigrateCall.{migrating};
 use conservative_index::Blocks;
 use conservative_profile::Profile;
 use scheduler::Departure;
@@ -285,6 +286,20 @@ pub fn restore(text: &[u8]) -> Opened
     ensures { λ r. ⌜ r ≡ restoring (now (text .entry)) ⌝ }
 {
     restoring::restore(text)
+}
+
+// An EASY scheduler becomes a conservative one while jobs run (document 02, No. 12: "From the Loose Desk to the new one"). It is never refused; a
+// conservative scheduler is handed back as it is.
+pub fn migrate(d: Scheduler) -> Scheduler
+    requires { ⌜ Premise d ⌝ }
+    ensures { λ r. ⌜ r ≡ migrating d ⌝ }
+{
+    let settings = d.settings;
+    let kind = settings.kind;
+    match kind {
+        Kind::Conservative => d,
+        Kind::Easy => migration::migrate(d),
+    }
 }
 
 // Why a wait of `minutes` is refused, or that it is not: it is then that number of ticks.

@@ -8,6 +8,7 @@ use mathlib.Core.List.{List, map}
 use Prim.Native.Nat.{ℕ}
 use lib.Dec.{eqb}
 use lib.ListN.{length}
+use Rattle.scheduler.specs.declared.Kind.the-variants.{Easy}
 use Rattle.scheduler.specs.declared.Settings.{Settings}
 use Rattle.scheduler.specs.Limits.{longestEstimate}
 use Rattle.scheduler.specs.Model.{Model, store, view}
@@ -17,9 +18,13 @@ use Rattle.easy_rules.specs.EarliestStart.{earliestStart}
 use Rattle.history.specs.Calls.{Call, unchanged, Event, after, events, eventsOf}
 use Rattle.history.specs.Guarantee.{Guarantee}
 use Rattle.guarantees.specs.Rules.{call}
-use Rattle.guarantees.specs.Premise.{Valid, valid-view}
+use Rattle.guarantees.specs.Premise.{Valid, valid-view, after-valid}
+use Rattle.guarantees.specs.Proof.{start-valid}
+use Rattle.guarantees.specs.Cleanup.{settings-stay}
+use Rattle.guarantees.specs.Migration.{AroundChange, changed-longest}
+use Rattle.migration_rules.specs.Migration.{changed}
 use Rattle.guarantees.specs.Replies.{reply-back}
-use Rattle.guarantees.specs.Chain.{answerOf, MadeAll, unchanged-refuses, made-keeps}
+use Rattle.guarantees.specs.Chain.{answerOf, MadeAll, unchanged-refuses, made-keeps, made-around}
 use Rattle.guarantees.specs.Statement as start
 use Rattle.guarantees.specs.Statement.{bookOf, Start, startOf}
 use Rattle.calls.specs.ListCall.{listRefusal}
@@ -28,7 +33,6 @@ use Rattle.calls.specs.IndexCall.{blocksOf}
 use Rattle.calls.specs.LongestCall.{longestOf}
 use Rattle.checkpoint_laws.specs.Restored.{restored-lined}
 use Rattle.hingerota.specs.declared.Opening as host-opening
-use Rattle.hingerota.specs.declared.Opened.{Opened}
 use Rattle.hingerota.specs.declared.Desk.{Desk}
 use Rattle.hingerota.specs.declared.Answer.{Answer}
 use Rattle.hingerota.specs.declared.Point.{Point}
@@ -45,6 +49,7 @@ use Rattle.hingerota.specs.IndexContract.{HostShowsBlocks}
 use Rattle.hingerota.specs.EarliestContract.{earliestOn}
 use Rattle.hingerota.specs.LongestContract.{askedBy, longestOn}
 use Rattle.hingerota.specs.TextContract.{HostShowsBytes}
+use Rattle.hingerota.specs.MigrateContract.{migratedDesk, HostMigrates}
 use Rattle.hingerota.specs.Waits.{waitRefusalOn, waitNumber}
 
 -- the reply that an answer in numbers says
@@ -101,42 +106,75 @@ module _ (m : Model) (v : Valid m) (w : m .settings .longest ≡ longestEstimate
       rw (unchanged-refuses m (listRefusal text (view (read (mirror (store m)))) (length lent))) (refl, ap (λ (x : Shown). refusedBy (x .refusal)) (w .answers))
   made-is (waitRefused {n} minutes e q) = rw (unchanged-refuses m (waitRefusalOn (mirror (store m)) minutes)) (refl, ap refusedBy e)
 
--- how a host comes by the desk that a list of calls starts with: `hingerota_open_promise`, `hingerota_open_loose` or `hingerota_restore`
+-- how a host comes by the desk that a list of calls starts with: `hingerota_open_promise`, `hingerota_open_loose` or `hingerota_restore`, a refused
+-- one too; or `hingerota_migrate` after the calls of a list with another start (`migrated-starts`)
 pub data HostStart : Type 0 where
   opensPromise : host-opening.Opening → HostStart
   opensLoose : host-opening.Opening → HostStart
   restoresText : (text : List ℕ) → HostStart
-
--- what it hands back, a refused one too
-abbrev pub handedBy : HostStart → Opened
-handedBy (opensPromise o) = opens (promiseOpening o)
-handedBy (opensLoose o) = opens (looseOpening o)
-handedBy (restoresText t) = restores t
+  changesDesk : HostStart → (before : List Call) → HostStart
 
 abbrev pub startBy : HostStart → Start
 startBy (opensPromise o) = start.opens (promiseOpening o)
 startBy (opensLoose o) = start.opens (looseOpening o)
 startBy (restoresText t) = start.reads t
+startBy (changesDesk s cs) = start.changes (startBy s) cs
 
-handed-is : (s : HostStart) → handedBy s .desk ≡ mirror (store (startOf (startBy s)))
+-- the desk that it hands back
+abbrev pub deskBy : HostStart → Desk
+deskBy (opensPromise o) = opens (promiseOpening o) .desk
+deskBy (opensLoose o) = opens (looseOpening o) .desk
+deskBy (restoresText t) = restores t .desk
+deskBy (changesDesk s cs) = mirror (store (changed (after call (startOf (startBy s)) cs)))
+
+desk-is : (s : HostStart) → deskBy s ≡ mirror (store (startOf (startBy s)))
 unfolding opened
-handed-is (opensPromise o) = refl
-handed-is (opensLoose o) = refl
-handed-is (restoresText t) = refl
+desk-is (opensPromise o) = refl
+desk-is (opensLoose o) = refl
+desk-is (restoresText t) = refl
+desk-is (changesDesk s cs) = refl
+
+after-longest : (s : Start) (cs : List Call) → startOf s .settings .longest ≡ longestEstimate → after call (startOf s) cs .settings .longest ≡ longestEstimate
+after-longest s cs e = ap (λ (S : Settings). S .longest) (settings-stay (startOf s) cs (start-valid s)) ∙ e
 
 start-longest : (s : HostStart) → startOf (startBy s) .settings .longest ≡ longestEstimate
 start-longest (opensPromise o) = opening-longest (promiseOpening o) refl
 start-longest (opensLoose o) = opening-longest (looseOpening o) refl
 start-longest (restoresText t) = restored-lined t .longest
+start-longest (changesDesk s cs) = changed-longest (after call (startOf (startBy s)) cs) ∙ after-longest (startBy s) cs (start-longest s)
+
+reply-said : (m : Model) (c : Call) → Valid m → hostReply (mirrorAnswer (answer (call m c .reply))) ≡ call m c .reply
+reply-said m c v = ap replyOf (read-answer (answer (call m c .reply))) ∙ reply-back m c v
 
 -- Desk and answers are those of the list of calls, and the book of the calls made and the answers received has the guarantees (document 01: "demand
 -- 3").
-pub host-keeps : (s : HostStart) (cs : List Call) (xs : List Answer) (e : Desk) → MadeAll HostMade (handedBy s .desk) cs xs e
+pub host-keeps : (s : HostStart) (cs : List Call) (xs : List Answer) (e : Desk) → MadeAll HostMade (deskBy s) cs xs e
     → let m = startOf (startBy s) in
     (e ≡ mirror (store (after call m cs))) × (xs ≡ map (λ (x : Event). mirrorAnswer (answerOf x)) (events call m cs))
     × Guarantee (m .settings .kind) (m .settings) (bookOf m (eventsOf cs (map hostReply xs)))
 host-keeps s cs xs e l =
-    made-keeps HostMade (λ m. mirror (store m)) (λ r. mirrorAnswer (answer r)) hostReply (startOf (startBy s) .settings)
-    (λ m c a d v w. made-is m v (ap (λ (S : Settings). S .longest) w ∙ start-longest s))
-    (λ m c v. ap replyOf (read-answer (answer (call m c .reply))) ∙ reply-back m c v) (startBy s) refl
-    (subst (λ (x : Desk). MadeAll HostMade x cs xs e) (handed-is s) l)
+    made-keeps HostMade (λ m. mirror (store m)) (λ r. mirrorAnswer (answer r)) hostReply (λ S. S .longest ≡ longestEstimate) (λ m c a d v w. made-is m v w)
+    reply-said (startBy s) (start-longest s)
+    (subst (λ (x : Desk). MadeAll HostMade x cs xs e) (desk-is s) l)
+
+-- ## The change (document 02, No. 12)
+
+-- what `hingerota_migrate` leaves of the desk after the calls of a list is what the next list starts with
+pub migrated-starts : (s : HostStart) (cs : List Call) (d : Desk) → d ≡ mirror (store (after call (startOf (startBy s)) cs)) → migratedDesk d ≡ deskBy (changesDesk s cs)
+migrated-starts s cs d e =
+    let m = after call (startOf (startBy s)) cs in
+    ap migratedDesk e
+    ∙ ap (λ (x : Model). mirror (store (changed x)))
+    (desk-view m (after-valid (startOf (startBy s)) cs (start-valid (startBy s))) (after-longest (startBy s) cs (start-longest s)))
+
+-- "A list of demand 3 ends with the change. Another starts from the new desk": a host's calls on an EASY desk, the change, and its calls on what that
+-- leaves. By the answers received both lists have the guarantees, and each waiting job is handed over with a promise within its bound and its
+-- forecast.
+pub host-around : (s : HostStart) (cs ds : List Call) (xs ys : List Answer) (d e f : Desk) → startOf (startBy s) .settings .kind ≡ Easy
+    → MadeAll HostMade (deskBy s) cs xs d → HostMigrates d e → MadeAll HostMade e ds ys f
+    → AroundChange (startBy s) cs (eventsOf cs (map hostReply xs)) ds (eventsOf ds (map hostReply ys))
+host-around s cs ds xs ys d e f k l q l′ =
+    made-around HostMade (λ m. mirror (store m)) (λ r. mirrorAnswer (answer r)) hostReply (λ S. S .longest ≡ longestEstimate) (λ m c a d v w. made-is m v w)
+    reply-said (startBy s) k (start-longest s) (start-longest (changesDesk s cs))
+    (subst (λ (x : Desk). MadeAll HostMade x cs xs d) (desk-is s) l)
+    (subst (λ (x : Desk). MadeAll HostMade x ds ys f) (q .leaves ∙ migrated-starts s cs d (host-keeps s cs xs d l .0)) l′)

@@ -10,4 +10,5 @@ pub mod EarliestContract
 pub mod LongestContract
 pub mod TextContract
 pub mod RestoreContract
+pub mod MigrateContract
 pub mod Chain

@@ -16,6 +16,7 @@ ghost use Rattle.hingerota.specs.IndexContract.{mirrorBlock, blocksIn, b
 ghost use Rattle.hingerota.specs.EarliestContract.{earliestOn};
 ghost use Rattle.hingerota.specs.LongestContract.{longestOn};
 ghost use Rattle.hingerota.specs.TextContract.{HostShowsPage, HostShowsText};
+ghost use Rattle.hingerota.specs.MigrateContract.{migratedDesk, HostMigrates};
 ghost use Rattle.hingerota.specs.Waits.{waitNumber};
 use scheduler::Job;
 use scheduler::Kind;
@@ -604,6 +605,13 @@ fn checkpoint(d: Desk, text: &mut [u8]) -> Shown
     mirror_shown(calls::checkpoint(read(d), text))
 }
 
+fn migrate(d: Desk) -> Desk
+    requires { ⌜ Handed d ⌝ }
+    ensures { λ r. ⌜ r ≡ migratedDesk d ⌝ }
+{
+    mirror(calls::migrate(read(d)))
+}
+
 fn wait_refusal(d: Desk, minutes: u32) -> u32
     requires { ⌜ Handed d ⌝ }
     ensures { λ r. ⌜ r ≡ waitNumber d minutes ⌝ }
@@ -777,6 +785,16 @@ pub extern "C" fn hingerota_checkpoint(d: &Desk, text: &mut [u8]) -> Shown
     ensures { λ r. ⌜ HostShowsText (now (d .entry)) (now (text .entry)) r (now (text .exit)) ⌝ }
 {
     checkpoint(*d, text)
+}
+
+// An EASY desk becomes a conservative one while jobs run (document 02, No. 12: "From the Loose Desk to the new one"). It is never refused; a
+// Promise Desk stays as it is.
+#[no_mangle]
+pub extern "C" fn hingerota_migrate(d: &mut Desk)
+    requires { ⌜ Handed (now d) ⌝ }
+    ensures { λ _. ⌜ HostMigrates (now (d .entry)) (now (d .exit)) ⌝ }
+{
+    *d = migrate(*d);
 }
 
 // Why a wait of `minutes` is refused, by number, or 0: it is then that number of ticks. The desk is only read.

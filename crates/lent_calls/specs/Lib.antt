@@ -3,4 +3,5 @@ pub mod ListContract
 pub mod ProfileContract
 pub mod IndexContract
 pub mod RestoreContract
+pub mod MigrateContract
 pub mod MixedCalls

@@ -11,6 +11,7 @@ use Rattle.spans.specs.declared.Point.{Point}
 use Rattle.scheduler.specs.declared.Answer.{Answer}
 use Rattle.scheduler.specs.declared.Outcome.{Outcome}
 use Rattle.scheduler.specs.declared.Refusal.{Refusal}
+use Rattle.scheduler.specs.declared.Kind.the-variants.{Easy}
 use Rattle.scheduler.specs.declared.Scheduler.{Scheduler}
 use Rattle.scheduler.specs.Model.{Model, store, view}
 use Rattle.scheduler.specs.Answers.{accepts, answer, replyOf, outcome, refusedAnswer}
@@ -19,10 +20,13 @@ use Rattle.scheduler.specs.Opening.{opened}
 use Rattle.history.specs.Calls.{Call, unchanged, after, events, eventsOf}
 use Rattle.history.specs.Guarantee.{Guarantee}
 use Rattle.guarantees.specs.Rules.{call}
-use Rattle.guarantees.specs.Premise.{Valid, valid-view}
+use Rattle.guarantees.specs.Premise.{Valid, valid-view, after-valid}
+use Rattle.guarantees.specs.Proof.{start-valid}
+use Rattle.guarantees.specs.Migration.{AroundChange}
+use Rattle.migration_rules.specs.Migration.{changed}
 use Rattle.guarantees.specs.Replies.{reply-back}
-use Rattle.guarantees.specs.Chain.{gives, answerOf, MadeAll, unchanged-refuses, made-keeps}
-use Rattle.guarantees.specs.Statement.{bookOf, Start, opens, reads, startOf}
+use Rattle.guarantees.specs.Chain.{gives, answerOf, MadeAll, unchanged-refuses, made-keeps, made-around}
+use Rattle.guarantees.specs.Statement.{bookOf, Start, opens, reads, changes, startOf}
 use Rattle.restoring.specs.Restoring.{restoring}
 use Rattle.calls.specs.declared.Shown.{Shown}
 use Rattle.calls.specs.declared.ProfileOutcome.{ProfileOutcome}
@@ -36,6 +40,7 @@ use Rattle.scheduler.specs.declared.Inquiry.{Inquiry}
 use Rattle.scheduler.specs.declared.Longest.{Longest}
 use Rattle.calls.specs.LongestCall.{longestOf}
 use Rattle.calls.specs.ListCall.{Shows}
+use Rattle.calls.specs.MigrateCall.{migrating}
 use Rattle.lent_calls.specs.CallContract.{Leaves}
 use Rattle.lent_calls.specs.ProfileContract.{ShowsPoints}
 use Rattle.lent_calls.specs.IndexContract.{ShowsBlocks}
@@ -84,15 +89,18 @@ module _ (m : Model) (v : Valid m) where
   made-is (textShown {text} {lent} {after} {s} w) = unchanged-is (s .refusal)
   made-is (waitRefused {r} minutes e n) = unchanged-is r
 
--- the scheduler that a list of calls starts with: the one that `Scheduler::open` or `calls::restore` hands back, or `restore` leaves, a refused one too
+-- the scheduler that a list of calls starts with: the one that `Scheduler::open` or `calls::restore` hands back, or `restore` leaves, a refused one too;
+-- or the one that `migrate` hands back or leaves after the calls before (`migrated-starts`)
 abbrev pub started : Start → Scheduler
 started (opens o) = opened o .scheduler
 started (reads t) = restoring t .scheduler
+started (changes s cs) = store (changed (after call (startOf s) cs))
 
 started-is : (s : Start) → started s ≡ store (startOf s)
 unfolding opened
 started-is (opens o) = refl
 started-is (reads t) = refl
+started-is (changes s cs) = refl
 
 -- Scheduler and answers are those of the list of calls, and the book of the calls made and the answers received has the guarantees (document 01:
 -- "demand 3").
@@ -100,5 +108,24 @@ pub mixed-keeps : (s : Start) (cs : List Call) (xs : List Answer) (e : Scheduler
     → (e ≡ store (after call (startOf s) cs)) × (xs ≡ map answerOf (events call (startOf s) cs))
     × Guarantee (startOf s .settings .kind) (startOf s .settings) (bookOf (startOf s) (eventsOf cs (map replyOf xs)))
 mixed-keeps s cs xs e l =
-    made-keeps Made store answer replyOf (startOf s .settings) (λ m c a d v w. made-is m v) reply-back s refl
+    made-keeps Made store answer replyOf (λ S. Unit {0}) (λ m c a d v w. made-is m v) reply-back s tt
     (subst (λ (x : Scheduler). MadeAll Made x cs xs e) (started-is s) l)
+
+-- ## The change (document 02, No. 12)
+
+-- what `migrate` makes of the scheduler that the calls of a list have left is what the next list starts with
+pub migrated-starts : (s : Start) (cs : List Call) (d : Scheduler) → d ≡ store (after call (startOf s) cs) → migrating d ≡ started (changes s cs)
+migrated-starts s cs d e =
+    let m = after call (startOf s) cs in
+    ap migrating e ∙ ap (λ (x : Model). store (changed x)) (valid-view m (after-valid (startOf s) cs (start-valid s)))
+
+-- "A list of demand 3 ends with the change. Another starts from the new desk": calls by value and on a lent EASY scheduler, the change, and calls
+-- on what it hands back. By the answers received both lists have the guarantees, and each waiting job is handed over with a promise within its
+-- bound and its forecast.
+pub mixed-around : (s : Start) (cs ds : List Call) (xs ys : List Answer) (d e f : Scheduler) → startOf s .settings .kind ≡ Easy
+    → MadeAll Made (started s) cs xs d → e ≡ migrating d → MadeAll Made e ds ys f
+    → AroundChange s cs (eventsOf cs (map replyOf xs)) ds (eventsOf ds (map replyOf ys))
+mixed-around s cs ds xs ys d e f k l q l′ =
+    made-around Made store answer replyOf (λ S. Unit {0}) (λ m c a d v w. made-is m v) reply-back s k tt tt
+    (subst (λ (x : Scheduler). MadeAll Made x cs xs d) (started-is s) l)
+    (subst (λ (x : Scheduler). MadeAll Made x ds ys f) (q ∙ migrated-starts s cs d (mixed-keeps s cs xs d l .0)) l′)

@@ -11,6 +11,7 @@ ghost use Rattle.lent_calls.specs.CallContract.{Leaves};
 ghost use Rattle.lent_calls.specs.ProfileContract.{ShowsPoints};
 ghost use Rattle.lent_calls.specs.IndexContract.{ShowsBlocks};
 ghost use Rattle.lent_calls.specs.RestoreContract.{Restores};
+ghost use Rattle.lent_calls.specs.MigrateContract.{Migrates};
 use calls::Shown;
 use scheduler::Answer;
 use scheduler::Earliest;
@@ -125,4 +126,12 @@ pub fn restore(d: &mut Scheduler, text: &[u8]) -> Refusal
     let o = calls::restore(text);
     *d = o.scheduler;
     o.refusal
+}
+
+// An EASY scheduler becomes a conservative one while jobs run (document 02, No. 12). It is never refused.
+pub fn migrate(d: &mut Scheduler)
+    requires { ⌜ Premise (now d) ⌝ }
+    ensures { λ _. ⌜ Migrates (now (d .entry)) (now (d .exit)) ⌝ }
+{
+    *d = calls::migrate(*d);
 }

@@ -5,12 +5,14 @@ pub mod Own0
 pub mod Own1
 pub mod OwnPasses_ds
 pub mod OwnRenews_ds
+pub mod OwnReplaces0
 pub mod OwnSlice_ds
 pub mod Params
 pub mod Passes_ds
 pub mod Peek0
 pub mod Peek1
 pub mod Renews_ds
+pub mod Replaces0
 pub mod Results
 pub mod Thin
 pub mod Thin0

@@ -11,6 +11,7 @@ ghost use Rattle.lent_calls.specs.CallContract.{Leaves};
 ghost use Rattle.lent_calls.specs.ProfileContract.{ShowsPoints};
 ghost use Rattle.lent_calls.specs.IndexContract.{ShowsBlocks};
 ghost use Rattle.lent_calls.specs.RestoreContract.{Restores};
+ghost use Rattle.lent_calls.specs.MigrateContract.{Migrates};
 use calls::Shown;
 use libc::STDOUT_FILENO;
 use scheduler::Answer;
@@ -150,6 +151,15 @@ fn lent_restore(d: Scheduler, text: &[u8]) -> Opened
         refusal: a,
         scheduler: e,
     }
+}
+
+fn lent_migrate(d: Scheduler) -> Scheduler
+    requires { ⌜ Premise d ⌝ }
+    ensures { λ r. ⌜ Migrates d r ⌝ }
+{
+    let mut e = d;
+    lent_calls::migrate(&mut e);
+    e
 }
 
 fn print(n: u32) {
@@ -504,6 +514,27 @@ fn checkpoint(d: Scheduler) -> Scheduler
     read_back(d, &mut text, size)
 }
 
+fn print_lines(d: Scheduler)
+    requires { ⌜ Premise d ⌝ }
+{
+    let mut text = [b'x'; 512];
+    let shown = lent_text(d, &mut text);
+    print_shown(shown);
+    io::write_all(STDOUT_FILENO, b"\n");
+    print_front(&text, shown.count);
+}
+
+// The lines of the scheduler that the change to conservative backfilling hands back, by value and where one was lent.
+fn migrate(d: Scheduler) -> Scheduler
+    requires { ⌜ Premise d ⌝ }
+    ensures { λ r. ⌜ Premise r ⌝ }
+{
+    print_lines(calls::migrate(d));
+    let e = lent_migrate(d);
+    print_lines(e);
+    e
+}
+
 fn open_up_to(
     kind: Kind,
     nodes: u32,
@@ -657,4 +688,23 @@ fn main() {
     blocks(q4);
     let q5 = submit(q4, 12, 300, Tenant::A);
     blocks(q5);
+    // EASY becomes conservative: a job in cleanup and one that runs keep their starts as promises, two that wait are planned, and calls go on
+    let r = open(Kind::Easy, 10, 0, 7, 63);
+    let r1 = submit(r, 6, 20, Tenant::A);
+    let r2 = submit(r1, 3, 5, Tenant::B);
+    let r3 = complete(r2, 2);
+    let r4 = submit(r3, 8, 10, Tenant::A);
+    let r5 = submit(r4, 4, 30, Tenant::A);
+    print_lines(r5);
+    let r6 = migrate(r5);
+    show(r6);
+    earliest(r5, 3);
+    earliest(r6, 3);
+    let r7 = submit(r6, 1, 20, Tenant::A);
+    let r8 = complete(r7, 1);
+    let r9 = tick(r8);
+    // who runs next may be withdrawn before, and a conservative scheduler is handed back as it is
+    let r10 = cancel(r9, 3);
+    let r11 = migrate(r10);
+    show(r11);
 }
