@@ -37,6 +37,11 @@
  * count as the lines give them. The promise, the bound and the forecast that the lines give a job that waits are kept. All of the above
  * holds, but for one sentence where no calls made the lines: that no waiting job could begin earlier holds from the first early end or
  * withdrawal on. The same is true of a desk of which hingerota_check gives 0.
+ *
+ * Of a desk that changes its kind. A list of calls on a Loose Desk ends with hingerota_migrate, and another begins with the Promise Desk
+ * that it leaves, whose jobs count as it has them. The promises that it gives are kept, as are those of submissions. All of the above
+ * holds, also that no waiting job could begin earlier. Of jobs that wait the promise of the first is no later than its forecast was, and
+ * every promise is no later than the job's bound was.
  */
 #ifndef HINGEROTA_H
 #define HINGEROTA_H
@@ -224,6 +229,14 @@ hingerota_answer hingerota_cancel(hingerota_desk *d, uint32_t ticket);
  * free serve a start in that same minute. Who leaves after its cleanup is told no more: it stood in `ended` before. Refused by 6, at
  * minute 1,000,000. */
 hingerota_answer hingerota_tick(hingerota_desk *d);
+
+/* A Loose Desk becomes a Promise Desk while jobs run; a Promise Desk stays as it is. It is never refused, and nobody ends or starts. Jobs
+ * that run or are in cleanup keep their starts, which now are their promises, and their ends. Jobs that wait are planned, one after another
+ * in the order of tickets, as submissions to a Promise Desk are: each at the smallest minute from which its nodes are free for its estimate
+ * rounded up and the cleanup, beside the jobs that hold nodes and those planned before it. That minute is its start and its promise. The
+ * first is promised the minute at which its nodes are free. Every planned job gives its nodes back by minute 1,000,000. `submitted`, `rank`
+ * and `forecast` become 0; the clock, the next ticket and all else stay as they were. */
+void hingerota_migrate(hingerota_desk *d);
 
 /* The free nodes of a Promise Desk from now on, counting waiting jobs at their planned starts: `count` points are written into `points`,
  * which has places for `room`. The first is now, then each later minute whose free nodes differ from those of the minute before. The

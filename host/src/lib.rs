@@ -112,6 +112,13 @@ impl Desk {
         unsafe { raw::hingerota_tick(&mut self.raw) }
     }
 
+    /// A Loose Desk becomes a Promise Desk while jobs run; a Promise Desk stays as it is. It is never refused, and nobody ends or starts. Jobs
+    /// that wait are planned in the order of tickets, and each is promised the minute for which it is planned: the first one's is no later
+    /// than its forecast was, and every one's no later than its bound was.
+    pub fn migrate(&mut self) {
+        unsafe { raw::hingerota_migrate(&mut self.raw) }
+    }
+
     /// The free nodes from now on, into the front of the list lent; refused by 10. Places past the last point keep what they held.
     pub fn profile(&self, points: &mut [Point]) -> Shown {
         unsafe { raw::hingerota_profile(&self.raw, points.as_mut_ptr(), points.len()) }
@@ -204,6 +211,12 @@ impl Desk {
     /// All 64 places: the live jobs first, in the order of their tickets, then unused ones, all 0.
     pub fn records(&self) -> &[Record; 64] {
         &self.raw.jobs
+    }
+}
+
+impl Record {
+    pub fn waits(&self) -> bool {
+        self.state == 1
     }
 }
 

@@ -156,6 +156,7 @@ extern "C" {
     pub fn hingerota_complete(d: *mut Desk, ticket: u32) -> Answer;
     pub fn hingerota_cancel(d: *mut Desk, ticket: u32) -> Answer;
     pub fn hingerota_tick(d: *mut Desk) -> Answer;
+    pub fn hingerota_migrate(d: *mut Desk);
     pub fn hingerota_profile(d: *const Desk, points: *mut Point, room: usize) -> Shown;
     pub fn hingerota_index(d: *const Desk, blocks: *mut Block, room: usize) -> Shown;
     pub fn hingerota_wait_refusal(d: *const Desk, minutes: u32) -> u32;

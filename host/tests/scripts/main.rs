@@ -205,6 +205,7 @@ fn arguments() {
         "end TICKET",
         "drop TICKET",
         "wait MINUTES",
+        "  change  ",
         "profile",
         "index",
         "reads",

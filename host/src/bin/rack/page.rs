@@ -71,6 +71,16 @@ impl Page {
         Ok(())
     }
 
+    /// Of a desk that was of this kind. Document 02, No. 12: "waiting ones are planned in ticket order [...] and receive promises then." A
+    /// Promise Desk stays as it is, and prints nothing.
+    pub fn migration(&mut self, before: Kind, desk: &Desk) {
+        if before == Kind::Loose {
+            for record in desk.records().iter().filter(|record| record.waits()) {
+                self.row("took", record.ticket, record.promise);
+            }
+        }
+    }
+
     pub fn points(&mut self, points: &[Point]) {
         for point in points {
             self.row("free", point.minute, point.free);

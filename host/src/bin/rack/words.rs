@@ -58,6 +58,17 @@ const WORDS: &[Word] = &[
         },
     },
     Word {
+        form: "change",
+        does: "a Loose Desk becomes a Promise Desk: prints took TICKET PROMISE, of the jobs that wait",
+        play: |rack, fields, page| {
+            let [] = numbers(fields)?;
+            let kind = rack.desk.kind();
+            rack.desk.migrate();
+            page.migration(kind, &rack.desk);
+            Ok(())
+        },
+    },
+    Word {
         form: "profile",
         does: "of a Promise Desk: prints free MINUTE NODES, the nodes free from then on",
         play: |rack, fields, page| {
