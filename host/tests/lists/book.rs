@@ -1,5 +1,5 @@
 //! The guarantees of a list of calls, watched by the calls and their answers alone: nothing here looks into a desk. Of a list that starts
-//! from a desk read back, also by the lines of that desk.
+//! from a desk read back, or from one that has changed its kind, also by the lines of that desk.
 
 use crate::model::{held, Job, Model, State, BLOCK_POINTS, HOUSES, LONGEST_ESTIMATE};
 use hingerota_host::{Answer, Block, Earliest, Inquiry, Kind, Longest, Order, Point, Tickets};
@@ -17,6 +17,14 @@ enum Fate {
     Withdrawn(u32),
 }
 
+/// By what a job was told its promise, its bound and its forecast, if any.
+#[derive(Clone, Copy, PartialEq, Eq, Debug)]
+enum Told {
+    Answers,
+    Lines,
+    Change,
+}
+
 #[derive(Clone, Copy)]
 struct Entry {
     nodes: u32,
@@ -29,8 +37,7 @@ struct Entry {
     hold: u32,
     /// The largest minute given as its earliest start, and the minute in which that was first given.
     earliest: Option<(u32, u32)>,
-    /// Its promise, bound and forecast, if any, are those of a line.
-    of_line: bool,
+    told: Told,
 }
 
 impl Entry {
@@ -59,7 +66,7 @@ impl Entry {
             least: job.least,
             hold: held(job.estimate),
             earliest: None,
-            of_line: true,
+            told: Told::Lines,
         }
     }
 
@@ -72,10 +79,15 @@ impl Entry {
         }
     }
 
+    /// What it asked for, and what has become of it.
+    fn standing(&self) -> impl PartialEq + std::fmt::Debug {
+        (self.nodes, self.house, self.least, self.hold, self.fate)
+    }
+
     /// What a line has to give as the calls and their answers did; of the Promise Desk no bound.
-    fn told(&self, kind: Kind) -> impl PartialEq + std::fmt::Debug {
+    fn stated(&self, kind: Kind) -> impl PartialEq + std::fmt::Debug {
         let bound = (kind == Kind::Loose).then_some(self.bound);
-        (self.nodes, self.house, self.least, self.hold, self.fate, (self.promise, bound, self.forecast))
+        (self.standing(), (self.promise, bound, self.forecast))
     }
 }
 
@@ -84,6 +96,7 @@ fn bound(intake: u32, r: u32, cleanup: u32) -> u32 {
     intake + r * (LONGEST_ESTIMATE + cleanup)
 }
 
+#[derive(Clone)]
 pub struct Book {
     kind: Kind,
     nodes: u32,
@@ -104,7 +117,9 @@ pub struct Book {
 /// that very minute, given before it came; of submissions that read points; of indexes beside a profile, and of the blocks of these; of
 /// submissions of what was asked for before them: of those no longer than the estimate given, of longer ones, and of those refused as the
 /// question was; of desks written out and read back, and of the jobs in their lines; of jobs that waited in the lines of a desk that no
-/// calls need have made, and started by the promise, the bound or the forecast that these gave, or were withdrawn before.
+/// calls need have made, and started by the promise, the bound or the forecast that these gave, or were withdrawn before; of desks that
+/// changed their kind, of the promises that these gave to jobs that waited, and of these, to heads before their forecasts, and at the very
+/// bounds; of jobs that started by a promise of a change, or were withdrawn before.
 #[derive(Default, Clone, Copy)]
 pub struct Tried {
     pub promises: u64,
@@ -135,6 +150,12 @@ pub struct Tried {
     pub bounds_of_lines: u64,
     pub forecasts_of_lines: u64,
     pub withdrawn_of_lines: u64,
+    pub changes: u64,
+    pub promised: u64,
+    pub heads_promised_less: u64,
+    pub promised_the_bound: u64,
+    pub promises_of_changes: u64,
+    pub withdrawn_of_changes: u64,
 }
 
 impl Tried {
@@ -167,6 +188,12 @@ impl Tried {
         self.bounds_of_lines += other.bounds_of_lines;
         self.forecasts_of_lines += other.forecasts_of_lines;
         self.withdrawn_of_lines += other.withdrawn_of_lines;
+        self.changes += other.changes;
+        self.promised += other.promised;
+        self.heads_promised_less += other.heads_promised_less;
+        self.promised_the_bound += other.promised_the_bound;
+        self.promises_of_changes += other.promises_of_changes;
+        self.withdrawn_of_changes += other.withdrawn_of_changes;
     }
 }
 
@@ -209,19 +236,95 @@ impl Book {
         let lines = Book::of_lines(desk)?;
         let settings = |book: &Book| (book.kind, book.nodes, book.cleanup, book.places, book.clock);
         claim!(settings(self) == settings(&lines), "{:?} is read back as {:?}", settings(self), settings(&lines));
-        for (ticket, entry) in self.entries.iter().filter(|(_, e)| e.is_live(self.clock, self.cleanup)) {
-            claim!(lines.entries.contains_key(ticket), "{ticket} is live and has no line");
-            let (told, stated) = (entry.told(self.kind), lines.entries[ticket].told(self.kind));
-            claim!(told == stated, "{ticket} is read back as {stated:?} and was {told:?}");
+        self.has_lines(&lines)?;
+        for (ticket, entry) in self.live() {
+            let (was, stated) = (entry.stated(self.kind), lines.entries[ticket].stated(self.kind));
+            claim!(was == stated, "{ticket} is read back as {stated:?} and was {was:?}");
         }
         for (ticket, line) in lines.entries {
-            let entry = self.entries.get_mut(&ticket).filter(|e| e.is_live(self.clock, self.cleanup));
-            let entry = entry.ok_or_else(|| format!("{ticket} has a line and is not live"))?;
-            *entry = Entry { earliest: entry.earliest, of_line: entry.of_line, ..line };
+            let entry = self.entries.get_mut(&ticket).unwrap();
+            *entry = Entry { earliest: entry.earliest, told: entry.told, ..line };
             self.tried.jobs_reread += 1;
         }
         self.tried.rereads += 1;
         Ok(())
+    }
+
+    /// A Loose Desk becomes a Promise Desk. Document 02, No. 12: "A list of demand 3 ends with the change. Another starts from the new
+    /// desk, whose stacks count as it has them; these promises are kept there in the same way." The earliest starts that were given, and
+    /// who was withdrawn, still count.
+    pub fn migrate(&mut self, desk: &Model) -> Result<(), String> {
+        let lines = Book::of_lines(desk)?;
+        claim!((self.kind, lines.kind) == (Kind::Loose, Kind::Promise), "a {:?} desk becomes a {:?} desk", self.kind, lines.kind);
+        let settings = |book: &Book| (book.nodes, book.cleanup, book.places, book.clock);
+        claim!(settings(self) == settings(&lines), "{:?} becomes {:?}", settings(self), settings(&lines));
+        self.has_lines(&lines)?;
+        self.becomes(&lines)?;
+        for (ticket, line) in lines.entries {
+            let entry = self.entries.get_mut(&ticket).unwrap();
+            *entry = Entry { earliest: entry.earliest, told: Told::Change, ..line };
+        }
+        (self.kind, self.longest) = (lines.kind, None);
+        self.tried.changes += 1;
+        Ok(())
+    }
+
+    /// "Running and clearing stacks keep starts, now their promises, and ends; waiting ones [...] receive promises then. [...] The head's
+    /// promise is no later than its forecast, and every promise of a waiting stack lies within the bound it had on the Loose Desk." The
+    /// head's is the shadow, and each later one's at most 10,080 and the clearing more than that of the one before may be.
+    fn becomes(&mut self, lines: &Book) -> Result<(), String> {
+        let (mut tried, mut due) = (self.tried, None);
+        for (ticket, entry) in self.live() {
+            let line = &lines.entries[ticket];
+            let (was, is) = (entry.standing(), line.standing());
+            claim!(was == is, "{ticket} was {was:?} and is {is:?}");
+            match entry.fate {
+                Fate::Running(start) => claim!(line.promise == start, "{ticket} runs since {start} and is promised {}", line.promise),
+                Fate::Waiting => {
+                    let promise = line.promise;
+                    for (what, minute) in entry.deadlines(Kind::Loose) {
+                        claim!(promise <= minute, "{ticket} is promised {promise}, after its {what} {minute}");
+                    }
+                    let latest = due.unwrap_or_else(|| self.shadow(entry.nodes));
+                    claim!(due.is_some() || promise == latest, "head {ticket} is promised {promise}, and the shadow is {latest}");
+                    claim!(promise <= latest, "{ticket} is promised {promise}, after {latest}");
+                    tried.promised += 1;
+                    tried.heads_promised_less += u64::from(entry.forecast.is_some_and(|minute| promise < minute));
+                    tried.promised_the_bound += u64::from(promise == entry.bound);
+                    due = Some(latest + LONGEST_ESTIMATE + self.cleanup);
+                }
+                Fate::Ended(_) | Fate::Withdrawn(_) => {}
+            }
+        }
+        self.tried = tried;
+        Ok(())
+    }
+
+    /// The smallest minute, now or later, at which so many nodes are free if nobody starts.
+    fn shadow(&self, nodes: u32) -> u32 {
+        let freed = |entry: &Entry| match entry.fate {
+            Fate::Running(start) => start + entry.hold + self.cleanup,
+            Fate::Ended(minute) => minute + self.cleanup,
+            Fate::Waiting | Fate::Withdrawn(_) => 0,
+        };
+        let taken = |minute| self.entries.values().filter(|e| freed(e) > minute).map(|e| e.nodes).sum::<u32>();
+        let ends = self.entries.values().map(freed).chain([self.clock]).filter(|minute| *minute >= self.clock);
+        ends.filter(|minute| taken(*minute) + nodes <= self.nodes).min().expect("all nodes are free in the end")
+    }
+
+    /// A desk has a line for each job that is live, and for no other.
+    fn has_lines(&self, lines: &Book) -> Result<(), String> {
+        for (ticket, _) in self.live() {
+            claim!(lines.entries.contains_key(ticket), "{ticket} is live and has no line");
+        }
+        for ticket in lines.entries.keys() {
+            claim!(self.live().any(|(live, _)| live == ticket), "{ticket} has a line and is not live");
+        }
+        Ok(())
+    }
+
+    fn live(&self) -> impl Iterator<Item = (&u32, &Entry)> {
+        self.entries.iter().filter(|(_, e)| e.is_live(self.clock, self.cleanup))
     }
 
     fn waiting(&self) -> impl Iterator<Item = (&u32, &Entry)> {
@@ -248,7 +351,7 @@ impl Book {
                 claim!(least <= estimate, "a job of {least} to {estimate} minutes is taken in");
                 let bound = bound(self.clock, self.waiting().count() as u32 + 1, self.cleanup);
                 let (promise, hold, fate) = (answer.promise, held(estimate), Fate::Waiting);
-                let entry = Entry { nodes, house, promise, bound, forecast: None, fate, least, hold, earliest: None, of_line: false };
+                let entry = Entry { nodes, house, promise, bound, forecast: None, fate, least, hold, earliest: None, told: Told::Answers };
                 claim!(self.entries.insert(answer.ticket, entry).is_none(), "ticket {} is given twice", answer.ticket);
             }
             Call::Tick => self.clock += 1,
@@ -286,10 +389,14 @@ impl Book {
                 Kind::Loose => self.tried.bounds += 1,
             }
             self.tried.forecasts += u64::from(entry.forecast.is_some());
-            if entry.of_line {
-                self.tried.promises_of_lines += u64::from(self.kind == Kind::Promise);
-                self.tried.bounds_of_lines += u64::from(self.kind == Kind::Loose);
-                self.tried.forecasts_of_lines += u64::from(entry.forecast.is_some());
+            match entry.told {
+                Told::Answers => {}
+                Told::Lines => {
+                    self.tried.promises_of_lines += u64::from(self.kind == Kind::Promise);
+                    self.tried.bounds_of_lines += u64::from(self.kind == Kind::Loose);
+                    self.tried.forecasts_of_lines += u64::from(entry.forecast.is_some());
+                }
+                Told::Change => self.tried.promises_of_changes += 1,
             }
             if let Some((earliest, given)) = entry.earliest {
                 claim!(self.clock >= earliest, "{ticket} starts before its earliest start {earliest}");
@@ -347,7 +454,8 @@ impl Book {
         }
         entry.fate = Fate::Withdrawn(self.clock);
         self.tried.withdrawn += 1;
-        self.tried.withdrawn_of_lines += u64::from(entry.of_line);
+        self.tried.withdrawn_of_lines += u64::from(entry.told == Told::Lines);
+        self.tried.withdrawn_of_changes += u64::from(entry.told == Told::Change);
         Ok(())
     }
 

@@ -6,11 +6,11 @@ use crate::model::{Job, Model, State, HOUSES};
 use hingerota_host::{Answer, Kind, Order, Tickets};
 
 const NO_TICKETS: Tickets = Tickets { count: 0, list: [0; 64] };
-const NOTHING: Answer =
+pub const NOTHING: Answer =
     Answer { refusal: 0, ticket: 0, promise: 0, reads: 0, head: 0, forecast: 0, ended: NO_TICKETS, started: NO_TICKETS };
 
 /// 6 nodes, for 20 minutes, of A.
-const LINE: Job = Job {
+pub const LINE: Job = Job {
     ticket: 1,
     nodes: 6,
     estimate: 20,
@@ -25,14 +25,14 @@ const LINE: Job = Job {
     forecast: 0,
 };
 
-fn one(ticket: u32) -> Tickets {
+pub fn one(ticket: u32) -> Tickets {
     let mut list = [0; 64];
     list[0] = ticket;
     Tickets { count: 1, list }
 }
 
 /// A machine of 10 nodes, 63 places for A and 1 for B.
-fn desk(kind: Kind, clock: u32, cleanup: u32, jobs: &[Job]) -> Model {
+pub fn desk(kind: Kind, clock: u32, cleanup: u32, jobs: &[Job]) -> Model {
     let (_, desk) = Model::open(kind, 10, clock, 100, cleanup, [63, 1]);
     Model { jobs: jobs.to_vec(), ..desk }
 }
@@ -57,7 +57,7 @@ fn tick() -> (Call, Answer) {
     (Call::Tick, NOTHING)
 }
 
-fn starts(ticket: u32) -> (Call, Answer) {
+pub fn starts(ticket: u32) -> (Call, Answer) {
     (Call::Tick, Answer { started: one(ticket), ..NOTHING })
 }
 
@@ -71,7 +71,7 @@ fn second(house: u32) -> (Call, Answer) {
     (Call::Submit(order), Answer { ticket: 2, promise: 60_000, started: one(2), ..NOTHING })
 }
 
-fn ticks(minutes: u32) -> impl Iterator<Item = (Call, Answer)> {
+pub fn ticks(minutes: u32) -> impl Iterator<Item = (Call, Answer)> {
     (0..minutes).map(|_| tick())
 }
 
@@ -81,7 +81,7 @@ fn play(desk: &Model, calls: impl IntoIterator<Item = (Call, Answer)>) -> Result
     Ok(book)
 }
 
-fn finds(found: Result<Book, String>, claim: &str) {
+pub fn finds(found: Result<Book, String>, claim: &str) {
     let found = found.err().unwrap_or_else(|| panic!("not found out: {claim}"));
     assert!(found.contains(claim), "{claim}: {found}");
 }

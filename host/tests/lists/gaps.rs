@@ -8,7 +8,7 @@ use hingerota_host::{Point, Record};
 /// Of every waiting record: from no minute before its start are its nodes free for its hold, its own hold left out. How many wait.
 pub fn none(points: &[Point], records: &[Record], cleanup: u32) -> Result<u64, String> {
     let mut watched = 0;
-    for job in records.iter().filter(|r| r.state == 1) {
+    for job in records.iter().filter(|r| r.waits()) {
         let (nodes, hold) = (u32::from(job.nodes), held(u32::from(job.estimate)) + cleanup);
         if let Some(minute) = begins_earlier(points, nodes, job.start, hold) {
             return Err(format!("{} is planned for {} and could begin at {minute}", job.ticket, job.start));

@@ -19,6 +19,9 @@ struct Making<'a> {
 }
 
 pub fn desk(random: &mut Random) -> Model {
+    if random.percent(5) {
+        return packed(random);
+    }
     let kind = random.one_of(&[Kind::Promise, Kind::Loose]);
     let nodes = random.one_of(&[1, 2, 4, 10, 28, 100, 1_024]);
     let clock = match random.below(6) {
@@ -41,6 +44,35 @@ pub fn desk(random: &mut Random) -> Model {
         making.tell();
     }
     making.desk
+}
+
+/// A Loose Desk on which one job holds nodes and the others wait, mostly all of them as long as can be, and no two beside each other:
+/// planned one after another, each starts at its very bound, and the last mostly gives its nodes back in the last minute.
+fn packed(random: &mut Random) -> Model {
+    let (nodes, cleanup, waiting) = (random.one_of(&[1, 2, 10, 1_024]), random.one_of(&[0, 1, 30]), random.one_of(&[1, 2, 3, 8, 63]));
+    let unit = LONGEST_ESTIMATE + cleanup;
+    let shadow = LAST_MINUTE - waiting * unit - random.one_of(&[0, 0, 0, 1, 5_000]);
+    let clock = shadow - random.one_of(&[1, cleanup + 1, 100, unit]);
+    let ended = shadow - cleanup;
+    let (state, end) = if clock < ended { (State::Running, 0) } else { (State::Cleanup, ended) };
+    let a = random.between(1, 63);
+    let (_, mut desk) = Model::open(Kind::Loose, nodes, clock, 1, cleanup, [a, 64 - a]);
+    let shorter = random.one_of(&[0, 0, 0, 5, 100]);
+    for place in 0..=waiting {
+        let (ticket, house) = (place + 1, HOUSES[usize::from(place >= a)]);
+        let estimate = if random.percent(shorter) { random.between(1, 10_050) } else { random.between(10_051, LONGEST_ESTIMATE) };
+        let nodes = random.between(nodes / 2 + 1, nodes);
+        let (intake, r) = (shadow - unit, place);
+        let waits =
+            Job { ticket, nodes, estimate, state: State::Waiting, house, least: 0, start: 0, promise: 0, end: 0, intake, r, forecast: 0 };
+        desk.jobs.push(match place {
+            0 => Job { estimate: LONGEST_ESTIMATE, state, start: shadow - unit, end, r: 1, ..waits },
+            1 => Job { forecast: shadow, ..waits },
+            _ => waits,
+        });
+    }
+    desk.next = waiting + 2;
+    desk
 }
 
 impl Making<'_> {

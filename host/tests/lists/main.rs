@@ -2,16 +2,19 @@
 //! the desk and of its 64 records, the points, the blocks and an earliest start are compared, and now and then how long a job may be, the
 //! status page and the desk's lines, which are read back; the guarantees are watched by the calls and their answers, and the rule on gaps
 //! by the records and the points. Each list starts from an opening, and then once more from a desk that no calls need have made, read back
-//! from lines or found in memory. The lists are the same in every run; LISTS says how many, and LIST plays one alone.
+//! from lines or found in memory; every second Loose Desk becomes a Promise Desk in the middle. The lists are the same in every run; LISTS
+//! says how many, and LIST plays one alone.
 
 mod acceptance;
 mod board;
 mod book;
+mod broken_changes;
 mod broken_lines;
 mod damage;
 mod edge;
 mod gaps;
 mod made;
+mod migration;
 mod model;
 mod numbers;
 mod random;
@@ -44,6 +47,9 @@ const REREADS: u32 = 3;
 
 /// And after so many its lines are damaged, and after so many the desk in memory.
 const DAMAGES: u32 = 3;
+
+/// And after so many a copy of the desk changes its kind.
+const CHANGES: u32 = 3;
 
 /// Of a list from a desk that no calls need have made, at most so many calls.
 const CALLS_GOING_ON: u32 = 20;
@@ -207,6 +213,14 @@ struct Count {
     /// Of damaged desks, how often each condition was the first that was broken.
     broken: [u64; CONDITIONS.len()],
     desks_gone_on_from: u64,
+    /// Of desks that changed their kind, those with a job in cleanup, with a job that waits, with such jobs of both houses, with one planned
+    /// up to the last minute, and those that no calls need have made. Those that stayed as they were, being Promise Desks.
+    changes_in_cleanup: u64,
+    changes_waiting: u64,
+    changes_waiting_of_both: u64,
+    changes_to_the_last_minute: u64,
+    changes_of_lines: u64,
+    changes_of_nothing: u64,
     /// By number, of openings, of calls and of readings.
     refusals: [u64; 24],
     tried: Tried,
@@ -252,6 +266,12 @@ impl Count {
         self.damaged_desks += other.damaged_desks;
         self.damaged_desks_accepted += other.damaged_desks_accepted;
         self.desks_gone_on_from += other.desks_gone_on_from;
+        self.changes_in_cleanup += other.changes_in_cleanup;
+        self.changes_waiting += other.changes_waiting;
+        self.changes_waiting_of_both += other.changes_waiting_of_both;
+        self.changes_to_the_last_minute += other.changes_to_the_last_minute;
+        self.changes_of_lines += other.changes_of_lines;
+        self.changes_of_nothing += other.changes_of_nothing;
         let (sums, numbers) = (self.refusals.iter_mut().chain(&mut self.broken), other.refusals.iter().chain(&other.broken));
         for (sum, n) in sums.zip(numbers) {
             *sum += n;
@@ -399,7 +419,7 @@ impl Played {
             self.withdrawn.push(ticket);
         }
         // "no other planned start gets later through it"
-        for record in self.desk.records().iter().filter(|r| r.state == 1) {
+        for record in self.desk.records().iter().filter(|r| r.waits()) {
             let planned =
                 before.iter().find(|r| r.ticket == record.ticket).ok_or("a job that waits after a withdrawal and was not there")?;
             if record.start > planned.start {
@@ -715,6 +735,9 @@ fn round(plan: &Plan, played: &mut Played, random: &mut Random) -> Result<(), St
     if random.percent(REREADS) {
         played.reread()?;
     }
+    if random.percent(CHANGES) {
+        played.migrate_a_copy()?;
+    }
     if random.percent(DAMAGES) {
         played.damaged_text(&played.model.clone(), random)?;
     }
@@ -724,14 +747,24 @@ fn round(plan: &Plan, played: &mut Played, random: &mut Random) -> Result<(), St
     Ok(())
 }
 
+/// So many calls, and every second time a change somewhere among them.
+fn calls(number: u32, plan: &Plan, played: &mut Played, random: &mut Random) -> Result<(), String> {
+    let change = random.below(2 * number + 1);
+    for call in 0..number {
+        if call == change {
+            played.migrate(random)?;
+        }
+        round(plan, played, random)?;
+    }
+    Ok(())
+}
+
 /// From an opening, and then from a desk that no calls need have made.
 fn rounds(plan: &Plan, played: &mut Played, random: &mut Random) -> Result<(), String> {
     if plan.estimates == Estimates::Tiny && plan.calls <= 25 {
         played.model.search = Search::EveryMinute;
     }
-    for _ in 0..plan.calls {
-        round(plan, played, random)?;
-    }
+    calls(plan.calls, plan, played, random)?;
     let Some(accepted) = played.another(random)? else {
         return Ok(());
     };
@@ -741,10 +774,8 @@ fn rounds(plan: &Plan, played: &mut Played, random: &mut Random) -> Result<(), S
     }
     played.index(random)?;
     played.checkpoint(random)?;
-    for _ in 0..random.below(CALLS_GOING_ON) {
-        round(plan, played, random)?;
-    }
-    Ok(())
+    played.migrate_a_copy()?;
+    calls(random.below(CALLS_GOING_ON), plan, played, random)
 }
 
 fn play(list: u64) -> Result<Count, String> {
@@ -769,6 +800,7 @@ fn main() {
     gaps::finds_gaps();
     board::finds_broken_pages();
     broken_lines::are_found();
+    broken_changes::are_found();
     rereading::reads_texts_handed_over();
     let (began, total, shown) = (Instant::now(), end - first, std::io::stderr().is_terminal());
     let (next, all) = (AtomicU64::new(first), Mutex::new(Count::default()));
@@ -866,6 +898,21 @@ fn main() {
     println!(
         "of jobs that waited in their lines {promises_of_lines} promises, {bounds_of_lines} bounds and {forecasts_of_lines} forecasts kept, \
          {withdrawn_of_lines} jobs withdrawn"
+    );
+    let Tried { changes, promised, heads_promised_less, promised_the_bound, promises_of_changes, withdrawn_of_changes, .. } = all.tried;
+    println!(
+        "{changes} desks changed to the other kind, {} of these with jobs in cleanup, {} with jobs that wait, {} with such jobs of both \
+         houses, {} with one planned up to the last minute, {} that no calls need have made; {} stayed as they were",
+        all.changes_in_cleanup,
+        all.changes_waiting,
+        all.changes_waiting_of_both,
+        all.changes_to_the_last_minute,
+        all.changes_of_lines,
+        all.changes_of_nothing
+    );
+    println!(
+        "they gave {promised} promises, {heads_promised_less} of these to heads and before their forecasts, {promised_the_bound} at the very \
+         bounds; {promises_of_changes} kept, {withdrawn_of_changes} jobs withdrawn"
     );
     println!("conditions broken first:");
     for ((words, _), times) in CONDITIONS.iter().zip(all.broken) {

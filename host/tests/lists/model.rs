@@ -301,6 +301,28 @@ impl Model {
         answer
     }
 
+    /// Document 02, No. 12: "Running and clearing stacks keep starts, now their promises, and ends; waiting ones are planned in ticket order
+    /// by the Promise Desk's intake rule and receive promises then. [...] Tickets and clock go on." What intake answers of each that waits.
+    /// A Promise Desk stays as it is.
+    pub fn migrate(&mut self) -> Vec<Answer> {
+        if self.kind == Kind::Promise {
+            return Vec::new();
+        }
+        // Intake minute, r and forecast are values that a record of the Promise Desk lacks: "values a record lacks 0".
+        let of_promise = |j: Job| Job { promise: j.start, intake: 0, r: 0, forecast: 0, ..j };
+        let next = self.next;
+        let (waiting, holding) = self.jobs.drain(..).map(of_promise).partition(Job::waits);
+        (self.kind, self.jobs) = (Kind::Promise, holding);
+        let planned = |job: Job| {
+            self.next = job.ticket;
+            self.submit_promise(job)
+        };
+        let answers = Vec::into_iter(waiting).map(planned).collect();
+        self.next = next;
+        self.jobs.sort_by_key(|j| j.ticket);
+        answers
+    }
+
     /// The points of the profile; "The Loose Desk has no profile."
     pub fn profile(&self) -> Vec<(u32, u32)> {
         match self.kind {
