@@ -1,6 +1,6 @@
--- Laws of numbers in decimal: how long they are, and that what is written is read back.
+-- Laws of numbers in decimal: how long they are, that what is written is read back, and that two numbers never have the same digits.
 -- Assumes nothing.
-use mathlib.Core.Path.{_≡_, refl, ap, _∙_}
+use mathlib.Core.Path.{_≡_, refl, sym, ap, _∙_}
 use mathlib.Core.Bool.{true, false, not, _&&_}
 use mathlib.Core.Logic.{⊎-elim}
 use mathlib.Core.List.{List, [], _∷_, _++_}
@@ -116,9 +116,17 @@ decimal-most (suc k) v h =
     (λ low. rw (decimal-one v low) (omega arith))
     (le-or 10 v)
 
+pub decimal-four : (v : ℕ) → v ≤ 9999 → length (decimalOf v) ≤ 4
+unfolding ten
+decimal-four v h = decimal-most 3 v (omega arith)
+
 pub decimal-five : (v : ℕ) → v ≤ 99999 → length (decimalOf v) ≤ 5
 unfolding ten
 decimal-five v h = decimal-most 4 v (omega arith)
+
+pub decimal-six : (v : ℕ) → v ≤ 999999 → length (decimalOf v) ≤ 6
+unfolding ten
+decimal-six v h = decimal-most 5 v (omega arith)
 
 pub decimal-seven : (v : ℕ) → v ≤ 9999999 → length (decimalOf v) ≤ 7
 unfolding ten
@@ -178,6 +186,10 @@ digits-decimal =
     (λ (v : ℕ). digitsFrom 0 (decimalOf v) ≡ Is v)
     (λ v h. rw (decimal-one v h) (digits-last [] 0 0 v h refl ∙ ap Is (omega arith)))
     (λ v h e. rw (decimal-more v h) (digits-last (decimalOf (v / 10)) 0 (v / 10) (v % 10) (omega arith) e ∙ ap Is (omega arith)))
+
+-- two numbers in decimal are the same text only if they are the same
+pub decimal-tells : (v w : ℕ) → decimalOf v ≡ decimalOf w → v ≡ w
+decimal-tells v w e = let q : Is v ≡ Is w = sym (digits-decimal v) ∙ ap (digitsFrom 0) e ∙ digits-decimal w in cc
 
 decimal-first : (v : ℕ) → 1 ≤ v → 48 < getD (decimalOf v) 0 0
 decimal-first =
