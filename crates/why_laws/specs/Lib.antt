@@ -1,0 +1,4 @@
+pub mod Readability
+pub mod Holders
+pub mod Sizes
+pub mod Calls
