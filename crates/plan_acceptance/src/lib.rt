@@ -49,7 +49,7 @@ fn free_from(job: Job, settings: Settings) -> u32
 
 // Of the jobs that the plan has, in order: their nodes, the minutes from which these are taken, and those from which they are free again.
 // Unused slots may stand between them.
-fn survey(
+pub fn survey(
     d: Scheduler,
     held: &mut [u32; 64],
     froms: &mut [u32; 64],

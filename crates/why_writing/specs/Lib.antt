@@ -1,0 +1,3 @@
+pub mod ExactText
+pub mod ListedText
+pub mod ListedPlan
