@@ -1,5 +1,6 @@
 -- What a call for a text of the scheduler answers, and leaves in the bytes lent to it: the status page (document 02, No. 8: "Staff read the queue on a
--- page"), and the lines that it is written out in (No. 11: "A desk must be written out and read back").
+-- page"), the lines that it is written out in (No. 11: "A desk must be written out and read back"), and why its jobs wait (No. 14: "print a
+-- sentence into a lent text").
 -- Assumes nothing.
 use mathlib.Core.Path.{_≡_, refl, ap, _∙_}
 use mathlib.Core.Bool.{true}
@@ -19,6 +20,8 @@ use Rattle.guarantees.specs.Premise.{Valid}
 use Rattle.status_page_rules.specs.StatusPage.{statusPage}
 use Rattle.checkpoint_rules.specs.Texts.{deskText}
 use Rattle.checkpoint_writing.specs.TextSize.{textBytes, text-fits}
+use Rattle.why_rules.specs.Why.{whyText}
+use Rattle.why_laws.specs.Sizes.{whyBytes, why-fits}
 use Rattle.calls.specs.declared.Shown.{Shown}
 use Rattle.calls.specs.ListCall.{over, listRefusal, written, Shows}
 
@@ -27,6 +30,13 @@ ShowsPage d lent a after = Shows statusPage d lent a after
 
 abbrev pub ShowsText : Scheduler → (lent : List ℕ) → Shown → (after : List ℕ) → Type 0
 ShowsText d lent a after = Shows deskText d lent a after
+
+abbrev pub ShowsWhy : Scheduler → (lent : List ℕ) → Shown → (after : List ℕ) → Type 0
+ShowsWhy d lent a after = Shows whyText d lent a after
+
+-- of whatever text these bytes are
+abbrev pub ShowsBytes : (bytes lent : List ℕ) → Shown → (after : List ℕ) → Type 0
+ShowsBytes bytes lent a after = (text : Model → List ℕ) (d : Scheduler) → bytes ≡ text (view d) → Shows text d lent a after
 
 -- bytes written from the first on
 front : (bytes page : List ℕ) → length bytes ≤ length page → sets page 0 bytes ≡ over bytes page
@@ -61,15 +71,24 @@ module _ (text : Model → List ℕ) (d : Scheduler) (lent : List ℕ) where
         refused = λ a. true-false true refl a;
       }
 
-  -- where it was written into a page first, and is copied from there
-  pub text-copied : {most : ℕ} {page p after : List ℕ} {n end : ℕ} → most ≤ length page → Wrote most page 0 (text (view d)) p n → n ≤ length lent
-      → (end ≡ 0 + length (take n p)) × (after ≡ sets lent 0 (take n p)) → Shows text d lent (record { refusal = refusal.None; count = n }) after
-  text-copied {most} {p = p} {n = n} l w f c =
-      let e : take n p ≡ text (view d) = front-is l w in
-      text-shown (omega (arith, w .place)) (record { place = w .place; left = c .1 ∙ ap (sets lent 0) e; few = w .few })
+-- the same of bytes that a text is
+pub bytes-refused : (bytes lent : List ℕ) → length lent < length bytes → ShowsBytes bytes lent (record { refusal = refusal.TooShort; count = 0 }) lent
+bytes-refused bytes lent l text d e = text-refused text d lent (omega (arith, ap length e))
 
--- ## The lines of every valid model have room in so many bytes, so that a call with them is not refused
+pub bytes-shown : (bytes lent after : List ℕ) (end : ℕ) → length bytes ≤ length lent → (end ≡ 0 + length bytes) × (after ≡ sets lent 0 bytes)
+    → ShowsBytes bytes lent (record { refusal = refusal.None; count = end }) after
+bytes-shown bytes lent after end l c text d e =
+    text-shown text d lent {most = length bytes} (omega (arith, ap length e))
+    (record { place = omega (arith, c .0, ap length e); left = c .1 ∙ ap (sets lent 0) e; few = omega (arith, ap length e) })
+
+-- ## The texts of every valid model have room in so many bytes, so that a call with them is not refused
+
+pub enough-for : (text : Model → List ℕ) (m : Model) (room : ℕ) → length (text m) ≤ room → listRefusal text m room ≡ refusal.None
+unfolding verdict
+enough-for text m room l = rw (le-ltb room (length (text m)) l)
 
 pub bytes-enough : (m : Model) (room : ℕ) → Valid m → textBytes ≤ room → listRefusal deskText m room ≡ refusal.None
-unfolding verdict
-bytes-enough m room v l = rw (le-ltb room (length (deskText m)) (omega (arith, text-fits m v)))
+bytes-enough m room v l = enough-for deskText m room (omega (arith, text-fits m v))
+
+pub why-enough : (m : Model) (room : ℕ) → Valid m → whyBytes ≤ room → listRefusal whyText m room ≡ refusal.None
+why-enough m room v l = enough-for whyText m room (omega (arith, why-fits m v))

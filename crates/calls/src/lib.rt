@@ -12,7 +12,7 @@ ghost use Rattle.restoring.specs.Restoring.{restoring};
 ghost use Rattle.calls.specs.ProfileCall.{showing, showIn, profileOutcome, pointAt};
 ghost use Rattle.calls.specs.IndexCall.{indexing, indexIn, indexOutcome, blockAt};
 ghost use Rattle.calls.specs.LongestCall.{longestOf};
-ghost use Rattle.calls.specs.TextCall.{ShowsPage, ShowsText};
+ghost use Rattle.calls.specs.TextCall.{ShowsPage, ShowsText, ShowsWhy, ShowsBytes};
 ghost use Rattle.calls.specs.MigrateCall.{migrating};
 use conservative_index::Blocks;
 use conservative_profile::Profile;
@@ -260,6 +260,23 @@ pub fn status_page(d: Scheduler, page: &mut [u8]) -> Shown
     }
 }
 
+// What was written of a text, into the front of the bytes lent, where there is room for it.
+fn show_bytes(lent: &mut [u8], written: &[u8]) -> Shown
+    ensures { λ r. ⌜ ShowsBytes (now (written .entry)) (now (lent .entry)) r (now (lent .exit)) ⌝ }
+{
+    if lent.len() < written.len() {
+        return Shown {
+            refusal: Refusal::TooShort,
+            count: 0,
+        };
+    }
+    let count = text::put_word(lent, 0, written);
+    Shown {
+        refusal: Refusal::None,
+        count: count,
+    }
+}
+
 // The lines of a scheduler of either kind (document 02, No. 11: "A desk must be written out"), into the front of the bytes lent.
 pub fn checkpoint(d: Scheduler, text: &mut [u8]) -> Shown
     requires { ⌜ Premise d ⌝ }
@@ -267,17 +284,18 @@ pub fn checkpoint(d: Scheduler, text: &mut [u8]) -> Shown
 {
     let mut page = [0u8; checkpoint_writing::PAGE];
     let count = checkpoint_writing::put_text(&mut page, d);
-    if text.len() < count {
-        return Shown {
-            refusal: Refusal::TooShort,
-            count: 0,
-        };
-    }
-    text::put_word(text, 0, &page[..count]);
-    Shown {
-        refusal: Refusal::None,
-        count: count,
-    }
+    show_bytes(text, &page[..count])
+}
+
+// Why each waiting job of a conservative scheduler waits, a sentence each (document 02, No. 14), into the front of the bytes lent. EASY has nothing to
+// write.
+pub fn why(d: Scheduler, text: &mut [u8]) -> Shown
+    requires { ⌜ Premise d ⌝ }
+    ensures { λ r. ⌜ ShowsWhy d (now (text .entry)) r (now (text .exit)) ⌝ }
+{
+    let mut page = [0u8; why_writing::PAGE];
+    let count = why_writing::put_why(&mut page, d);
+    show_bytes(text, &page[..count])
 }
 
 // The scheduler that lines give back (document 02, No. 11: "A desk must be written out and read back"). A reading that is refused, by 22 or 23, hands

@@ -75,7 +75,7 @@ pub data HostMade (d : Desk) : Call → Answer → Desk → Type 0 where
   -- and that for a longest estimate
   longestAsked : {l : Longest} (q : Inquiry) → l ≡ longestOn d q
       → HostMade d (unchanged (longestOf (view (read d)) (askedBy q) .refusal)) (refusedBy (l .refusal)) d
-  -- and a call for a text: the status page (`HostShowsPage`) or the lines (`HostShowsText` in `TextContract.antt`)
+  -- and a call for a text: the status page (`HostShowsPage`), the lines (`HostShowsText`) or why jobs wait (`HostShowsWhy` in `TextContract.antt`)
   textOnLent : {text : Model → List ℕ} {lent after : List ℕ} {s : Shown} → HostShowsBytes text d lent s after
       → HostMade d (unchanged (listRefusal text (view (read d)) (length lent))) (refusedBy (s .refusal)) d
   -- and a wait which is refused; one that is not is as many ticks

@@ -1,5 +1,6 @@
 -- What a call for a text of the desk answers a host, and leaves in the bytes lent to it: the status page (document 02, No. 8: "Staff read the queue on
--- a page"), and the lines that it is written out in (No. 11: "A desk must be written out and read back").
+-- a page"), the lines that it is written out in (No. 11: "A desk must be written out and read back"), and why its jobs wait (No. 14: "print a
+-- sentence into a lent text").
 -- Assumes nothing.
 use mathlib.Core.Path.{_≡_, refl, sym, ap, subst, _∙_}
 use mathlib.Core.List.{List, _++_}
@@ -7,14 +8,17 @@ use Prim.Native.Nat.{ℕ, _≤_}
 use lib.Dec.{eqb}
 use lib.ListN.{length, drop}
 use Rattle.lists.specs.Lists.{map-same}
+use Rattle.scheduler.specs.declared.Refusal.the-variants as refusal
 use Rattle.scheduler.specs.declared.Scheduler.{Scheduler}
 use Rattle.scheduler.specs.Model.{Model, view}
 use Rattle.scheduler.specs.Answers.{code}
 use Rattle.status_page_rules.specs.StatusPage.{statusPage}
 use Rattle.checkpoint_rules.specs.Texts.{deskText}
 use Rattle.checkpoint_writing.specs.TextSize.{textBytes}
+use Rattle.why_rules.specs.Why.{whyText}
+use Rattle.why_laws.specs.Sizes.{whyBytes}
 use Rattle.calls.specs.declared.Shown as calls-shown
-use Rattle.calls.specs.ListCall.{written, shown, Shows}
+use Rattle.calls.specs.ListCall.{listRefusal, written, shown, Shows}
 use Rattle.calls.specs.TextCall as calls-text
 use Rattle.hingerota.specs.declared.Desk.{Desk}
 use Rattle.hingerota.specs.declared.Shown.{Shown}
@@ -35,6 +39,9 @@ HostShowsPage d lent a after = HostShowsBytes statusPage d lent a after
 
 abbrev pub HostShowsText : Desk → (lent : List ℕ) → Shown → (after : List ℕ) → Type 0
 HostShowsText d lent a after = HostShowsBytes deskText d lent a after
+
+abbrev pub HostShowsWhy : Desk → (lent : List ℕ) → Shown → (after : List ℕ) → Type 0
+HostShowsWhy d lent a after = HostShowsBytes whyText d lent a after
 
 -- ## By value
 
@@ -63,9 +70,16 @@ module _ (text : Model → List ℕ) (d : Desk) (lent : List ℕ) where
   text-given s a r after e w q =
       subst (λ (x : Shown). HostShowsBytes text d lent x after) (sym q) (shown-host a after (subst (λ (x : Scheduler). Shows text x lent a after) e w))
 
--- ## So many bytes are always enough for the lines
+-- ## So many bytes are always enough
+
+enough : (text : Model → List ℕ) (d : Desk) (lent : List ℕ) (a : Shown) (after : List ℕ) → HostShowsBytes text d lent a after
+    → listRefusal text (view (read d)) (length lent) ≡ refusal.None → a .refusal ≡ 0
+enough text d lent a after w e = ap (λ (s : Shown). s .refusal) (w .answers) ∙ ap code e
 
 pub bytes-enough : (d : Desk) (lent : List ℕ) (a : Shown) (after : List ℕ) → Handed d → textBytes ≤ length lent → HostShowsText d lent a after
     → a .refusal ≡ 0
-bytes-enough d lent a after h l w =
-    ap (λ (s : Shown). s .refusal) (w .answers) ∙ ap code (calls-text.bytes-enough (view (read d)) (length lent) (h .premise .holds) l)
+bytes-enough d lent a after h l w = enough deskText d lent a after w (calls-text.bytes-enough (view (read d)) (length lent) (h .premise .holds) l)
+
+pub why-enough : (d : Desk) (lent : List ℕ) (a : Shown) (after : List ℕ) → Handed d → whyBytes ≤ length lent → HostShowsWhy d lent a after
+    → a .refusal ≡ 0
+why-enough d lent a after h l w = enough whyText d lent a after w (calls-text.why-enough (view (read d)) (length lent) (h .premise .holds) l)

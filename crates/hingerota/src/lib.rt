@@ -15,7 +15,7 @@ ghost use Rattle.hingerota.specs.ProfileContract.{mirrorPoint, pointsIn,
 ghost use Rattle.hingerota.specs.IndexContract.{mirrorBlock, blocksIn, blockAt, HostShowsBlocks};
 ghost use Rattle.hingerota.specs.EarliestContract.{earliestOn};
 ghost use Rattle.hingerota.specs.LongestContract.{longestOn};
-ghost use Rattle.hingerota.specs.TextContract.{HostShowsPage, HostShowsText};
+ghost use Rattle.hingerota.specs.TextContract.{HostShowsPage, HostShowsText, HostShowsWhy};
 ghost use Rattle.hingerota.specs.MigrateContract.{migratedDesk, HostMigrates};
 ghost use Rattle.hingerota.specs.Waits.{waitNumber};
 use scheduler::Job;
@@ -605,6 +605,13 @@ fn checkpoint(d: Desk, text: &mut [u8]) -> Shown
     mirror_shown(calls::checkpoint(read(d), text))
 }
 
+fn why(d: Desk, text: &mut [u8]) -> Shown
+    requires { ⌜ Handed d ⌝ }
+    ensures { λ r. ⌜ HostShowsWhy d (now (text .entry)) r (now (text .exit)) ⌝ }
+{
+    mirror_shown(calls::why(read(d), text))
+}
+
 fn migrate(d: Desk) -> Desk
     requires { ⌜ Handed d ⌝ }
     ensures { λ r. ⌜ r ≡ migratedDesk d ⌝ }
@@ -785,6 +792,15 @@ pub extern "C" fn hingerota_checkpoint(d: &Desk, text: &mut [u8]) -> Shown
     ensures { λ r. ⌜ HostShowsText (now (d .entry)) (now (text .entry)) r (now (text .exit)) ⌝ }
 {
     checkpoint(*d, text)
+}
+
+// Why each waiting job of a Promise Desk waits (document 02, No. 14), into the front of the bytes lent: 74,752 bytes are always enough.
+#[no_mangle]
+pub extern "C" fn hingerota_why(d: &Desk, text: &mut [u8]) -> Shown
+    requires { ⌜ Handed (now d) ⌝ }
+    ensures { λ r. ⌜ HostShowsWhy (now (d .entry)) (now (text .entry)) r (now (text .exit)) ⌝ }
+{
+    why(*d, text)
 }
 
 // An EASY desk becomes a conservative one while jobs run (document 02, No. 12: "From the Loose Desk to the new one"). It is never refused; a

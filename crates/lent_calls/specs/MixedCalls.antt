@@ -61,7 +61,7 @@ pub data Made (d : Scheduler) : Call → Answer → Scheduler → Type 0 where
   earliestAsked : {e : Earliest} (ticket : ℕ) → e ≡ earliestStart (view d) ticket → Made d (unchanged (e .refusal)) (refusedAnswer (e .refusal)) d
   -- and that for a longest estimate
   longestAsked : {l : Longest} (q : Inquiry) → l ≡ longestOf (view d) q → Made d (unchanged (l .refusal)) (refusedAnswer (l .refusal)) d
-  -- and a call for a text, by value or on what is lent: the status page (`ShowsPage`) or the lines (`ShowsText` in `calls/specs/TextCall.antt`)
+  -- and a call for a text, by value or on what is lent: the status page (`ShowsPage`), the lines (`ShowsText`) or why jobs wait (`ShowsWhy` in `calls/specs/TextCall.antt`)
   textShown : {text : Model → List ℕ} {lent after : List ℕ} {s : Shown} → Shows text d lent s after
       → Made d (unchanged (s .refusal)) (refusedAnswer (s .refusal)) d
   -- and a wait which is refused; one that is not is as many ticks

@@ -6,7 +6,7 @@ ghost use Rattle.history.specs.Calls as calls;
 ghost use Rattle.easy_rules.specs.EarliestStart.{earliestStart};
 ghost use Rattle.guarantees.specs.Premise.{Premise};
 ghost use Rattle.calls.specs.LongestCall.{longestOf};
-ghost use Rattle.calls.specs.TextCall.{ShowsPage, ShowsText};
+ghost use Rattle.calls.specs.TextCall.{ShowsPage, ShowsText, ShowsWhy};
 ghost use Rattle.lent_calls.specs.CallContract.{Leaves};
 ghost use Rattle.lent_calls.specs.ProfileContract.{ShowsPoints};
 ghost use Rattle.lent_calls.specs.IndexContract.{ShowsBlocks};
@@ -117,6 +117,14 @@ pub fn checkpoint(d: &Scheduler, text: &mut [u8]) -> Shown
     ensures { λ r. ⌜ ShowsText (now (d .entry)) (now (text .entry)) r (now (text .exit)) ⌝ }
 {
     calls::checkpoint(*d, text)
+}
+
+// Why each waiting job of a conservative scheduler waits, into the front of the bytes lent.
+pub fn why(d: &Scheduler, text: &mut [u8]) -> Shown
+    requires { ⌜ Premise (now d) ⌝ }
+    ensures { λ r. ⌜ ShowsWhy (now (d .entry)) (now (text .entry)) r (now (text .exit)) ⌝ }
+{
+    calls::why(*d, text)
 }
 
 // A scheduler read back from its lines, left where one was lent. That one is not read, and may be anything.

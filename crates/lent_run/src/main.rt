@@ -6,7 +6,7 @@ ghost use Rattle.jobs.specs.Soundness.{Sound};
 ghost use Rattle.jobs.specs.Premise.{Holds};
 ghost use Rattle.history.specs.Calls as calls;
 ghost use Rattle.guarantees.specs.Premise.{Premise};
-ghost use Rattle.calls.specs.TextCall.{ShowsPage, ShowsText};
+ghost use Rattle.calls.specs.TextCall.{ShowsPage, ShowsText, ShowsWhy};
 ghost use Rattle.lent_calls.specs.CallContract.{Leaves};
 ghost use Rattle.lent_calls.specs.ProfileContract.{ShowsPoints};
 ghost use Rattle.lent_calls.specs.IndexContract.{ShowsBlocks};
@@ -140,6 +140,13 @@ fn lent_text(d: Scheduler, text: &mut [u8]) -> Shown
     ensures { λ r. ⌜ ShowsText d (now (text .entry)) r (now (text .exit)) ⌝ }
 {
     lent_calls::checkpoint(&d, text)
+}
+
+fn lent_why(d: Scheduler, text: &mut [u8]) -> Shown
+    requires { ⌜ Premise d ⌝ }
+    ensures { λ r. ⌜ ShowsWhy d (now (text .entry)) r (now (text .exit)) ⌝ }
+{
+    lent_calls::why(&d, text)
 }
 
 fn lent_restore(d: Scheduler, text: &[u8]) -> Opened
@@ -514,6 +521,39 @@ fn checkpoint(d: Scheduler) -> Scheduler
     read_back(d, &mut text, size)
 }
 
+// Why jobs wait, into the first bytes of so many.
+fn why_into_part(d: Scheduler, bytes: &mut [u8], size: usize) -> Shown
+    requires { ⌜ (Premise d) × (size ≤ length (now bytes)) ⌝ }
+{
+    lent_why(d, &mut bytes[..size])
+}
+
+fn why_into(d: Scheduler, bytes: &mut [u8], size: usize) -> usize
+    requires { ⌜ Premise d ⌝ }
+{
+    if bytes.len() < size {
+        return 0;
+    }
+    let shown = why_into_part(d, bytes, size);
+    print_bytes(shown, bytes, b',');
+    shown.count
+}
+
+// Into more bytes than the sentences have, and these; into just as many, and into one too few.
+fn why(d: Scheduler)
+    requires { ⌜ Premise d ⌝ }
+{
+    let mut text = [b'x'; 256];
+    let size = why_into(d, &mut text, 256);
+    print_front(&text, size);
+    let mut exact = [b'x'; 256];
+    why_into(d, &mut exact, size);
+    if 1 <= size {
+        let mut short = [b'x'; 256];
+        why_into(d, &mut short, size - 1);
+    }
+}
+
 fn print_lines(d: Scheduler)
     requires { ⌜ Premise d ⌝ }
 {
@@ -592,6 +632,8 @@ fn main() {
     longest(d3, 11, Tenant::Nobody, 0);
     longest(d3, 11, Tenant::A, 0);
     status_page(d3);
+    // document 02's own sentence among them
+    why(d3);
     let again = checkpoint(d3);
     let d4 = submit(again, 1, 5, Tenant::A);
     show(d4);
@@ -620,6 +662,7 @@ fn main() {
     earliest(e5, 3);
     earliest(e5, 6);
     longest(e5, 11, Tenant::Nobody, 0);
+    why(e5);
     let e6 = complete(e5, 1);
     let e7 = complete(e6, 1);
     let e8 = tick(e7);
@@ -702,6 +745,9 @@ fn main() {
     earliest(r6, 3);
     let r7 = submit(r6, 1, 20, Tenant::A);
     let r8 = complete(r7, 1);
+    // who is cleared, who runs and who is planned hold nodes
+    why(r7);
+    why(r8);
     let r9 = tick(r8);
     // who runs next may be withdrawn before, and a conservative scheduler is handed back as it is
     let r10 = cancel(r9, 3);

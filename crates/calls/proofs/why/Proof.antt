@@ -1,0 +1,20 @@
+-- `calls::why` meets its contract: the text is written into a page with room for the longest, and copied where there is room for it.
+-- Assumes nothing.
+use borrow.Author.Needs.{needs}
+use Rattle.why_rules.specs.Why.{whyText}
+use Rattle.calls.specs.TextCall.{front-is, front-size}
+use Rattle.calls.proofs.why.Statement.{statement}
+use Rattle.calls.proofs.why.Tie as tie
+
+slice-aggregate-show-bytes : tie.Need-slice-aggregate-show-bytes
+slice-aggregate-show-bytes c = front-size (search needs) (c .before .before .before .put-why .ensures)
+
+returns : tie.Need-returns
+returns c =
+    let shown = c .before .before in
+    shown .show-bytes .ensures whyText _ (front-is (search needs) (shown .before .before .before .before .put-why .ensures))
+
+pub why-spec : {M : Type 1} → statement M
+why-spec =
+    tie.close (tie.spec (λ c. search needs) (λ c κs. search needs) (λ c. search needs) slice-aggregate-show-bytes (λ c κs. search needs) (λ c. search needs)
+    returns)
