@@ -20,7 +20,8 @@
  * Openings, readings and calls, refused ones too, are proved to hand back a desk that meets the premise. A copy of a desk is a desk; calls
  * on the one say nothing of the other.
  *
- * What is proved. Each call gives exactly what its definition says (docs/ARCHITECTURE.md): answer, desk, points, blocks, page and text.
+ * What is proved. Each call gives exactly what its definition says (docs/ARCHITECTURE.md): answer, desk, points, blocks, page, text and
+ * sentences.
  * Over every list of calls on a desk: a job of a Promise Desk starts no later than its promise; a job of a Loose Desk starts no later than
  * its bound, the minute of its submission + 10,080 and the cleanup for each job that waited then and for itself; every head of a Loose Desk
  * hears a forecast and starts no later; the jobs that run, with those that ended fewer minutes ago than the cleanup has, never hold more
@@ -66,7 +67,8 @@ enum {
     HINGEROTA_PAGE_LINES = 66,   /* of a status page */
     HINGEROTA_PAGE_COLUMNS = 72, /* of each, and then byte 10 */
     HINGEROTA_PAGE_BYTES = 4818, /* together */
-    HINGEROTA_TEXT_BYTES = 7375  /* a text of this length is never too short */
+    HINGEROTA_TEXT_BYTES = 7375, /* a text of this length is never too short */
+    HINGEROTA_WHY_BYTES = 74752  /* nor is one of this length for the sentences of hingerota_why */
 };
 
 /* Why a call is refused. A refused call gives its number and nothing else, and leaves the desk and what is lent as they were. */
@@ -80,7 +82,7 @@ enum {
     HINGEROTA_PAST_LAST_MINUTE = 6,      /* a job whose nodes could be taken after minute 1,000,000; a tick or a wait past it */
     HINGEROTA_NOT_RUNNING = 7,           /* the ticket is of no running job; one in cleanup runs no more */
     /* 8 is given no more: a profile never has more than 129 points */
-    HINGEROTA_TOO_SHORT = 10,            /* the points, the blocks, the page or the text do not fit into what is lent */
+    HINGEROTA_TOO_SHORT = 10,            /* the points, the blocks, the page, the text or the sentences do not fit into what is lent */
     HINGEROTA_NOT_WAITING = 11,          /* the ticket is of no waiting job */
     HINGEROTA_CLEANUP_OUT_OF_RANGE = 12, /* an opening with a cleanup above 30 */
     HINGEROTA_QUOTAS_OUT_OF_RANGE = 13,  /* an opening with quotas that are not 64 together, or with one of 0 */
@@ -272,6 +274,16 @@ hingerota_longest hingerota_longest_estimate(const hingerota_desk *d, hingerota_
  * estimate rounded up 6, `waiting`, `running` or `clearing` 10. On a Loose Desk the promise, and the start of a job that waits, is `-`. No
  * number is ever wider than its columns. Refused by 10. The desk is only read. */
 hingerota_shown hingerota_status_page(const hingerota_desk *d, uint8_t *page, size_t room);
+
+/* Why jobs of a Promise Desk wait, for people to read: a sentence for each job that waits, in the order of tickets. `count` bytes are
+ * written into `text`, which has places for `room`; those past them keep what they held. The exact length is enough, and
+ * HINGEROTA_WHY_BYTES always are. A sentence is `stack 3 waits, minute 29, 2 with 8` and byte 10: the job's ticket, the minute just before
+ * its start, and then, in the order of tickets, each other job that holds nodes in that minute, by a run, a cleanup or a plan, with its
+ * nodes. On a desk read back there may be no such job: then the sentence ends with the minute. Where no waiting job could begin earlier,
+ * the nodes of these jobs and its own are together more than the machine has. Two different findings never have the same sentence. On a
+ * Loose Desk, and where nobody waits, there is no sentence. Refused by 10, with nothing written. The desk is only read. The call takes some 75
+ * kB of stack. */
+hingerota_shown hingerota_why(const hingerota_desk *d, uint8_t *text, size_t room);
 
 /* A desk of either kind is written out: its lines, `count` bytes, are written into `text`, which has places for `room`; those past them
  * keep what they held. The exact length is enough, and HINGEROTA_TEXT_BYTES always are. Fields are parted by one tab, lines closed by byte

@@ -71,6 +71,7 @@ fn lengths_are_those_of_the_header() {
         ("HINGEROTA_PAGE_COLUMNS", crate::PAGE_COLUMNS),
         ("HINGEROTA_PAGE_BYTES", crate::PAGE_BYTES),
         ("HINGEROTA_TEXT_BYTES", crate::TEXT_BYTES),
+        ("HINGEROTA_WHY_BYTES", crate::WHY_BYTES),
     ];
     let lines: String = lengths.iter().map(|(name, _)| format!("    printf(\"%d \", {name});\n")).collect();
     let in_c = printed_in_c("lengths", &lines);

@@ -27,6 +27,9 @@ pub const PAGE_BYTES: usize = PAGE_LINES * (PAGE_COLUMNS + 1);
 /// The bytes that always suffice for a desk's lines.
 pub const TEXT_BYTES: usize = 7_375;
 
+/// The bytes that always suffice for the sentences of a desk.
+pub const WHY_BYTES: usize = 74_752;
+
 /// The two tenants of a machine, by their letters.
 pub const TENANT_A: u32 = b'A' as u32;
 pub const TENANT_B: u32 = b'B' as u32;
@@ -154,6 +157,18 @@ impl Desk {
         unsafe { raw::hingerota_status_page(&self.raw, page.as_mut_ptr(), page.len()) }
     }
 
+    /// Why jobs of a Promise Desk wait: a sentence for each that does, as `stack 3 waits, minute 29, 2 with 8` and a line end, with the jobs
+    /// that hold nodes in the minute just before its start. Of a Loose Desk there is none. Into the front of the bytes lent; refused by 10.
+    /// The exact length is enough, and `WHY_BYTES` always are. Bytes past the sentences keep what they held.
+    pub fn why(&self, text: &mut [u8]) -> Shown {
+        unsafe { raw::hingerota_why(&self.raw, text.as_mut_ptr(), text.len()) }
+    }
+
+    /// These sentences.
+    pub fn sentences(&self) -> Vec<u8> {
+        written(WHY_BYTES, |text| self.why(text))
+    }
+
     /// The desk's lines, into the front of the bytes lent; refused by 10. The exact length is enough, and `TEXT_BYTES` always are. Bytes
     /// past the text keep what they held.
     pub fn checkpoint(&self, text: &mut [u8]) -> Shown {
@@ -162,10 +177,7 @@ impl Desk {
 
     /// The desk's lines.
     pub fn text(&self) -> Vec<u8> {
-        let mut text = vec![0; TEXT_BYTES];
-        let shown = self.checkpoint(&mut text);
-        text.truncate(shown.count);
-        text
+        written(TEXT_BYTES, |text| self.checkpoint(text))
     }
 
     /// The desk in numbers, as a host in C has it.
@@ -212,6 +224,14 @@ impl Desk {
     pub fn records(&self) -> &[Record; 64] {
         &self.raw.jobs
     }
+}
+
+/// What a call writes into so many bytes, which always suffice.
+fn written(bytes: usize, write: impl Fn(&mut [u8]) -> Shown) -> Vec<u8> {
+    let mut text = vec![0; bytes];
+    let shown = write(&mut text);
+    text.truncate(shown.count);
+    text
 }
 
 impl Record {

@@ -163,6 +163,7 @@ extern "C" {
     pub fn hingerota_earliest_start(d: *const Desk, ticket: u32) -> Earliest;
     pub fn hingerota_longest_estimate(d: *const Desk, inquiry: Inquiry) -> Longest;
     pub fn hingerota_status_page(d: *const Desk, page: *mut u8, room: usize) -> Shown;
+    pub fn hingerota_why(d: *const Desk, text: *mut u8, room: usize) -> Shown;
     pub fn hingerota_checkpoint(d: *const Desk, text: *mut u8, room: usize) -> Shown;
     pub fn hingerota_restore(text: *const u8, bytes: usize) -> Opened;
     pub fn hingerota_check(d: *const Desk) -> u32;

@@ -2,6 +2,7 @@
 //! from a desk read back, or from one that has changed its kind, also by the lines of that desk.
 
 use crate::model::{held, Job, Model, State, BLOCK_POINTS, HOUSES, LONGEST_ESTIMATE};
+use crate::why::Finding;
 use hingerota_host::{Answer, Block, Earliest, Inquiry, Kind, Longest, Order, Point, Tickets};
 use std::collections::BTreeMap;
 
@@ -119,7 +120,7 @@ pub struct Book {
 /// question was; of desks written out and read back, and of the jobs in their lines; of jobs that waited in the lines of a desk that no
 /// calls need have made, and started by the promise, the bound or the forecast that these gave, or were withdrawn before; of desks that
 /// changed their kind, of the promises that these gave to jobs that waited, and of these, to heads before their forecasts, and at the very
-/// bounds; of jobs that started by a promise of a change, or were withdrawn before.
+/// bounds; of jobs that started by a promise of a change, or were withdrawn before; of jobs of which it was said why they wait.
 #[derive(Default, Clone, Copy)]
 pub struct Tried {
     pub promises: u64,
@@ -156,6 +157,7 @@ pub struct Tried {
     pub promised_the_bound: u64,
     pub promises_of_changes: u64,
     pub withdrawn_of_changes: u64,
+    pub findings: u64,
 }
 
 impl Tried {
@@ -194,6 +196,7 @@ impl Tried {
         self.promised_the_bound += other.promised_the_bound;
         self.promises_of_changes += other.promises_of_changes;
         self.withdrawn_of_changes += other.withdrawn_of_changes;
+        self.findings += other.findings;
     }
 }
 
@@ -302,14 +305,19 @@ impl Book {
 
     /// The smallest minute, now or later, at which so many nodes are free if nobody starts.
     fn shadow(&self, nodes: u32) -> u32 {
-        let freed = |entry: &Entry| match entry.fate {
-            Fate::Running(start) => start + entry.hold + self.cleanup,
-            Fate::Ended(minute) => minute + self.cleanup,
-            Fate::Waiting | Fate::Withdrawn(_) => 0,
-        };
-        let taken = |minute| self.entries.values().filter(|e| freed(e) > minute).map(|e| e.nodes).sum::<u32>();
-        let ends = self.entries.values().map(freed).chain([self.clock]).filter(|minute| *minute >= self.clock);
-        ends.filter(|minute| taken(*minute) + nodes <= self.nodes).min().expect("all nodes are free in the end")
+        let ends = || self.entries.values().filter_map(|e| Some((self.freed(e)?, e.nodes)));
+        let taken = |minute| ends().filter(|(end, _)| *end > minute).map(|(_, nodes)| nodes).sum::<u32>();
+        let minutes = ends().map(|(end, _)| end).chain([self.clock]).filter(|minute| *minute >= self.clock);
+        minutes.filter(|minute| taken(*minute) + nodes <= self.nodes).min().expect("all nodes are free in the end")
+    }
+
+    /// The minute from which the nodes of a job that has started are free again.
+    fn freed(&self, entry: &Entry) -> Option<u32> {
+        match entry.fate {
+            Fate::Running(start) => Some(start + entry.hold + self.cleanup),
+            Fate::Ended(minute) => Some(minute + self.cleanup),
+            Fate::Waiting | Fate::Withdrawn(_) => None,
+        }
     }
 
     /// A desk has a line for each job that is live, and for no other.
@@ -565,6 +573,29 @@ impl Book {
         }
         self.tried.indexes += 1;
         self.tried.blocks += blocks.len() as u64;
+        Ok(())
+    }
+
+    /// Why jobs of a Promise Desk wait: each has a finding, of a minute now or later and before its promise, in which jobs that are live hold
+    /// the nodes that they asked for. Of a job that has started it is known until when it does.
+    pub fn why(&mut self, found: &[Finding]) -> Result<(), String> {
+        let waiting: Vec<u32> = self.waiting().filter(|_| self.kind == Kind::Promise).map(|(ticket, _)| *ticket).collect();
+        let tickets: Vec<u32> = found.iter().map(|f| f.ticket).collect();
+        claim!(tickets == waiting, "{waiting:?} wait, and it is said why {tickets:?} do");
+        for Finding { ticket, minute, holders } in found {
+            let promise = self.entries[ticket].promise;
+            claim!((self.clock..promise).contains(minute), "{ticket} waits in minute {minute}, from {} to {promise}", self.clock);
+            for (other, nodes) in holders {
+                let holder = self.live().find(|(live, _)| *live == other);
+                claim!(holder.is_some_and(|(_, e)| e.nodes == *nodes), "{ticket} waits, {other} with {nodes}");
+            }
+            for (other, entry) in self.live() {
+                let stands = holders.iter().any(|(holder, _)| holder == other);
+                let until = self.freed(entry);
+                claim!(until.is_none_or(|end| stands == (*minute < end)), "{other} holds nodes until {until:?}: {holders:?} in {minute}");
+            }
+        }
+        self.tried.findings += found.len() as u64;
         Ok(())
     }
 

@@ -19,8 +19,10 @@ struct Making<'a> {
 }
 
 pub fn desk(random: &mut Random) -> Model {
-    if random.percent(5) {
-        return packed(random);
+    match random.below(20) {
+        0 => return packed(random),
+        1 => return crowded(random),
+        _ => {}
     }
     let kind = random.one_of(&[Kind::Promise, Kind::Loose]);
     let nodes = random.one_of(&[1, 2, 4, 10, 28, 100, 1_024]);
@@ -72,6 +74,28 @@ fn packed(random: &mut Random) -> Model {
         });
     }
     desk.next = waiting + 2;
+    desk
+}
+
+/// A Promise Desk on which 64 jobs hold nodes in the same minutes, those that wait each from a minute on that is not much later.
+fn crowded(random: &mut Random) -> Model {
+    let (machine, clock) = (random.one_of(&[64, 100, 1_024]), random.between(50, 900_000));
+    let (cleanup, waiting) = (random.one_of(&[0, 7, 30]), random.one_of(&[1, 32, 60, 64]));
+    let (_, mut desk) = Model::open(Kind::Promise, machine, clock, 1, cleanup, [32, 32]);
+    desk.next = random.one_of(&[1, 900_000, LAST_TICKET - 63]);
+    for place in 0..LIVE_JOBS as u32 {
+        let (ticket, house) = (desk.next, HOUSES[usize::from(place >= 32)]);
+        let (nodes, estimate) = (random.between(1, machine / 64), random.between(100, LONGEST_ESTIMATE));
+        let waits = random.below(LIVE_JOBS as u32) < waiting;
+        let start = if waits { clock + 1 + random.below(80) } else { clock - random.below(50) };
+        let (state, end) = match random.below(4) {
+            _ if waits => (State::Waiting, 0),
+            0 if cleanup > 0 => (State::Cleanup, clock),
+            _ => (State::Running, 0),
+        };
+        desk.jobs.push(Job { ticket, nodes, estimate, state, house, least: 0, start, promise: start, end, intake: 0, r: 0, forecast: 0 });
+        desk.next = ticket + 1;
+    }
     desk
 }
 

@@ -1,15 +1,16 @@
-//! Random lists of calls, on the library and on a model written from document 01's words: after every call the answers, every field of
-//! the desk and of its 64 records, the points, the blocks and an earliest start are compared, and now and then how long a job may be, the
-//! status page and the desk's lines, which are read back; the guarantees are watched by the calls and their answers, and the rule on gaps
-//! by the records and the points. Each list starts from an opening, and then once more from a desk that no calls need have made, read back
-//! from lines or found in memory; every second Loose Desk becomes a Promise Desk in the middle. The lists are the same in every run; LISTS
-//! says how many, and LIST plays one alone.
+//! Random lists of calls, on the library and on a model written from document 01's words: after every call the answers, every field of the
+//! desk and of its 64 records, the points, the blocks and an earliest start are compared, and now and then how long a job may be, the
+//! status page, the desk's lines, which are read back, and why jobs wait; the guarantees are watched by the calls and their answers, and
+//! the rule on gaps by the records and the points. Each list starts from an opening, and then once more from a desk that no calls need have
+//! made, read back from lines or found in memory; every second Loose Desk becomes a Promise Desk in the middle. The lists are the same in
+//! every run; LISTS says how many, and LIST plays one alone.
 
 mod acceptance;
 mod board;
 mod book;
 mod broken_changes;
 mod broken_lines;
+mod broken_sentences;
 mod damage;
 mod edge;
 mod gaps;
@@ -20,6 +21,7 @@ mod numbers;
 mod random;
 mod rereading;
 mod text;
+mod why;
 
 use acceptance::CONDITIONS;
 use book::{Book, Call, Tried};
@@ -47,6 +49,9 @@ const REREADS: u32 = 3;
 
 /// And after so many its lines are damaged, and after so many the desk in memory.
 const DAMAGES: u32 = 3;
+
+/// And after so many it is asked why jobs wait.
+const WHYS: u32 = 5;
 
 /// And after so many a copy of the desk changes its kind.
 const CHANGES: u32 = 3;
@@ -221,6 +226,16 @@ struct Count {
     changes_to_the_last_minute: u64,
     changes_of_lines: u64,
     changes_of_nothing: u64,
+    whys: u64,
+    /// Of these, the sentences, those without a holder, and those whose holders left nodes enough.
+    sentences: u64,
+    sentences_of_nobody: u64,
+    sentences_of_gaps: u64,
+    longest_sentences: usize,
+    /// Who held nodes in these, by running, by cleanup and by plan.
+    holders_running: u64,
+    holders_in_cleanup: u64,
+    holders_planned: u64,
     /// By number, of openings, of calls and of readings.
     refusals: [u64; 24],
     tried: Tried,
@@ -272,6 +287,14 @@ impl Count {
         self.changes_to_the_last_minute += other.changes_to_the_last_minute;
         self.changes_of_lines += other.changes_of_lines;
         self.changes_of_nothing += other.changes_of_nothing;
+        self.whys += other.whys;
+        self.sentences += other.sentences;
+        self.sentences_of_nobody += other.sentences_of_nobody;
+        self.sentences_of_gaps += other.sentences_of_gaps;
+        self.longest_sentences = self.longest_sentences.max(other.longest_sentences);
+        self.holders_running += other.holders_running;
+        self.holders_in_cleanup += other.holders_in_cleanup;
+        self.holders_planned += other.holders_planned;
         let (sums, numbers) = (self.refusals.iter_mut().chain(&mut self.broken), other.refusals.iter().chain(&other.broken));
         for (sum, n) in sums.zip(numbers) {
             *sum += n;
@@ -735,6 +758,9 @@ fn round(plan: &Plan, played: &mut Played, random: &mut Random) -> Result<(), St
     if random.percent(REREADS) {
         played.reread()?;
     }
+    if random.percent(WHYS) {
+        played.why(random)?;
+    }
     if random.percent(CHANGES) {
         played.migrate_a_copy()?;
     }
@@ -774,6 +800,7 @@ fn rounds(plan: &Plan, played: &mut Played, random: &mut Random) -> Result<(), S
     }
     played.index(random)?;
     played.checkpoint(random)?;
+    played.why(random)?;
     played.migrate_a_copy()?;
     calls(random.below(CALLS_GOING_ON), plan, played, random)
 }
@@ -801,6 +828,7 @@ fn main() {
     board::finds_broken_pages();
     broken_lines::are_found();
     broken_changes::are_found();
+    broken_sentences::are_found();
     rereading::reads_texts_handed_over();
     let (began, total, shown) = (Instant::now(), end - first, std::io::stderr().is_terminal());
     let (next, all) = (AtomicU64::new(first), Mutex::new(Count::default()));
@@ -913,6 +941,19 @@ fn main() {
     println!(
         "they gave {promised} promises, {heads_promised_less} of these to heads and before their forecasts, {promised_the_bound} at the very \
          bounds; {promises_of_changes} kept, {withdrawn_of_changes} jobs withdrawn"
+    );
+    println!(
+        "{} times it was asked why jobs wait, into bytes just enough, more and too few, at most {}; {} sentences, {} of these with nobody \
+         who holds nodes, {} with nodes enough left; {} holders run, {} are in cleanup, {} are planned; of {} jobs the calls and answers agree",
+        all.whys,
+        all.longest_sentences,
+        all.sentences,
+        all.sentences_of_nobody,
+        all.sentences_of_gaps,
+        all.holders_running,
+        all.holders_in_cleanup,
+        all.holders_planned,
+        all.tried.findings
     );
     println!("conditions broken first:");
     for ((words, _), times) in CONDITIONS.iter().zip(all.broken) {

@@ -17,6 +17,7 @@ impl Played {
         self.no_gaps()?;
         self.index(random)?;
         self.checkpoint(random)?;
+        self.why(random)?;
         self.reread()
     }
 

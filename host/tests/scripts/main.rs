@@ -212,6 +212,7 @@ fn arguments() {
         "soonest TICKET",
         "board",
         "longest NODES HOUSE MINUTE",
+        "  why  ",
         "  text  ",
         "  reread  ",
         "rack --from FILE <SCRIPT",

@@ -103,7 +103,7 @@ impl Page {
         Ok(())
     }
 
-    /// The status page or the desk's lines, as the library wrote them, line ends too.
+    /// The status page, the sentences or the desk's lines, as the library wrote them, line ends too.
     pub fn written(&mut self, text: &[u8]) {
         self.text += std::str::from_utf8(text).expect("proved to be tabs, line ends, spaces and visible characters of ASCII");
     }

@@ -133,6 +133,15 @@ const WORDS: &[Word] = &[
         },
     },
     Word {
+        form: "why",
+        does: "of a Promise Desk: prints of each job that waits who holds nodes just before its start",
+        play: |rack, fields, page| {
+            let [] = numbers(fields)?;
+            page.written(&rack.desk.sentences());
+            Ok(())
+        },
+    },
+    Word {
         form: "text",
         does: "prints the desk's lines, for --check and --from",
         play: |rack, fields, page| {
