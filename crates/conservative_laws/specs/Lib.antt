@@ -2,6 +2,7 @@ pub mod Validity
 pub mod Remaining
 pub mod PassLoop
 pub mod Compression
+pub mod Amended
 pub mod Outcomes
 pub mod Obligations
 pub mod Sentences

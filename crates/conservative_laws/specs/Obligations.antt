@@ -11,32 +11,39 @@ use mathlib.Core.Option.{none, some}
 use lib.Dec.{eqb}
 use borrow.Author.Tests.{eqb-true, eq-eqb, ne-eqb, not-true}
 use Rattle.lists.specs.Tests.{case, true-false, both}
-use Rattle.lists.specs.Lists.{keep, elem, In, here, there, in-nil, in-cons, in-left, in-right, keep-in}
+use Rattle.lists.specs.Lists.{keep, elem, In, here, there, in-nil, in-cons, in-left, in-right, in-map, keep-in, keep-all, map-same}
 use Rattle.scheduler.specs.declared.Kind.the-variants.{Conservative}
 use Rattle.scheduler.specs.declared.State.{State}
 use Rattle.scheduler.specs.declared.State.the-variants.{Unused, Waiting, Running, Cleanup}
 use Rattle.scheduler.specs.declared.Job.{Job}
 use Rattle.scheduler.specs.declared.Select.{Select}
 use Rattle.scheduler.specs.States.{waiting?, running?}
+use Rattle.scheduler.specs.Jobs as jobs
 use Rattle.scheduler.specs.Jobs.{isWaiting, isRunning}
 use Rattle.scheduler.specs.Settings.{cleanup}
 use Rattle.scheduler.specs.Table as table
 use Rattle.scheduler.specs.Table.{ticketsOf, staying, ceased, remaining}
-use Rattle.scheduler.specs.Model.{Model}
+use Rattle.scheduler.specs.Model.{Model, withModelJobs}
 use Rattle.scheduler.specs.Answers.{Result, refusing}
+use Rattle.scheduler.specs.declared.Amendment.{Amendment}
+use Rattle.scheduler.specs.Amending.{supersede, inPlace}
 use Rattle.jobs.specs.Order.{Asc, asc-in, elem-job, elem-picked}
 use Rattle.jobs.specs.Soundness.{all-live, Leaving, withdraws-waits, ceased-ticket, ceased-waits, waits-remains, remained-waits, sound-leave}
 use Rattle.jobs.specs.Soundness as soundness
-use Rattle.history.specs.Calls.{Call, submit}
-use Rattle.history.specs.News.{Newcomer, News, newsOf, clockAfter, came-stays}
+use Rattle.jobs.specs.Amended.{kept-ticket, kept-state, kept-start, superseded-in}
+use Rattle.history.specs.Calls.{Call, submit, amend}
+use Rattle.history.specs.News.{Newcomer, amendedTicket, News, newsOf, clockAfter, came-stays}
 use Rattle.history.specs.Book.{running, fateAfter, lowest}
 use Rattle.history.specs.Beginning.{fateBy}
 use Rattle.history_proof.specs.Obligations.{shown, live, remark, Tells, by, Kept, Queued, Comes, For, Lawful, Seeded}
-use Rattle.history_proof.specs.Departures.{shown-with, queued-by, lives, Departs, departs-live, departs-shown, tells-leave, tells-stay, tells-nothing, kept-by}
-use Rattle.conservative_rules.specs.Conservative.{planned, stateAt, newJob, submitted, placed, begun, advanced, call}
+use Rattle.history_proof.specs.Departures.{shown-with, queued-by, lives, Departs, departs-live, departs-shown, tells-leave, tells-stay, tells-nothing}
+use Rattle.history_proof.specs.Departures.{kept-by, remark-same, nobody, nobody-departs, none-ends, none-leaves, stay-live}
+use Rattle.history_proof.specs.Amended.{plain, tells-amended, named-queued}
+use Rattle.conservative_rules.specs.Conservative.{planned, stateAt, newJob, submitted, placed, begun, advanced, call, amendedTo}
 use Rattle.conservative_laws.specs.Validity.{Valid, Zip, zip-map, zip-left, Follows, stays, moves, follows-ticket, follows-start}
 use Rattle.conservative_laws.specs.Validity.{follows-begins, Moved}
-use Rattle.conservative_laws.specs.Outcomes.{Says, CameOut, idle, joins, leaves, outcome, call-valid}
+use Rattle.conservative_laws.specs.Outcomes.{Says, CameOut, idle, joins, leaves, amends, outcome, call-valid}
+use Rattle.conservative_laws.specs.Amended.{inplace-valid}
 
 -- the job u waits, and is planned to start by b
 pub record OnCourse (m : Model) (u b : ℕ) : Type 0 where
@@ -125,9 +132,17 @@ module _ (m : Model) (c : ℕ) (s : Select) (e : News) (v : Valid m) (d : Depart
           let same : ceased c s j ≡ j = ceased-waits c s j w in
           let u : isWaiting j ≡ true = subst (λ (y : Job). isWaiting y ≡ true) same w in
           ap (λ (y : Job). shown (placed c b y)) same
-          ∙ shown-with (remark k c e (shown j)) _ (fate-placed k c e (j .ticket) (j .state) (j .start) (j .end) b u
+          ∙ shown-with (record {
+            ticket = j .ticket;
+            nodes = j .nodes;
+            promise = j .promise;
+            tenant = j .tenant;
+            least = j .least;
+            fate = fateAfter k c e (j .ticket) (fateBy (j .state) (j .start) (j .end));
+          }) _ (fate-placed k c e (j .ticket) (j .state) (j .start) (j .end) b u
           (sym named ∙ p ∙ ap (λ (t : Bool). t && running? (stateAt c b)) w)
           (departs-live m c s e (v .sound) d j i ∙ ap not n))
+          ∙ sym (remark-same k c e (shown j) (d .none-amended))
 
   remark-all : (js xs : List Job) → ((j : Job) → In j js → In j (m .jobs) × (table.leaves (m .settings) s j ≡ false))
       → Zip (Told (Follows c) (e .started)) (map (ceased c s) js) xs → map shown xs ≡ map (remark k c e) (map shown js)
@@ -165,13 +180,36 @@ module _ (m : Model) (c : ℕ) (s : Select) (ks : List Job) (v : Valid m) (l : L
   pub leaves-told : Zip (Told (Follows c) (begun left ks)) left ks
   leaves-told = begun-tells (Follows c) 1 left ks (sound-leave m c s (v .sound) l .asc) (g .follow)
 
+-- those of a valid model move, and nobody leaves
+moved-tells : (m : Model) (ks : List Job) (e : News) → Valid m → Moved (m .settings) (m .clock) (m .jobs) ks → e .ended ≡ [] → e .withdrew ≡ [] → e .amended ≡ []
+    → e .came ≡ [] → e .started ≡ begun (m .jobs) ks → Tells m e (withModelJobs m ks)
+moved-tells m ks e v g d w n z b =
+    let k = cleanup (m .settings) in
+    let c = m .clock in
+    let s = nobody in
+    let dep = nobody-departs m e (v .sound) d w n in
+    let told : Zip (Told (Follows c) (e .started)) (m .jobs) ks =
+    subst (λ (ts : List ℕ). Zip (Told (Follows c) ts) (m .jobs) ks) (sym b) (begun-tells (Follows c) 1 (m .jobs) ks (v .sound .asc) (g .follow)) in
+    let same : map (ceased c s) (m .jobs) ≡ m .jobs =
+    map-same (ceased c s) (m .jobs) (λ j i. ap (λ (b : Bool). cond b (jobs.cleaning c j) j) (none-ends m e (v .sound) d w n j i)) in
+    let all : keep (λ (j : Job). true) (m .jobs) ≡ m .jobs = keep-all (λ (j : Job). true) (m .jobs) (λ j i. refl) in
+    tells-leave k c e (λ (j : Job). false) (m .jobs) ks (stay-live m e (v .sound) d w n) z
+    (remark-all m c s e v dep (m .jobs) ks (λ j i. (i, none-leaves m e (v .sound) d w n j i))
+    (subst (λ (js : List Job). Zip (Told (Follows c) (e .started)) js ks) (sym same) told)
+    ∙ ap (λ (js : List Job). map (remark k c e) (map shown js)) (sym all))
+
 outcome-tells : (m : Model) {c : Call} {r : Result} → Valid m → CameOut m c r → Tells m (newsOf c (r .reply)) (r .model)
-unfolding submitted advanced
+unfolding submitted advanced amendedTo
+outcome-tells m v (amends a after f g) =
+    let n = inPlace m a in
+    let w = inplace-valid m a (f .range) (f .shrinks) v in
+    let e = newsOf (amend a) (amendedTo m a after .reply) in
+    tells-amended m (withModelJobs m after) a e (v .sound) refl refl (moved-tells n after (plain e) w g refl refl refl refl refl)
 outcome-tells m v (idle c r n) = tells-nothing m (newsOf c (refusing r)) (v .sound) n
 outcome-tells m v (joins o f l) =
     let s = planned m o in
     let now = m .clock in
-    tells-stay m (newsOf (submit o) (submitted m o s .reply)) (v .sound) refl refl (newJob m o s ∷ [])
+    tells-stay m (newsOf (submit o) (submitted m o s .reply)) (v .sound) refl refl refl (newJob m o s ∷ [])
     (λ j i. not-new s now (j .ticket) (m .next) (v .sound .below j i))
     (case (eqb s now) (λ q. rw (q, eq-eqb (m .next) (m .next) refl, eqb-true s now q)) (λ q. rw q))
 outcome-tells m v (leaves c clock s after l g t) =
@@ -222,9 +260,48 @@ leaves-keeps m c s ks u b v l g o n =
           },
         ))
 
+-- the same of a valid model whose jobs move
+moved-keeps : (m : Model) (ks : List Job) (u b : ℕ) → Valid m → Moved (m .settings) (m .clock) (m .jobs) ks → OnCourse m u b
+    → ((elem u (begun (m .jobs) ks) ≡ true) × (m .clock ≤ b)) ⊎ ((elem u (begun (m .jobs) ks) ≡ false) × OnCourse (withModelJobs m ks) u b)
+moved-keeps m ks u b v g o =
+    let told = begun-tells (Follows c) 1 (m .jobs) ks (v .sound .asc) (g .follow) in
+    let z = zip-left (Told (Follows c) (begun (m .jobs) ks)) (m .jobs) ks told (o .inside) in
+    go (z .0) (z .1) (z .2 .0) (z .2 .1)
+  where
+    c : ℕ
+    c = m .clock
+
+    go : (k : Job) → In k ks → Follows c (o .job) k → elem (o .job .ticket) (begun (m .jobs) ks) ≡ (isWaiting (o .job) && isRunning k)
+        → ((elem u (begun (m .jobs) ks) ≡ true) × (c ≤ b)) ⊎ ((elem u (begun (m .jobs) ks) ≡ false) × OnCourse (withModelJobs m ks) u b)
+    go k i f e =
+        let e′ : elem u (begun (m .jobs) ks) ≡ isRunning k = rw (o .is-u, o .waits) at e in
+        case (isRunning k)
+        (λ r. inl (e′ ∙ r, omega (arith, follows-begins c (o .job) k f (o .waits) r, follows-start c (o .job) k f, o .by)))
+        (λ r. inr (
+          e′ ∙ r,
+          record {
+            job = k;
+            inside = i;
+            waits = follows-waits c (o .job) k f (o .waits) r;
+            is-u = follows-ticket c (o .job) k f ∙ o .is-u;
+            by = omega (arith, follows-start c (o .job) k f, o .by);
+          },
+        ))
+
+-- one that is superseded is on course for what it was on course for
+inplace-course : (m : Model) (a : Amendment) (u b : ℕ) → OnCourse m u b → OnCourse (inPlace m a) u b
+inplace-course m a u b o = record {
+  job = supersede a (o .job);
+  inside = in-map (supersede a) (o .inside);
+  waits = ap waiting? (kept-state a (o .job)) ∙ o .waits;
+  is-u = kept-ticket a (o .job) ∙ o .is-u;
+  by = omega (arith, kept-start a (o .job), o .by);
+}
+
 outcome-keeps : (m : Model) {c : Call} {r : Result} (u b : ℕ) → Valid m → OnCourse m u b → CameOut m c r → elem u (newsOf c (r .reply) .withdrew) ≡ false
     → StartsBy u b r
-unfolding submitted advanced
+unfolding submitted advanced amendedTo
+outcome-keeps m u b v o (amends a after f g) w = moved-keeps (inPlace m a) after u b (inplace-valid m a (f .range) (f .shrinks) v) g (inplace-course m a u b o)
 outcome-keeps m u b v o (idle c r n) w = inr (refl, o)
 outcome-keeps m u b v o (joins w f l) n = inr (
   rw (← o .is-u) (not-new (planned m w) (m .clock) (o .job .ticket) (m .next) (v .sound .below (o .job) (o .inside))),
@@ -239,7 +316,8 @@ outcome-keeps m u b v o (leaves c clock s after l g t) n =
 -- who comes has the next ticket, and starts now or is planned for its promise
 pub outcome-joins : (m : Model) {c : Call} {r : Result} (o : Newcomer) → CameOut m c r → In o (newsOf c (r .reply) .came)
     → (o .ticket ≡ m .next) × StartsBy (o .ticket) (o .promise) r
-unfolding submitted advanced planned
+unfolding submitted advanced amendedTo planned
+outcome-joins m o (amends a after f g) i = in-nil i
 outcome-joins m o (idle c r n) i = in-nil (subst (λ (e : News). In o (e .came)) n i)
 outcome-joins m o (joins w f l) i = one (in-cons i)
   where
@@ -267,7 +345,14 @@ outcome-joins m o (leaves c clock s after l g t) i = in-nil (subst (In o) (t .no
 
 outcome-starts : (m : Model) {c : Call} {r : Result} (u : ℕ) → Valid m → CameOut m c r → elem u (r .reply .started) ≡ true
     → let e = newsOf c (r .reply) in (elem u (e .withdrew) ≡ false) × (Queued m u ⊎ Comes e u)
-unfolding submitted advanced
+unfolding submitted advanced amendedTo
+outcome-starts m u v (amends a after f g) x =
+    let w = begun-waited u (map (supersede a) (m .jobs)) after x in
+    let j = superseded-in m a (f .range) (f .shrinks) (w .0) (w .1) in (
+      refl,
+      inl (queued-by m u (j .0) (j .1) (sym (ap waiting? (kept-state a (j .0))) ∙ sym (ap isWaiting (j .2)) ∙ w .2)
+          (sym (kept-ticket a (j .0)) ∙ sym (ap (λ (x : Job). x .ticket) (j .2)) ∙ w .3)),
+    )
 outcome-starts m u v (idle c r n) x = true-false false x refl
 outcome-starts m u v (joins o f l) x =
     case (eqb (planned m o) (m .clock))
@@ -284,7 +369,8 @@ outcome-starts m u v (leaves c clock s after l g t) x =
     (ap (λ (y : ℕ). elem y (e .withdrew)) (sym (w .3)) ∙ n, inl (queued-by m u (w .0) (k .0) (w .2) (w .3)))
 
 outcome-withdraws : (m : Model) {c : Call} {r : Result} (u : ℕ) → CameOut m c r → elem u (newsOf c (r .reply) .withdrew) ≡ true → Queued m u
-unfolding submitted advanced
+unfolding submitted advanced amendedTo
+outcome-withdraws m u (amends a after f g) x = true-false false x refl
 outcome-withdraws m u (idle c r n) x = true-false false (ap (λ (e : News). elem u (e .withdrew)) (sym n) ∙ x) refl
 outcome-withdraws m u (joins o f l) x = true-false false x refl
 outcome-withdraws m u (leaves c clock s after l g t) x =
@@ -292,22 +378,34 @@ outcome-withdraws m u (leaves c clock s after l g t) x =
     let k = keep-in (table.withdraws s) (m .jobs) (j .1) in
     queued-by m u (j .0) (k .0) (withdraws-waits s (j .0) (k .1)) (j .2)
 
+-- who is amended waited
+outcome-amends : (m : Model) {c : Call} {r : Result} (u : ℕ) → CameOut m c r → elem u (map amendedTicket (newsOf c (r .reply) .amended)) ≡ true → Queued m u
+unfolding submitted advanced amendedTo
+outcome-amends m u (amends a after f g) x = named-queued m a u (f .there) x
+outcome-amends m u (idle c r n) x = true-false false (ap (λ (e : News). elem u (map amendedTicket (e .amended))) (sym n) ∙ x) refl
+outcome-amends m u (joins o f l) x = true-false false x refl
+outcome-amends m u (leaves c clock s after l g t) x =
+    true-false false (sym (ap (λ (cs : List Amendment). elem u (map amendedTicket cs)) (t .departs .none-amended)) ∙ x) refl
+
 -- ## The rest
 
 outcome-settings : (m : Model) {c : Call} {r : Result} → CameOut m c r → r .model .settings ≡ m .settings
-unfolding submitted advanced
+unfolding submitted advanced amendedTo
+outcome-settings m (amends a after f g) = refl
 outcome-settings m (idle c r n) = refl
 outcome-settings m (joins o f l) = refl
 outcome-settings m (leaves c clock s after l g t) = refl
 
 outcome-clock : (m : Model) {c : Call} {r : Result} → CameOut m c r → r .model .clock ≡ clockAfter (newsOf c (r .reply)) (m .clock)
-unfolding submitted advanced
+unfolding submitted advanced amendedTo
+outcome-clock m (amends a after f g) = refl
 outcome-clock m (idle c r n) = ap (λ (e : News). clockAfter e (m .clock)) (sym n)
 outcome-clock m (joins o f l) = refl
 outcome-clock m (leaves c clock s after l g t) = sym (t .passes)
 
 outcome-head : (m : Model) {c : Call} {r : Result} → CameOut m c r → r .reply .head ≡ none
-unfolding submitted advanced
+unfolding submitted advanced amendedTo
+outcome-head m (amends a after f g) = refl
 outcome-head m (idle c r n) = refl
 outcome-head m (joins o f l) = refl
 outcome-head m (leaves c clock s after l g t) = refl
@@ -338,6 +436,7 @@ conservative-lawful = record {
   joins = λ m c o v i. kept m c (o .ticket) (o .promise) (came-stays c (call m c .reply) (o .ticket) o i) (outcome-joins m o (outcome m c v) i .1);
   starts = λ m c u v x. outcome-starts m u v (outcome m c v) x;
   withdraws = λ m c u v x. outcome-withdraws m u (outcome m c v) x;
+  amends = λ m c u v x. outcome-amends m u (outcome m c v) x;
   fresh = λ m c o v i h.
       omega (
         arith,

@@ -31,20 +31,25 @@ use Rattle.scheduler.specs.Table.{ticketsOf, ends, ceased, remaining}
 use Rattle.scheduler.specs.Model.{Model, ending, without}
 use Rattle.scheduler.specs.Answers.{Result, accepts, refuse, refusing}
 use Rattle.scheduler.specs.Refusals.{notThere, departRefusal, tickRefusal}
+use Rattle.scheduler.specs.declared.Amendment.{Amendment}
+use Rattle.scheduler.specs.Amending.{inPlaceRefusal, supersede, inPlace}
 use Rattle.jobs.specs.Order.{asc-same}
 use Rattle.jobs.specs.Departing.{not-there, departs-alone}
 use Rattle.jobs.specs.Judgement.{judged-by}
 use Rattle.jobs.specs.Soundness.{SoundJob, Sound, Fit, passed, submit-fit, sound-join, Leaving, early, in-time, sound-leave}
 use Rattle.jobs.specs.Soundness.{remaining-in, remained-waits}
-use Rattle.history.specs.Calls.{Call, submit, depart, tick, unchanged}
+use Rattle.jobs.specs.Amended.{InPlace, inplace-fit}
+use Rattle.history.specs.Calls.{Call, submit, depart, tick, amend, unchanged}
 use Rattle.history.specs.News.{News, newsOf, clockAfter, nothing, refused-news, unchanged-news}
 use Rattle.history_proof.specs.Departures.{Departs}
 use Rattle.conservative_rules.specs.Conservative.{span, spans, planned, stateAt, newJob, withNew, submitRefusal, submitted}
-use Rattle.conservative_rules.specs.Conservative.{advanced, compressed, departed, turned, ticked, call}
-use Rattle.conservative_laws.specs.Validity.{Unranked, Valid, zip-right, zip-length, zip-live, zip-tickets, used-append, used-remaining, held-used, room-with}
+use Rattle.conservative_rules.specs.Conservative.{advanced, compressed, departed, turned, ticked, call, amendedTo, amended}
+use Rattle.conservative_laws.specs.Validity.{Unranked, Valid, zip-right, zip-length, zip-live, zip-tickets, used-append, used-remaining, held-used}
+use Rattle.conservative_laws.specs.Validity.{room-with}
 use Rattle.conservative_laws.specs.Validity.{Follows, state-live, state-now, state-clean, state-waits, follows-ticket, follows-tenant, follows-promise}
 use Rattle.conservative_laws.specs.Validity.{follows-start, follows-ahead, follows-unranked, follows-sound, Moved, turns-follow, turns-used}
 use Rattle.conservative_laws.specs.Compression.{left-compressible, compressed-is}
+use Rattle.conservative_laws.specs.Amended.{valid-compressible, moved-valid, inplace-valid}
 
 -- ## How a call comes out
 
@@ -55,6 +60,9 @@ pub record Says (m : Model) (e : News) (clock : ℕ) (s : Select) : Type 0 where
   pub departs : Departs m clock s e
 
 pub data CameOut (m : Model) : Call → Result → Type 0 where
+  -- a corrected order in place: those superseded come to be `after`
+  amends : (a : Amendment) (after : List Job) → InPlace m a → Moved (m .settings) (m .clock) (map (supersede a) (m .jobs)) after
+      → CameOut m (amend a) (amendedTo m a after)
   -- refused, or a profile: nothing changes
   idle : (c : Call) (r : Refusal) → newsOf c (refusing r) ≡ nothing → CameOut m c (refuse m r)
   -- a submission is taken
@@ -72,7 +80,7 @@ none-withdrawn js = sym (ap ticketsOf (keep-none (λ (j : Job). false) js (λ j 
 -- ### Every call comes out in one of these ways
 
 pub outcome : (m : Model) (c : Call) → Valid m → CameOut m c (call m c)
-unfolding call submitRefusal departRefusal tickRefusal departed ticked advanced
+unfolding call submitRefusal departRefusal tickRefusal departed ticked advanced amended
 outcome m (submit o) v =
     let s = planned m o in
     judged-by (CameOut m (submit o)) m (submitRefusal m o s) (submitted m o s) (λ a. taken a)
@@ -101,12 +109,12 @@ outcome m (depart h t) v =
     says Complete after f = record {
       passes = refl;
       none-comes = refl;
-      departs = record { leaving = early Complete t; ended-are = refl; withdrew-are = none-withdrawn (m .jobs) };
+      departs = record { leaving = early Complete t; ended-are = refl; withdrew-are = none-withdrawn (m .jobs); none-amended = refl };
     }
     says Cancel after f = record {
       passes = refl;
       none-comes = refl;
-      departs = record { leaving = early Cancel t; ended-are = refl; withdrew-are = sym (departs-alone Cancel t 1 (m .jobs) (v .sound .asc) f) };
+      departs = record { leaving = early Cancel t; ended-are = refl; withdrew-are = sym (departs-alone Cancel t 1 (m .jobs) (v .sound .asc) f); none-amended = refl };
     }
 
     taken : accepts (departRefusal m h t) ≡ true → CameOut m (depart h t) (departed m h t)
@@ -142,8 +150,15 @@ outcome m tick v =
         (record {
           passes = refl;
           none-comes = refl;
-          departs = record { leaving = l; ended-are = refl; withdrew-are = none-withdrawn (m .jobs) };
+          departs = record { leaving = l; ended-are = refl; withdrew-are = none-withdrawn (m .jobs); none-amended = refl };
         })
+outcome m (amend a) v =
+    judged-by (CameOut m (amend a)) m (inPlaceRefusal m a) (amended m a)
+    (λ x. let f = inplace-fit m a x in
+    let p = compressed-is (m .settings) (m .clock) (map (supersede a) (m .jobs))
+    (valid-compressible (inPlace m a) (inplace-valid m a (f .range) (f .shrinks) v)) in
+    amends a _ f (record { follow = p .follow; room = p .ready .room }))
+    (λ x. idle (amend a) _ (refused-news (amend a) (inPlaceRefusal m a) x))
 outcome m (unchanged r) v = idle (unchanged r) r (unchanged-news r r)
 
 -- ## Every model handed back is valid
@@ -275,7 +290,8 @@ leaves-valid m c s ks v l g = record {
     each k i = let b = beside k i in follows-sound (m .settings) c (b .0) k (old .each (b .0) (b .1)) (b .2)
 
 outcome-valid : (m : Model) {c : Call} {r : Result} → Valid m → CameOut m c r → Valid (r .model)
-unfolding submitted advanced
+unfolding submitted advanced amendedTo
+outcome-valid m v (amends a after f g) = moved-valid (inPlace m a) after (inplace-valid m a (f .range) (f .shrinks) v) g
 outcome-valid m v (idle c r n) = v
 outcome-valid m v (joins o f l) = joins-valid m o v f l
 outcome-valid m v (leaves c clock s after l g t) = leaves-valid m clock s after v l g

@@ -38,20 +38,23 @@ use Rattle.scheduler.specs.Table.{liveOf, ticketOf, ticketsOf, ends, staying, c
 use Rattle.scheduler.specs.Model.{Model, ending}
 use Rattle.scheduler.specs.Answers.{Result, verdict, accepts, refuse}
 use Rattle.scheduler.specs.Refusals.{judged, submitTests, departRefusal, tickRefusal}
+use Rattle.scheduler.specs.Amending.{inPlaceRefusal, supersede}
 use Rattle.jobs.specs.Order.{Asc, asc-keep, asc-one}
 use Rattle.jobs.specs.Departing.{cancel-judged, departs-alone, left-ran, ticked-ran}
 use Rattle.jobs.specs.Soundness.{SoundJob, Sound, waiting-clean, ceased-ticket, waits-on, remained-waits, sound-leave}
-use Rattle.history.specs.Calls.{Call, submit, depart, complete, cancel, tick, unchanged}
+use Rattle.jobs.specs.Amended.{kept-ticket, kept-state, kept-start, kept-promise, superseded-in, inplace-sound}
+use Rattle.jobs.specs.Amended.{waits-runs}
+use Rattle.jobs.specs.Judgement.{judged-by, judged-accepted, judged-refusal, judged-refused}
+use Rattle.history.specs.Calls.{Call, submit, depart, complete, cancel, tick, amend, unchanged}
 use Rattle.history.specs.News.{News, newsOf}
 use Rattle.history.specs.Tickets.{nextAfter}
 use Rattle.history_proof.specs.Obligations.{said, Ticketed}
-use Rattle.history_proof.specs.Departures.{waits-runs, queued-by, lives, Ended, unless-said}
+use Rattle.history_proof.specs.Departures.{queued-by, lives, Ended, unless-said}
 use Rattle.conservative_rules.specs.Conservative.{span, spans, planned, points, submitRefusal, submitted, begun}
-use Rattle.conservative_rules.specs.Conservative.{advanced, moved, startOf, departed, turned, ticked, call}
+use Rattle.conservative_rules.specs.Conservative.{advanced, moved, startOf, departed, turned, ticked, amendedTo, amended, call}
 use Rattle.conservative_rules.specs.Computed.{promiseOf}
-use Rattle.jobs.specs.Judgement.{judged-by, judged-accepted, judged-refusal, judged-refused}
 use Rattle.conservative_laws.specs.Validity.{Valid, zip-left, Follows, follows-ticket, follows-start, follows-promise}
-use Rattle.conservative_laws.specs.Outcomes.{CameOut, idle, joins, leaves, outcome, call-valid}
+use Rattle.conservative_laws.specs.Outcomes.{CameOut, idle, joins, leaves, amends, outcome, call-valid}
 use Rattle.conservative_laws.specs.Obligations.{OnCourse, begun-waited, lives-stays, waits-lives, outcome-joins}
 use Rattle.conservative_laws.specs.Compression.{Repeats, left-compressible, compressed-is}
 
@@ -315,7 +318,19 @@ pub record Still (j k : Job) : Type 0 where
 -- so is each that the answer does not say to leave
 outcome-still : (m : Model) {c : Call} {r : Result} (j : Job) → Valid m → CameOut m c r → In j (m .jobs)
     → lives (cleanup (m .settings)) (r .model .clock) (newsOf c (r .reply)) j ≡ true → (k : Job) × In k (r .model .jobs) × Still j k
-unfolding submitted advanced
+unfolding submitted advanced amendedTo
+outcome-still m j v (amends a after f g) i w =
+    let z = zip-left (Follows (m .clock)) (map (supersede a) (m .jobs)) after (g .follow) (in-map (supersede a) i) in
+    let k = z .0 in
+    let q = z .2 in (
+      k,
+      z .1,
+      record {
+        ticket = follows-ticket (m .clock) (supersede a j) k q ∙ kept-ticket a j;
+        start = omega (arith, follows-start (m .clock) (supersede a j) k q, kept-start a j);
+        promise = follows-promise (m .clock) (supersede a j) k q ∙ kept-promise a j;
+      },
+    )
 outcome-still m j v (idle c r n) i w = (j, i, record { ticket = refl; start = omega arith; promise = refl })
 outcome-still m j v (joins o f l) i w = (j, in-left _ i, record { ticket = refl; start = omega arith; promise = refl })
 outcome-still m j v (leaves c clock s after l g t) i w =
@@ -394,7 +409,9 @@ begun-rises lo (j ∷ js) (k ∷ ks) a =
     case (isWaiting j && isRunning k) (λ e. rw e (a .0, rest)) (λ e. rw e (rising-from (suc (j .ticket)) lo (begun js ks) (omega (arith, a .0)) rest))
 
 outcome-rises : (m : Model) {c : Call} {r : Result} → Valid m → CameOut m c r → Rising 1 (r .reply .ended) × Rising 1 (r .reply .started)
-unfolding submitted advanced
+unfolding submitted advanced amendedTo
+outcome-rises m v (amends a after f g) =
+    (tt, begun-rises 1 (map (supersede a) (m .jobs)) after (inplace-sound m a (f .range) (f .shrinks) (v .sound) .asc))
 outcome-rises m v (idle c r n) = (tt, tt)
 outcome-rises m v (joins o f l) = (tt, case (eqb (planned m o) (m .clock)) (λ q. rw q (v .sound .next-from, tt)) (λ q. rw q tt))
 outcome-rises m v (leaves c clock s after l g t) = (
@@ -413,7 +430,16 @@ pub record Waited (m : Model) (t : ℕ) : Type 0 where
   pub named : job .ticket ≡ t
 
 outcome-waited : (m : Model) {c : Call} {r : Result} (t : ℕ) → CameOut m c r → elem t (r .reply .started) ≡ true → Waited m t ⊎ (t ≡ r .reply .ticket)
-unfolding submitted advanced
+unfolding submitted advanced amendedTo
+outcome-waited m t (amends a after f g) e =
+    let w = begun-waited t (map (supersede a) (m .jobs)) after e in
+    let j = superseded-in m a (f .range) (f .shrinks) (w .0) (w .1) in
+    inl (record {
+      job = j .0;
+      isin = j .1;
+      waits = sym (ap waiting? (kept-state a (j .0))) ∙ sym (ap isWaiting (j .2)) ∙ w .2;
+      named = sym (kept-ticket a (j .0)) ∙ sym (ap ticketOf (j .2)) ∙ w .3;
+    })
 outcome-waited m t (idle c r n) e = true-false false e refl
 outcome-waited m t (joins o f l) x =
     case (eqb (planned m o) (m .clock))
@@ -431,23 +457,26 @@ abbrev Given : Model → Call → Result → Type 0
 Given m c x = x .model .next ≡ nextAfter (newsOf c (x .reply) .came) (m .next)
 
 pub next-is : (m : Model) (c : Call) → Given m c (call m c)
-unfolding call submitted departed ticked advanced
+unfolding call submitted departed ticked advanced amendedTo amended
 next-is m (submit o) =
     let s = planned m o in
     judged-by (Given m (submit o)) m (submitRefusal m o s) (submitted m o s) (λ a. refl) (λ a. rw a)
 next-is m (depart h t) = judged-by (Given m (depart h t)) m (departRefusal m h t) (departed m h t) (λ a. refl) (λ a. rw a)
 next-is m tick = judged-by (Given m tick) m (tickRefusal m) (ticked m) (λ a. refl) (λ a. rw a)
+next-is m (amend a) = judged-by (Given m (amend a)) m (inPlaceRefusal m a) (amended m a) (λ x. refl) (λ x. rw x)
 next-is m (unchanged w) = case (accepts w) (λ a. rw a) (λ a. rw a)
 
 -- whose run ends ran, for its least or longer
 ended-ran : (m : Model) (c : Call) (u : ℕ) → Sound m → Ended m c u (call m c)
-unfolding call submitted departed ticked advanced
+unfolding call submitted departed ticked advanced amendedTo amended
 ended-ran m (submit o) u s =
     let p = planned m o in
     judged-by (Ended m (submit o) u) m (submitRefusal m o p) (submitted m o p) (λ a e. true-false false e refl) (λ a e. true-false false e refl)
 ended-ran m (depart h t) u s =
     judged-by (Ended m (depart h t) u) m (departRefusal m h t) (departed m h t) (λ a e. left-ran m h t u a e) (λ a e. true-false false e refl)
 ended-ran m tick u s = judged-by (Ended m tick u) m (tickRefusal m) (ticked m) (λ a e. ticked-ran m u s e) (λ a e. true-false false e refl)
+ended-ran m (amend a) u s =
+    judged-by (Ended m (amend a) u) m (inPlaceRefusal m a) (amended m a) (λ x e. true-false false e refl) (λ x e. true-false false e refl)
 ended-ran m (unchanged w) u s = λ e. true-false false e refl
 
 -- what is owed of tickets
@@ -484,10 +513,11 @@ few-points m v =
 
 -- "A refusal gives its number, no tickets, and the desk .. unchanged": a refused call is its refusal and nothing else
 pub refused-is : (m : Model) (c : Call) → accepts (call m c .reply .refusal) ≡ false → call m c ≡ refuse m (call m c .reply .refusal)
-unfolding call submitted departed ticked advanced
+unfolding call submitted departed ticked advanced amendedTo amended
 refused-is m (submit o) = let s = planned m o in judged-refused m (submitRefusal m o s) (submitted m o s) refl
 refused-is m (depart h t) = judged-refused m (departRefusal m h t) (departed m h t) refl
 refused-is m tick = judged-refused m (tickRefusal m) (ticked m) refl
+refused-is m (amend a) = judged-refused m (inPlaceRefusal m a) (amended m a) refl
 refused-is m (unchanged w) = λ a. refl
 
 -- Each refusal, with its conditions in the documents' order and no others. 14: "a house other than A or B"; 1: "stack nodes 0 or above the

@@ -29,19 +29,23 @@ use Rattle.scheduler.specs.Model.{Model, ending}
 use Rattle.scheduler.specs.Answers.{Result, accepts}
 use Rattle.scheduler.specs.Refusals.{departRefusal, tickRefusal}
 use Rattle.scheduler.specs.Opening.{openingRefusal, opening}
+use Rattle.scheduler.specs.declared.Amendment.{Amendment}
+use Rattle.scheduler.specs.Amending.{inPlaceRefusal, supersede, inPlace}
 use Rattle.jobs.specs.Order.{Asc, asc-in}
 use Rattle.jobs.specs.Judgement.{judged-by, judged-accepted}
 use Rattle.jobs.specs.Soundness.{waiting-clean, remained-waits}
-use Rattle.history.specs.Calls.{Call, submit, depart, tick, unchanged}
-use Rattle.conservative_rules.specs.Conservative.{span, spans, planned, newJob, submitRefusal, submitted, placed, advanced, moved, pass, startOf, departed}
-use Rattle.conservative_rules.specs.Conservative.{turned, ticked, call}
-use Rattle.conservative_rules.specs.Computed.{machine, gapped}
+use Rattle.jobs.specs.Amended.{InPlace, inplace-fit}
+use Rattle.history.specs.Calls.{Call, submit, depart, tick, amend, unchanged}
+use Rattle.conservative_laws.specs.Amended.{valid-compressible, inplace-valid}
 use Rattle.conservative_laws.specs.Validity.{Valid, used-append}
 use Rattle.conservative_laws.specs.Remaining.{ticked-used}
 use Rattle.conservative_laws.specs.Compression.{left-compressible, compressed-is}
 use Rattle.conservative_laws.specs.Outcomes.{call-valid}
 use Rattle.conservative_laws.specs.Sentences.{startsAt, planned-is, refused-is}
 use Rattle.conservative_laws.specs.TickedJob.{turned-other}
+use Rattle.conservative_rules.specs.Conservative.{span, spans, planned, newJob, submitRefusal, submitted, placed, advanced, moved, pass, startOf, departed}
+use Rattle.conservative_rules.specs.Conservative.{turned, ticked, amendedTo, amended, call}
+use Rattle.conservative_rules.specs.Computed.{machine, gapped}
 
 -- all jobs but the one with this ticket
 abbrev pub others : ℕ → List Job → List Job
@@ -159,6 +163,22 @@ depart-tight m h t v a =
     (still-fixed (m .settings) now [] (departed m h t .model .jobs) (departed m h t .model .jobs) (λ j i. p .ready .each j i .nodes-to) (p .still) (λ r. omega arith)))
     (call-valid m (depart h t) v)
 
+-- and after an order that is amended in place
+in-place-tight : (m : Model) (a : Amendment) → Valid m → InPlace m a → Valid (amended m a .model) → Tight (amended m a .model)
+unfolding amendedTo amended
+in-place-tight m a v f w =
+    let js = map (supersede a) (m .jobs) in
+    let p = compressed-is (m .settings) (m .clock) js (valid-compressible (inPlace m a) (inplace-valid m a (f .range) (f .shrinks) v)) in
+    fixed-tight (amended m a .model) w
+    (still-fixed (m .settings) (m .clock) [] (amended m a .model .jobs) (amended m a .model .jobs) (λ j i. p .ready .each j i .nodes-to) (p .still)
+    (λ r. omega arith))
+
+pub amend-tight : (m : Model) (a : Amendment) → Valid m → accepts (call m (amend a) .reply .refusal) ≡ true → Tight (call m (amend a) .model)
+unfolding call
+amend-tight m a v x =
+    let e = judged-accepted m (inPlaceRefusal m a) (amended m a) x in
+    subst (λ (r : Result). Valid (r .model) → Tight (r .model)) (sym (e .1)) (λ w. in-place-tight m a v (inplace-fit m a (e .0)) w) (call-valid m (amend a) v)
+
 -- ## The other calls
 
 module _ (m : Model) (v : Valid m) (T : Tight m) where
@@ -226,6 +246,10 @@ call-tight m (depart h t) v T =
     (λ a. depart-tight m h t v a)
     (λ a. subst (λ (r : Result). Tight (r .model)) (sym (refused-is m (depart h t) a)) T)
 call-tight m tick v T = judged-by (TightAfter m v T) m (tickRefusal m) (ticked m) (λ a. tick-tight m v T) (λ a w. T) (call-valid m tick v)
+call-tight m (amend a) v T =
+    case (accepts (call m (amend a) .reply .refusal))
+    (λ x. amend-tight m a v x)
+    (λ x. subst (λ (r : Result). Tight (r .model)) (sym (refused-is m (amend a) x)) T)
 call-tight m (unchanged r) v T = T
 
 -- no job waits at an opening

@@ -35,7 +35,7 @@ use Rattle.scheduler.specs.Model.{Model, empty}
 use Rattle.scheduler.specs.Answers.{accepts}
 use Rattle.scheduler.specs.Opening.{openingRefusal, opening}
 use Rattle.jobs.specs.Soundness.{SoundJob, Sound, opening-sound, Leaving, running-clean, waiting-clean, ends-runs, ends-by}
-use Rattle.history_proof.specs.Departures.{waits-runs}
+use Rattle.jobs.specs.Amended.{waits-runs}
 use Rattle.conservative_rules.specs.Conservative.{span, spans, stateAt, placed, moved, pass, turned}
 
 -- document 02, No. 11: "Loose records now keep intake minute, .. r at intake .. and any forecast"; here a record lacks these three

@@ -23,10 +23,12 @@ use Rattle.scheduler.specs.Jobs.{isWaiting, isRunning, fresh, jobAt}
 use Rattle.scheduler.specs.declared.Settings.{Settings}
 use Rattle.scheduler.specs.Settings.{horizon, holdTime, until}
 use Rattle.scheduler.specs.Table.{endedOf, remaining}
-use Rattle.scheduler.specs.Model.{Model, ending, joined}
+use Rattle.scheduler.specs.Model.{Model, ending, joined, withModelJobs}
 use Rattle.scheduler.specs.Answers.{Result, verdict, refuse}
 use Rattle.scheduler.specs.Refusals.{judged, submitTests, departRefusal, tickRefusal}
-use Rattle.history.specs.Calls.{Rules, submit, depart, tick, unchanged}
+use Rattle.scheduler.specs.declared.Amendment.{Amendment}
+use Rattle.scheduler.specs.Amending.{named, keptPromise, inPlaceRefusal, inPlace}
+use Rattle.history.specs.Calls.{Rules, submit, depart, tick, amend, unchanged}
 
 -- a job holds its nodes from its start, or planned start, on, until they are free again
 abbrev pub span : Settings → Job → Span
@@ -164,10 +166,32 @@ ticked m =
     advanced m (suc (m .clock)) (ending m)
     (map (turned (suc (m .clock))) (remaining (m .settings) (suc (m .clock)) (ending m) (m .jobs)))
 
+-- ## A corrected order in place (document 02, No. 13)
+
+-- where those superseded come to be `after`: "the answer gives ticket and promise as intake's does"
+unfoldable pub amendedTo : Model → Amendment → List Job → Result
+amendedTo m a after = record {
+  reply = record {
+    refusal = refusal.None;
+    ticket = a .ticket;
+    promise = keptPromise (named m a);
+    reads = 0;
+    ended = [];
+    started = begun (inPlace m a .jobs) after;
+    head = none;
+  };
+  model = withModelJobs m after;
+}
+
+-- "All waiting stacks, this one too, then move as after a withdrawal"
+unfoldable pub amended : Model → Amendment → Result
+amended m a = amendedTo m a (compressed (m .settings) (m .clock) (inPlace m a .jobs))
+
 -- ## All calls
 
 unfoldable pub call : Rules
 call m (submit o) = let s = planned m o in judged m (submitRefusal m o s) (submitted m o s)
 call m (depart h t) = judged m (departRefusal m h t) (departed m h t)
 call m tick = judged m (tickRefusal m) (ticked m)
+call m (amend a) = judged m (inPlaceRefusal m a) (amended m a)
 call m (unchanged r) = refuse m r

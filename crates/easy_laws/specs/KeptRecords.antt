@@ -19,13 +19,14 @@ use Rattle.scheduler.specs.Table.{ends, remaining}
 use Rattle.scheduler.specs.Model.{Model, ending}
 use Rattle.scheduler.specs.Answers.{Result, Forecast}
 use Rattle.jobs.specs.Soundness.{remaining-in}
+use Rattle.jobs.specs.Amended.{superseded-in, kept-ticket, kept-submitted, kept-rank, kept-forecast}
 use Rattle.history.specs.Calls.{Call}
 use Rattle.history.specs.News.{Newcomer, News, newsOf}
 use Rattle.history_proof.specs.Obligations.{boundAt, Comes, Recorded}
 use Rattle.easy_rules.specs.Easy.{rank, forecast, call}
 use Rattle.easy_laws.specs.Settling.{each-begin, Settles, rest, start}
 use Rattle.easy_laws.specs.Noted.{notes, notes-by, each-noted}
-use Rattle.easy_laws.specs.Validity.{Valid, OwnPart, submits, departs, ticks, joiner, in-one, CallAccepted, Unchanged, taken-came, called}
+use Rattle.easy_laws.specs.Validity.{Valid, OwnPart, submits, departs, amends, ticks, joiner, in-one, CallAccepted, Unchanged, taken-came, called}
 
 -- the forecast that a job has then: the one given now, if it is this job's, or else the old one
 abbrev pub heardBy : Option Forecast → (ticket old : ℕ) → ℕ
@@ -60,6 +61,11 @@ module _ (m : Model) where
   moved-keeps (submits o f room) k i =
       ⊎-elim (λ x. stays k x refl refl refl refl) (λ x. subst (Keeps m _ none) (sym (in-one x)) (comes _ (here refl) refl refl refl refl)) (in-append (m .jobs) i)
   moved-keeps (departs h t a) k i = stays-in [] (m .clock) (select.Departing h t) k i
+  -- document 02, No. 13: "it supersedes that record in place and keeps .. on the Loose Desk its intake minute, r and forecast"
+  moved-keeps (amends a p) k i =
+      let j = superseded-in m a (p .range) (p .shrinks) k i in
+      subst (Keeps m [] none) (sym (j .2))
+      (stays (j .0) (j .1) (kept-ticket a (j .0)) (kept-submitted a (j .0)) (kept-rank a (j .0)) (kept-forecast a (j .0)))
   moved-keeps (ticks l) k i = stays-in [] (suc (m .clock)) (ending m) k i
 
   -- once it has

@@ -2,6 +2,7 @@ pub mod Settling
 pub mod Remaining
 pub mod Course
 pub mod Noted
+pub mod Amended
 pub mod Validity
 pub mod Obligations
 pub mod EngineLaws
@@ -10,3 +11,4 @@ pub mod QuietTick
 pub mod Withdrawal
 pub mod EarliestStart
 pub mod KeptRecords
+pub mod OwnStart

@@ -31,20 +31,21 @@ use Rattle.scheduler.specs.Table.{liveOf, ticketOf, ticketsOf, endedOf}
 use Rattle.scheduler.specs.Model.{Model, ending, joined}
 use Rattle.scheduler.specs.Answers.{Result, Forecast, verdict, accepts, refuse}
 use Rattle.scheduler.specs.Refusals.{departRefusal, tickRefusal}
+use Rattle.scheduler.specs.Amending.{inPlaceRefusal, inPlace}
 use Rattle.jobs.specs.Judgement.{judged-by, judged-accepted, judged-refusal, judged-refused}
 use Rattle.jobs.specs.Order.{Asc, asc-one, elem-job}
 use Rattle.jobs.specs.Departing.{cancel-judged, departs-alone}
 use Rattle.jobs.specs.Soundness.{Sound, Fit, fit-passes, running-holds, cleaning-holds, running-clean}
-use Rattle.history.specs.Calls.{Call, submit, depart, complete, cancel, tick, unchanged}
+use Rattle.history.specs.Calls.{Call, submit, depart, complete, cancel, tick, amend, unchanged}
 use Rattle.history.specs.News.{Newcomer, News, newsOf}
 use Rattle.history.specs.Tickets.{nextAfter}
 use Rattle.easy_rules.specs.Easy.{queue, head, free, freed, avail, shadow, extra, qualifies, pick, choice, begin, Settling, onChoice, settled}
 use Rattle.easy_rules.specs.Easy.{headIs, forecast, noted, finished, newJob, submitRefusal, advanced, call}
 use Rattle.easy_laws.specs.Settling.{shadow-from, shadow-min, shadow-holds, none-starts, How, how, Chosen, chosen, sum-mark}
 use Rattle.easy_laws.specs.Settling.{queue-mark, one-fewer, asc-begin, each-begin, idle, marks, Settles, rest, start, settles}
-use Rattle.easy_laws.specs.Settling.{settles-jobs, settles-next}
+use Rattle.easy_laws.specs.Settling.{settles-jobs}
 use Rattle.easy_laws.specs.Course.{Waits, head-lowest, settles-waited}
-use Rattle.easy_laws.specs.Validity.{Valid, latestEnd, OwnPart, submits, departs, ticks, joiner, CallAccepted, taken-next, taken-came}
+use Rattle.easy_laws.specs.Validity.{Valid, latestEnd, OwnPart, submits, departs, ticks, joiner, CallAccepted, taken-next, taken-came, amends}
 use Rattle.easy_laws.specs.Noted.{waited-noted, forecast-noted}
 use Rattle.easy_laws.specs.Validity.{Unchanged, quiet-news, called, call-valid, Joins, joins-ticket, moved-waited}
 
@@ -235,6 +236,7 @@ abbrev pub refusalOf : Model → Call → Refusal
 refusalOf m (submit o) = submitRefusal m o
 refusalOf m (depart h t) = departRefusal m h t
 refusalOf m tick = tickRefusal m
+refusalOf m (amend a) = inPlaceRefusal m a
 refusalOf m (unchanged r) = r
 
 finished-none : (m mid : Model) (t : ℕ) (ts : List ℕ) → finished m mid t ts .reply .refusal ≡ refusal.None
@@ -246,6 +248,7 @@ unfolding call advanced
 refusal-is m (submit o) = judged-refusal m (submitRefusal m o) (finished m (joined m (newJob m o)) (m .next) []) (finished-none m _ _ _)
 refusal-is m (depart h t) = judged-refusal m (departRefusal m h t) (advanced m (m .clock) (select.Departing h t)) (finished-none m _ _ _)
 refusal-is m tick = judged-refusal m (tickRefusal m) (advanced m (suc (m .clock)) (ending m)) (finished-none m _ _ _)
+refusal-is m (amend a) = judged-refusal m (inPlaceRefusal m a) (finished m (inPlace m a) (a .ticket) []) (finished-none m _ _ _)
 refusal-is m (unchanged r) = refl
 
 -- A refused call leaves the model as it was, and gives its number and nothing else.
@@ -254,6 +257,7 @@ unfolding call advanced
 refused-same m (submit o) a = judged-refused m (submitRefusal m o) (finished m (joined m (newJob m o)) (m .next) []) (finished-none m _ _ _) a
 refused-same m (depart h t) a = judged-refused m (departRefusal m h t) (advanced m (m .clock) (select.Departing h t)) (finished-none m _ _ _) a
 refused-same m tick a = judged-refused m (tickRefusal m) (advanced m (suc (m .clock)) (ending m)) (finished-none m _ _ _) a
+refused-same m (amend c) a = judged-refused m (inPlaceRefusal m c) (finished m (inPlace m c) (c .ticket) []) (finished-none m _ _ _) a
 refused-same m (unchanged r) a = refl
 
 -- Each refusal of a submission, with its conditions in the documents' order and no others. 14: "a house other than A or B"; 1: "stack nodes
@@ -438,6 +442,8 @@ call-forecasts m (depart h t) = judged-by (Announces m) m (departRefusal m h t) 
     (λ a. finished-forecasts m _ _ _) (λ a. same-heads m)
 call-forecasts m tick = judged-by (Announces m) m (tickRefusal m) (advanced m (suc (m .clock)) (ending m))
     (λ a. finished-forecasts m _ _ _) (λ a. same-heads m)
+call-forecasts m (amend a) = judged-by (Announces m) m (inPlaceRefusal m a) (finished m (inPlace m a) (a .ticket) [])
+    (λ x. finished-forecasts m _ _ _) (λ x. same-heads m)
 call-forecasts m (unchanged r) = same-heads m
 
 -- ## Ends
@@ -531,6 +537,7 @@ call-starts m c v =
 moved-next : {m : Model} {c : Call} {mid : Model} {t : ℕ} {ts : List ℕ} (x : OwnPart m c mid t ts) → mid .next ≡ nextAfter (joiner x) (m .next)
 moved-next (submits o f room) = refl
 moved-next (departs h t a) = refl
+moved-next (amends a p) = refl
 moved-next (ticks l) = refl
 
 pub call-next : (m : Model) (c : Call) → Valid m → call m c .model .next ≡ nextAfter (newsOf c (call m c .reply) .came) (m .next)

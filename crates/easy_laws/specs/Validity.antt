@@ -12,7 +12,6 @@ use borrow.Author.Tests.{ltb-false, eqb-true, eq-eqb, eqb-false, ne-eqb, not-fal
 use Rattle.lists.specs.Tests.{case, true-false}
 use Rattle.lists.specs.Lists.{keep, any, elem, All, In, here, in-nil, in-cons, in-append, map-in, keep-in, keep-append, all-of, all-in, all-keep, all-append, length-keep-le}
 use Rattle.scheduler.specs.declared.Kind.the-variants.{Easy}
-use Rattle.scheduler.specs.declared.State.the-variants.{Waiting}
 use Rattle.scheduler.specs.declared.Job.{Job}
 use Rattle.scheduler.specs.declared.Opening.{Opening}
 use Rattle.scheduler.specs.declared.Submission.{Submission}
@@ -23,19 +22,24 @@ use Rattle.scheduler.specs.declared.Departure.the-variants.{Complete, Cancel}
 use Rattle.scheduler.specs.declared.Select.{Select}
 use Rattle.scheduler.specs.declared.Select.the-variants as select
 use Rattle.scheduler.specs.Jobs.{isWaiting, picks, foretold, cleaning}
+use Rattle.scheduler.specs.States.{waiting?}
 use Rattle.scheduler.specs.declared.Settings.{Settings}
 use Rattle.scheduler.specs.Settings.{refusedSettings, horizon, slots, holdTime, unit, boundOf}
 use Rattle.scheduler.specs.Times.{until-is}
-use Rattle.scheduler.specs.Table.{ticketOf, ends, endedOf, withdraws, ceased, remaining}
+use Rattle.scheduler.specs.Table.{ticketOf, ends, endedOf, withdraws, remaining}
 use Rattle.scheduler.specs.Model.{Model, ending, empty, joined, without}
 use Rattle.scheduler.specs.Answers.{Result, Forecast, accepts, refusing, refuse}
 use Rattle.scheduler.specs.Refusals.{judged, notThere, departRefusal, tickRefusal}
 use Rattle.scheduler.specs.Opening.{openingRefusal, opening}
+use Rattle.scheduler.specs.declared.Amendment.{Amendment}
+use Rattle.scheduler.specs.Amending.{inPlaceRefusal, supersede, inPlace}
 use Rattle.jobs.specs.Order.{asc-one, elem-job}
 use Rattle.jobs.specs.Departing.{not-there, departs-alone}
 use Rattle.jobs.specs.Soundness.{Sound, SoundJob, opening-sound, Fit, fit-room, leaving-clock, passed, submit-fit, sound-join, Leaving, early, in-time, withdraws-waits}
 use Rattle.jobs.specs.Soundness.{remaining-in, sound-leave}
-use Rattle.history.specs.Calls.{Call, submit, depart, tick, unchanged}
+use Rattle.jobs.specs.Amended.{InPlace, inplace-fit, kept-ticket, kept-state, kept-start, kept-promise, shorter-hold, superseded-in, inplace-sound}
+use Rattle.jobs.specs.Amended.{kept-submitted, kept-rank, kept-forecast, kept-bound}
+use Rattle.history.specs.Calls.{Call, submit, depart, tick, amend, unchanged}
 use Rattle.history.specs.News.{Newcomer, newsOf, nothing, refused-news, unchanged-news}
 use Rattle.easy_rules.specs.Easy.{queue, shadow, pick, choice, begin, settled, noting, noted, forecast, finished, newJob, rank, submitRefusal, advanced, call}
 use Rattle.easy_laws.specs.Settling.{Chosen, chosen, each-begin, sound-begin, queue-mark, Settles, rest, start, settles, settles-rest, settles-clock, settles-settings, settles-next}
@@ -43,6 +47,7 @@ use Rattle.easy_laws.specs.Remaining.{remaining-waited, queue-remaining}
 use Rattle.easy_laws.specs.Noted.{notes-keeps, noted-clock, noted-settings, noted-next, each-noted, queue-noted, choice-noted, head-noted, course-noted}
 use Rattle.easy_laws.specs.Noted.{sound-noted, forecast-noted, forecast-says, forecast-silent}
 use Rattle.easy_laws.specs.Course.{Waits, OnCourse, Head, head-in, head-lowest, head-course, rest-shadow, course-clock, begin-keeps, eased, withdraw-keeps, leave-keeps, join-eases, join-course}
+use Rattle.easy_laws.specs.Amended.{kept-queue, inplace-course}
 
 -- it will start within its bound, and then its hold does not pass the last minute: document 02, No. 11, "Each waiting one's last-minute rule must
 -- hold, and shadow plus (10,080 + clearing) × the number waiting before it must not pass its bound"
@@ -95,6 +100,14 @@ module _ (P : Job → Type 0) where
   after-keep : (p : Job → Bool) (js : List Job) → AfterFirst P js → AfterFirst P (keep p js)
   after-keep p [] a = tt
   after-keep p (j ∷ js) a = case (p j) (λ e. rw e (all-keep P p js a)) (λ e. rw e (after-all (keep p js) (all-keep P p js a)))
+
+  all-map : (f : Job → Job) → ((j : Job) → P j → P (f j)) → (js : List Job) → All P js → All P (map f js)
+  all-map f g [] a = tt
+  all-map f g (j ∷ js) a = (g j (a .0), all-map f g js (a .1))
+
+  after-map : (f : Job → Job) → ((j : Job) → P j → P (f j)) → (js : List Job) → AfterFirst P js → AfterFirst P (map f js)
+  after-map f g [] a = tt
+  after-map f g (j ∷ js) a = all-map f g js a
 
   after-append : (js : List Job) (k : Job) → AfterFirst P js → P k → AfterFirst P (js ++ (k ∷ []))
   after-append [] k a p = tt
@@ -252,6 +265,7 @@ pub data OwnPart (m : Model) : Call → Model → ℕ → List ℕ → Type 0 wh
   submits : (o : Submission) → Fit m o → latestEnd m (o .estimate) ≤ horizon (m .settings) → OwnPart m (submit o) (joined m (newJob m o)) (m .next) []
   departs : (h : Departure) (t : ℕ) → any (picks (select.Departing h t)) (m .jobs) ≡ true
       → OwnPart m (depart h t) (without m (m .clock) (select.Departing h t)) 0 (endedOf (select.Departing h t) (m .jobs))
+  amends : (a : Amendment) → InPlace m a → OwnPart m (amend a) (inPlace m a) (a .ticket) []
   ticks : suc (m .clock) ≤ horizon (m .settings) → OwnPart m tick (without m (suc (m .clock)) (ending m)) 0 (endedOf (ending m) (m .jobs))
 
 module _ (m : Model) (v : Valid m) where
@@ -341,20 +355,60 @@ module _ (m : Model) (v : Valid m) where
         tenant-is = f .tenant-is;
       }
 
+pub inplace-ready : (m : Model) (a : Amendment) → InPlace m a → Valid m → Ready (inPlace m a)
+inplace-ready m a p v = record {
+  kind = v .ready .kind;
+  sound = inplace-sound m a (p .range) (p .shrinks) (v .ready .sound);
+  promises = each (λ (x : Job). x .promise ≡ 0) (λ j i. kept-promise a j ∙ v .ready .promises j i);
+  starts = each (λ (x : Job). isWaiting x ≡ true → x .start ≡ 0) (λ j i w. kept-start a j ∙ v .ready .starts j i (waited j w));
+  submitted = each (λ (x : Job). x .submitted ≤ m .clock) (λ j i. omega (arith, v .ready .submitted j i, kept-submitted a j));
+  ranked =
+      each (λ (x : Job). (1 ≤ x .rank) × (x .rank ≤ slots (m .settings)))
+      (λ j i. let r = v .ready .ranked j i in (omega (arith, r .0, kept-rank a j), omega (arith, r .1, kept-rank a j)));
+  room =
+      each (λ (x : Job). isWaiting x ≡ true → Room (inPlace m a) x)
+      (λ j i w.
+      let o = v .ready .room j i (waited j w) in (
+        course j (boundOf (m .settings) j) (boundOf (m .settings) (supersede a j)) (kept-bound a (m .settings) j) (o .0),
+        omega (arith, o .1, kept-bound a (m .settings) j, shorter-hold (m .settings) a j (p .shrinks j i)),
+      ));
+  forecast-to = each (λ (x : Job). x .forecast ≤ horizon (m .settings)) (λ j i. omega (arith, v .ready .forecast-to j i, kept-forecast a j));
+  kept =
+      each (λ (x : Job). isWaiting x ≡ true → 1 ≤ x .forecast → OnCourse (inPlace m a) (x .ticket) (x .forecast))
+      (λ j i w f. course j (j .forecast) (supersede a j .forecast) (kept-forecast a j) (v .ready .kept j i (waited j w) (omega (arith, f, kept-forecast a j))));
+  others =
+      subst (AfterFirst Unheard) (sym (kept-queue m a))
+      (after-map Unheard (supersede a) (λ j u. kept-forecast a j ∙ u) (queue (m .jobs)) (v .ready .others));
+}
+  where
+    each : (P : Job → Type 0) → ((j : Job) → In j (m .jobs) → P (supersede a j)) → (x : Job) → In x (inPlace m a .jobs) → P x
+    each P f x i = let j = superseded-in m a (p .range) (p .shrinks) x i in subst P (sym (j .2)) (f (j .0) (j .1))
+
+    waited : (j : Job) → isWaiting (supersede a j) ≡ true → isWaiting j ≡ true
+    waited j w = sym (ap waiting? (kept-state a j)) ∙ w
+
+    course : (j : Job) (b d : ℕ) → d ≡ b → OnCourse m (j .ticket) b → OnCourse (inPlace m a) (supersede a j .ticket) d
+    course j b d e o =
+        subst (λ (t : ℕ). OnCourse (inPlace m a) t d) (sym (kept-ticket a j))
+        (subst (OnCourse (inPlace m a) (j .ticket)) (sym e) (inplace-course m a (p .range) (p .shrinks) (j .ticket) b (v .ready .sound) o))
+
 pub moved-ready : {m : Model} {c : Call} {mid : Model} {t : ℕ} {ts : List ℕ} → OwnPart m c mid t ts → Valid m → Ready mid
 moved-ready {m} (submits o f room) v = join-ready m v o f room
 moved-ready {m} (departs h t a) v = leave-ready m v (m .clock) (select.Departing h t) (early h t)
+moved-ready {m} (amends a p) v = inplace-ready m a p v
 moved-ready {m} (ticks l) v = leave-ready m v (suc (m .clock)) (ending m) (in-time l)
 
 pub moved-settings : {m : Model} {c : Call} {mid : Model} {t : ℕ} {ts : List ℕ} → OwnPart m c mid t ts → mid .settings ≡ m .settings
 moved-settings (submits o f room) = refl
 moved-settings (departs h t a) = refl
+moved-settings (amends a p) = refl
 moved-settings (ticks l) = refl
 
 -- who comes by it
 abbrev pub joiner : {m : Model} {c : Call} {mid : Model} {t : ℕ} {ts : List ℕ} → OwnPart m c mid t ts → List Newcomer
 joiner {m} (submits o f room) = record { ticket = m .next; nodes = o .nodes; promise = 0; tenant = o .tenant; least = o .least } ∷ []
 joiner (departs h t a) = []
+joiner (amends a p) = []
 joiner (ticks l) = []
 
 -- and who is withdrawn
@@ -362,7 +416,15 @@ abbrev pub leaver : {m : Model} {c : Call} {mid : Model} {t : ℕ} {ts : List �
 leaver (submits o f room) = []
 leaver (departs Complete t a) = []
 leaver (departs Cancel t a) = t ∷ []
+leaver (amends a p) = []
 leaver (ticks l) = []
+
+-- and who is amended
+abbrev pub amender : {m : Model} {c : Call} {mid : Model} {t : ℕ} {ts : List ℕ} → OwnPart m c mid t ts → List Amendment
+amender (submits o f room) = []
+amender (departs h t a) = []
+amender (amends a p) = a ∷ []
+amender (ticks l) = []
 
 -- ## Who waits before the settling
 
@@ -375,6 +437,7 @@ Joins x u = (o : Newcomer) × In o (joiner x) × (o .ticket ≡ u)
 pub joins-ticket : {m : Model} {c : Call} {mid : Model} {t : ℕ} {ts : List ℕ} (x : OwnPart m c mid t ts) (o : Newcomer) → In o (joiner x) → o .ticket ≡ t
 joins-ticket {m} (submits s f room) o i = ap (λ (n : Newcomer). n .ticket) (in-one i)
 joins-ticket (departs h t a) o i = in-nil i
+joins-ticket (amends a p) o i = in-nil i
 joins-ticket (ticks l) o i = in-nil i
 
 -- it waited before the call, or is the one that the call took in
@@ -392,6 +455,14 @@ moved-waited {m} x u w = go x (w .job) (w .isin) (w .waits) (w .named)
         either-way (inl i) = inl (record { job = j; isin = i; waits = q; named = z })
         either-way (inr i) = inr (_, here refl, ap ticketOf (sym (in-one i)) ∙ z)
     go (departs h t a) j i q z = inl (stays (m .clock) (select.Departing h t) j i q z)
+    go (amends a p) j i q z =
+        let k = superseded-in m a (p .range) (p .shrinks) j i in
+        inl (record {
+          job = k .0;
+          isin = k .1;
+          waits = sym (ap waiting? (kept-state a (k .0))) ∙ sym (ap isWaiting (k .2)) ∙ q;
+          named = sym (kept-ticket a (k .0)) ∙ sym (ap ticketOf (k .2)) ∙ z;
+        })
     go (ticks l) j i q z = inl (stays (suc (m .clock)) (ending m) j i q z)
 
 -- and is not withdrawn
@@ -404,6 +475,7 @@ moved-stays {m} (departs Cancel t a) u w =
     (λ e. true-false (withdraws p (w .job)) (rw (w .waits) (eq-eqb (w .job .ticket) t (w .named ∙ eqb-true u t e)))
     (remaining-waited (m .settings) (m .clock) p (m .jobs) (w .isin) (w .waits) .1))
     (λ e. rw e)
+moved-stays (amends a p) u w = refl
 moved-stays (ticks l) u w = refl
 
 -- who is withdrawn waited
@@ -415,6 +487,7 @@ moved-withdraws {m} (departs Cancel t a) s u e =
     let j = elem-job u (keep p (m .jobs)) (ap (elem u) (departs-alone Cancel t 1 (m .jobs) (s .asc) a) ∙ e) in
     let k = keep-in p (m .jobs) (j .1) in
     record { job = j .0; isin = k .0; waits = withdraws-waits (select.Departing Cancel t) (j .0) (k .1); named = j .2 }
+moved-withdraws (amends a p) s u e = true-false false e refl
 moved-withdraws (ticks l) s u e = true-false false e refl
 
 -- ## What is kept
@@ -427,6 +500,7 @@ moved-keeps {m} (departs Complete t a) v u b n x =
     leave-keeps m _ _ (v .ready .sound) (v .rests) (early Complete t) u b (λ j i w e. refl) x
 moved-keeps {m} (departs Cancel t a) v u b n x =
     withdraw-keeps m t (v .ready .sound) u b (λ e. true-false true refl (rw (eq-eqb u t e) at n)) x
+moved-keeps {m} (amends a p) v u b n x = inplace-course m a (p .range) (p .shrinks) u b (v .ready .sound) x
 moved-keeps {m} (ticks l) v u b n x = leave-keeps m _ _ (v .ready .sound) (v .rests) (in-time l) u b (λ j i w e. refl) x
 
 -- ## Each call is accepted or refused
@@ -475,6 +549,7 @@ taken-came m c o t = by (t .moved) refl (t .accepted) (t .promise)
         → o .reply .refusal ≡ refusal.None → o .reply .promise ≡ 0 → newsOf c (o .reply) .came ≡ joiner x
     by (submits o f room) q a p = rw (a, q, p)
     by (departs h t y) q a p = rw a
+    by (amends c y) q a p = rw a
     by (ticks l) q a p = rw a
 
 pub taken-withdrew : (m : Model) (c : Call) (o : Result) (t : CallAccepted m c o) → newsOf c (o .reply) .withdrew ≡ leaver (t .moved)
@@ -485,6 +560,17 @@ taken-withdrew m c o t = by (t .moved) (t .accepted)
     by (submits o f room) a = rw a
     by (departs Complete t y) a = rw a
     by (departs Cancel t y) a = rw a
+    by (amends c y) a = rw a
+    by (ticks l) a = rw a
+
+pub taken-amended : (m : Model) (c : Call) (o : Result) (t : CallAccepted m c o) → newsOf c (o .reply) .amended ≡ amender (t .moved)
+taken-amended m c o t = by (t .moved) (t .accepted)
+  where
+    by : {c : Call} {mid : Model} {u : ℕ} {ts : List ℕ} (x : OwnPart m c mid u ts) → o .reply .refusal ≡ refusal.None
+        → newsOf c (o .reply) .amended ≡ amender x
+    by (submits o f room) a = rw a
+    by (departs h t y) a = rw a
+    by (amends c y) a = rw a
     by (ticks l) a = rw a
 
 pub quiet-news : (m : Model) (c : Call) (o : Result) → Unchanged m c o → newsOf c (o .reply) ≡ nothing
@@ -540,6 +626,9 @@ called m (depart h t) v =
 called m tick v =
     judge m tick (tickRefusal m) (advanced m (suc (m .clock)) (ending m))
     (λ a. let x = tick-moves m a in finished-taken m tick _ 0 _ x (moved-ready x v))
+called m (amend a) v =
+    judge m (amend a) (inPlaceRefusal m a) (finished m (inPlace m a) (a .ticket) [])
+    (λ x. let p = inplace-fit m a x in finished-taken m (amend a) _ (a .ticket) [] (amends a p) (moved-ready (amends a p) v))
 called m (unchanged r) v = inr (record { why = r; same = refl; silent = unchanged-news r r })
 
 -- who waits at the end waited before the settling, as it is
@@ -549,16 +638,28 @@ settles-waiting (start {m = m} k e s) j i w =
     each-begin (λ (x : Job). isWaiting x ≡ true → In x (m .jobs)) (k .ticket) m (λ x i n q. i) (λ x i n q. true-false false q refl) j
     (settles-waiting s j i w) w
 
--- and before the call, unless it comes
+-- a job of the model with this ticket and this forecast
+abbrev Was : Model → Job → Type 0
+Was m j = (k : Job) × In k (m .jobs) × (k .ticket ≡ j .ticket) × (k .forecast ≡ j .forecast)
+
+-- and before the call, with the forecast that it has, unless it comes
 moved-waiting : {m : Model} {c : Call} {mid : Model} {t : ℕ} {ts : List ℕ} → OwnPart m c mid t ts → (j : Job) → In j (mid .jobs) → isWaiting j ≡ true
-    → In j (m .jobs) ⊎ (j .ticket ≡ m .next)
+    → Was m j ⊎ (j .ticket ≡ m .next)
 moved-waiting {m} (submits o f room) j i w = by (in-append (m .jobs) i)
   where
-    by : In j (m .jobs) ⊎ In j (newJob m o ∷ []) → In j (m .jobs) ⊎ (j .ticket ≡ m .next)
-    by (inl x) = inl x
+    by : In j (m .jobs) ⊎ In j (newJob m o ∷ []) → Was m j ⊎ (j .ticket ≡ m .next)
+    by (inl x) = inl (j, x, refl, refl)
     by (inr x) = inr (ap ticketOf (in-one x))
-moved-waiting {m} (departs h t a) j i w = inl (remaining-waited (m .settings) (m .clock) (select.Departing h t) (m .jobs) i w .0)
-moved-waiting {m} (ticks l) j i w = inl (remaining-waited (m .settings) (suc (m .clock)) (ending m) (m .jobs) i w .0)
+moved-waiting {m} (departs h t a) j i w = inl (j, remaining-waited (m .settings) (m .clock) (select.Departing h t) (m .jobs) i w .0, refl, refl)
+moved-waiting {m} (amends a p) j i w =
+    let k = superseded-in m a (p .range) (p .shrinks) j i in
+    inl (
+      k .0,
+      k .1,
+      sym (kept-ticket a (k .0)) ∙ sym (ap ticketOf (k .2)),
+      sym (kept-forecast a (k .0)) ∙ sym (ap (λ (x : Job). x .forecast) (k .2)),
+    )
+moved-waiting {m} (ticks l) j i w = inl (j, remaining-waited (m .settings) (suc (m .clock)) (ending m) (m .jobs) i w .0, refl, refl)
 
 accepted-valid : (m : Model) (c : Call) (o : Result) → Valid m → CallAccepted m c o → Valid (o .model)
 accepted-valid m c o v t =
@@ -575,9 +676,9 @@ accepted-valid m c o v t =
         let x = head-in (t .last) (h .job) (h .later) (h .first) in
         let y = head-in m (k .job) (k .later) (k .first) in
         ⊎-elim
-        (λ (i : In (h .job) (m .jobs)).
-        let z : k .job ≡ h .job = asc-one 1 (m .jobs) (k .job) (h .job) (v .ready .sound .asc) (y .0) i e in
-        omega (arith, v .heard (k .job) (k .later) (k .first), ap (λ (j : Job). j .forecast) z))
+        (λ (i : Was m (h .job)).
+        let z : k .job ≡ i .0 = asc-one 1 (m .jobs) (k .job) (i .0) (v .ready .sound .asc) (y .0) (i .1) (e ∙ sym (i .2)) in
+        omega (arith, v .heard (k .job) (k .later) (k .first), ap (λ (j : Job). j .forecast) z, i .3))
         (λ (i : h .job .ticket ≡ m .next). absurd (omega (arith, v .ready .sound .below (k .job) (y .0))))
         (moved-waiting (t .moved) (h .job) (settles-waiting (t .trace) (h .job) (x .0) (x .1)) (x .1))
 

@@ -19,10 +19,11 @@ use Rattle.scheduler.specs.Settings.{holdTime}
 use Rattle.scheduler.specs.Model.{Model, ending, joined}
 use Rattle.scheduler.specs.Answers.{Result, Forecast, accepts}
 use Rattle.scheduler.specs.Refusals.{departRefusal, tickRefusal}
+use Rattle.scheduler.specs.Amending.{inPlaceRefusal, inPlace}
 use Rattle.jobs.specs.Judgement.{judged-by, judged-accepted}
 use Rattle.jobs.specs.Departing.{left-ran, ticked-ran}
 use Rattle.jobs.specs.Soundness.{Sound}
-use Rattle.history.specs.Calls.{Call, submit, depart, cancel, tick, unchanged}
+use Rattle.history.specs.Calls.{Call, submit, depart, cancel, tick, amend, unchanged}
 use Rattle.history_proof.specs.Obligations.{Ticketed}
 use Rattle.history_proof.specs.Departures.{Ended}
 use Rattle.easy_rules.specs.Easy.{queue, head, free, avail, shadow, extra, qualifies, pick, choice, Settling, forecast, noted, finished, newJob, submitRefusal, advanced, call}
@@ -108,6 +109,9 @@ ended-ran m (depart h t) u s =
     (λ a e. left-ran m h t u a e) (λ a e. true-false false e refl)
 ended-ran m tick u s =
     judged-by (Ended m tick u) m (tickRefusal m) (advanced m (suc (m .clock)) (ending m)) (λ a e. ticked-ran m u s e) (λ a e. true-false false e refl)
+ended-ran m (amend a) u s =
+    judged-by (Ended m (amend a) u) m (inPlaceRefusal m a) (finished m (inPlace m a) (a .ticket) []) (λ x e. true-false false e refl)
+    (λ x e. true-false false e refl)
 ended-ran m (unchanged w) u s = λ e. true-false false e refl
 
 pub easy-ticketed : Ticketed call Valid OnCourse

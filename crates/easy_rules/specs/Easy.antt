@@ -23,7 +23,8 @@ use Rattle.scheduler.specs.Table.{nodesHeld, endedOf}
 use Rattle.scheduler.specs.Model.{Model, ending, joined, without, withModelJobs}
 use Rattle.scheduler.specs.Answers.{Result, Forecast, verdict, refuse}
 use Rattle.scheduler.specs.Refusals.{judged, submitTests, departRefusal, tickRefusal}
-use Rattle.history.specs.Calls.{Rules, submit, depart, tick, unchanged}
+use Rattle.scheduler.specs.Amending.{inPlaceRefusal, inPlace}
+use Rattle.history.specs.Calls.{Rules, submit, depart, tick, amend, unchanged}
 
 -- ## The queue and the nodes
 
@@ -172,4 +173,6 @@ unfoldable pub call : Rules
 call m (submit o) = judged m (submitRefusal m o) (finished m (joined m (newJob m o)) (m .next) [])
 call m (depart h t) = judged m (departRefusal m h t) (advanced m (m .clock) (select.Departing h t))
 call m tick = judged m (tickRefusal m) (advanced m (suc (m .clock)) (ending m))
+-- document 02, No. 13, in place: "All waiting stacks, this one too, then move as after a withdrawal"
+call m (amend a) = judged m (inPlaceRefusal m a) (finished m (inPlace m a) (a .ticket) [])
 call m (unchanged r) = refuse m r

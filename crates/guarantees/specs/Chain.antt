@@ -46,10 +46,11 @@ handed-is d (c ∷ cs) h = handed-is (gives d c .scheduler) cs (call-premise d c
 abbrev pub answerOf : Event → Answer
 answerOf x = answer (x .reply)
 
--- `Made d c a e`: the call c was made on d, was answered a, and handed back or left e. Each call gets what the last one left
-pub data MadeAll {D A : Type 0} (Made : D → Call → A → D → Type 0) : D → List Call → List A → D → Type 0 where
+-- `Made d c a e`: the call c was made on d, was answered a, and handed back or left e. Each call gets what the last one left. (Q is what is asked with
+-- one answer: `Call`, or with corrected orders among them `Step` of crates/amend_rules/specs/Steps.antt.)
+pub data MadeAll {D Q A : Type 0} (Made : D → Q → A → D → Type 0) : D → List Q → List A → D → Type 0 where
   none : {d : D} → MadeAll Made d [] [] d
-  next : {d e f : D} {c : Call} {a : A} {cs : List Call} {xs : List A} → Made d c a e → MadeAll Made e cs xs f → MadeAll Made d (c ∷ cs) (a ∷ xs) f
+  next : {d e f : D} {c : Q} {a : A} {cs : List Q} {xs : List A} → Made d c a e → MadeAll Made e cs xs f → MadeAll Made d (c ∷ cs) (a ∷ xs) f
 
 -- a call that leaves the scheduler as it is gives its refusal and nothing else
 pub unchanged-refuses : (m : Model) (r : Refusal) → call m (unchanged r) ≡ refuse m r

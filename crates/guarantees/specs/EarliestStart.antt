@@ -10,14 +10,15 @@ use mathlib.Core.Option.{Option, none, some}
 use lib.Dec.{leb, ltb, eqb}
 use lib.ListN.{length, getD}
 use borrow.Author.Tests.{leb-true, leb-false, lt-ltb, le-ltb, ne-eqb, eq-eqb, eqb-true}
-use Rattle.lists.specs.Tests.{case, true-false, both, on, and-right-false}
-use Rattle.lists.specs.Lists.{sum, elem, In, here, there, in-map, map-in, sum-in, first, first-in}
+use Rattle.lists.specs.Tests.{case, true-false, both, neither, on, and-right-false}
+use Rattle.lists.specs.Lists.{sum, elem, All, In, here, there, in-map, map-in, sum-in, first, first-in}
 use Rattle.scheduler.specs.declared.Departure.the-variants.{Cancel}
 use Rattle.scheduler.specs.declared.Kind.{Kind}
 use Rattle.scheduler.specs.declared.Kind.the-variants.{Conservative, Easy}
 use Rattle.scheduler.specs.declared.State.{State}
 use Rattle.scheduler.specs.declared.State.the-variants.{Unused, Waiting, Running, Cleanup}
 use Rattle.scheduler.specs.declared.Job.{Job}
+use Rattle.scheduler.specs.declared.Amendment.{Amendment}
 use Rattle.scheduler.specs.Answers.{accepts}
 use Rattle.scheduler.specs.States.{live?, waiting?, running?, cleaning?, holding?}
 use Rattle.scheduler.specs.Jobs.{isWaiting, isHolding, held, departsAs}
@@ -27,14 +28,15 @@ use Rattle.scheduler.specs.Model.{Model}
 use Rattle.jobs.specs.Order.{asc-one}
 use Rattle.jobs.specs.Soundness.{Sound}
 use Rattle.history.specs.Calls.{Call, Event, after, events}
-use Rattle.history.specs.Book.{Entry, Book, Fate, waiting, running, cleaning, ended, withdrawn, start, fateAfter, fateFrom}
+use Rattle.history.specs.Book.{Entry, Book, Fate, waiting, running, cleaning, ended, withdrawn, start, fateAfter, fateFrom, waits, lastAsked, askedOf}
 use Rattle.history.specs.Beginning.{fateBy}
-use Rattle.history_proof.specs.Obligations.{JobShown, shown, live, remark, said, Aim, Meets, Keeps, Lawful, Ticketed}
+use Rattle.history.specs.News.{amendedTicket, News, news, amendedNodes}
+use Rattle.history_proof.specs.Obligations.{JobShown, shown, live, remark, said, Aim, Meets, Lawful, Ticketed, Kept}
 use Rattle.history_proof.specs.Departures.{kept-by}
 use Rattle.history_proof.specs.Cleaning.{clock-rises, lives-shown}
 use Rattle.history_proof.specs.LeastHolds.{beyond, leastHeld, allHeld, held-stays}
 use Rattle.history_proof.specs.Entries.{entry-fate}
-use Rattle.history_proof.specs.Proof.{kept-after}
+use Rattle.history_proof.specs.Proof.{kept-one}
 use Rattle.conservative_laws.specs.Obligations.{conservative-lawful}
 use Rattle.conservative_laws.specs.Sentences.{conservative-ticketed}
 use Rattle.easy_rules.specs.Easy.{freed, avail}
@@ -132,6 +134,25 @@ module _ (k c u t : ℕ) where
   within-all [] = omega arith
   within-all (j ∷ js) = omega (arith, within-one j, within-all js)
 
+-- document 02, No. 13: "its soonest minute counts afresh". So the minute given is claimed as long as no event amends the job
+abbrev pub Unamended : ℕ → News → Type 0
+Unamended t e = elem t (map amendedTicket (e .amended)) ≡ false
+
+abbrev pub NoneAmends : ℕ → List Event → Type 0
+NoneAmends t es = All (λ (e : Event). Unamended t (news e)) es
+
+-- it asks for what it asked for before
+same-last : (cs : List Amendment) (t n : ℕ) → elem t (map amendedTicket cs) ≡ false → lastAsked amendedNodes cs t n ≡ n
+same-last [] t n e = refl
+same-last (x ∷ xs) t n e =
+    let b = neither (eqb t (x .ticket)) (elem t (map amendedTicket xs)) e in
+    let o : eqb (x .ticket) t ≡ false =
+    case (eqb (x .ticket) t) (λ q. true-false (eqb t (x .ticket)) (eq-eqb t (x .ticket) (sym (eqb-true (x .ticket) t q))) (b .0)) (λ q. q) in
+    rw o (same-last xs t n (b .1))
+
+same-asked : (cs : List Amendment) (f : Fate) (t n : ℕ) → elem t (map amendedTicket cs) ≡ false → askedOf amendedNodes cs f t n ≡ n
+same-asked cs f t n e = case (waits f) (λ w. rw w (same-last cs t n e)) (λ w. rw w)
+
 -- ## A lower bound is kept
 
 -- to start no sooner than b
@@ -144,7 +165,7 @@ NoSooner n b m t = WaitsFor m t n × (b ≤ earliestFor m n)
 
 module _ {κ : Kind} {Fit : Model → Type 0} {OnCourse : Model → ℕ → ℕ → Type 0} (L : Lawful κ (rulesOf κ) Fit OnCourse) (T : Ticketed (rulesOf κ) Fit OnCourse)
   where
-    module _ (m : Model) (c : Call) (t n : ℕ) (v : Fit m) (w : WaitsFor m t n) where
+    module _ (m : Model) (c : Call) (t n : ℕ) (v : Fit m) (w : WaitsFor m t n) (asked : Unamended t (said (rulesOf κ) m c)) where
       abbrev m′ : Model
       m′ = rulesOf κ m c .model
 
@@ -190,7 +211,11 @@ module _ {κ : Kind} {Fit : Model → Type 0} {OnCourse : Model → ℕ → ℕ 
             job = j .0;
             inside = j .1;
             named = sym (ap (λ (x : JobShown). x .ticket) (j .2)) ∙ w .named;
-            asks = sym (ap (λ (x : JobShown). x .nodes) (j .2)) ∙ w .asks;
+            asks =
+                sym (ap (λ (x : JobShown). x .nodes) (j .2))
+                ∙ same-asked (said (rulesOf κ) m c .amended) (fateBy (w .job .state) (w .job .start) (w .job .end)) (w .job .ticket) (w .job .nodes)
+                (ap (λ (x : ℕ). elem x (map amendedTicket (said (rulesOf κ) m c .amended))) (w .named) ∙ asked)
+                ∙ w .asks;
             fate-is = sym (ap (λ (x : JobShown). x .fate) (j .2)) ∙ q;
           }
 
@@ -253,36 +278,35 @@ module _ {κ : Kind} {Fit : Model → Type 0} {OnCourse : Model → ℕ → ℕ 
           ))
           (omega (arith, clock-rises L m c v))
 
-    keeps-no-sooner : (n b : ℕ) → Keeps (rulesOf κ) Fit (from b) (NoSooner n b)
-    keeps-no-sooner n b = record {
-      rest = λ m t v o. refl;
-      keeps = λ m c t v o q.
-          kept-by (said (rulesOf κ) m c) (from b) (NoSooner n b) (rulesOf κ m c .model) t q
-          (case (elem t (said (rulesOf κ) m c .started))
-          (λ x. inl (x, omega (arith, o .1, starts-later m c t n v (o .0) (rw (q, x)))))
-          (λ x. inr (x, (waits-on m c t n v (o .0) (rw (q, x)), omega (arith, o .1, never-falls m c t n v (o .0) (rw (q, x)))))));
-    }
+    keeps-no-sooner : (n b : ℕ) (m : Model) (c : Call) (t : ℕ) → Fit m → Unamended t (said (rulesOf κ) m c) → NoSooner n b m t
+        → elem t (said (rulesOf κ) m c .withdrew) ≡ false → Kept (from b) (NoSooner n b) t (said (rulesOf κ) m c) (rulesOf κ m c .model)
+    keeps-no-sooner n b m c t v u o q =
+        kept-by (said (rulesOf κ) m c) (from b) (NoSooner n b) (rulesOf κ m c .model) t q
+        (case (elem t (said (rulesOf κ) m c .started))
+        (λ x. inl (x, omega (arith, o .1, starts-later m c t n v (o .0) u (rw (q, x)))))
+        (λ x. inr (x, (waits-on m c t n v (o .0) u (rw (q, x)), omega (arith, o .1, never-falls m c t n v (o .0) u (rw (q, x)))))))
 
-    -- whatever calls come, of a job with a fate
-    pub holds-on : (n b : ℕ) (m : Model) (t : ℕ) (f : Fate) (cs : List Call) → Fit m → Meets (from b) (NoSooner n b) m t f
+    -- whatever calls come that do not amend it, of a job with a fate
+    pub holds-on : (n b : ℕ) (m : Model) (t : ℕ) (f : Fate) (cs : List Call) → Fit m → NoneAmends t (events (rulesOf κ) m cs)
+        → Meets (from b) (NoSooner n b) m t f
         → Meets (from b) (NoSooner n b) (after (rulesOf κ) m cs) t (fateFrom (cleanup (m .settings)) (m .clock) t f (events (rulesOf κ) m cs))
-    holds-on n b m t f [] v o = o
-    holds-on n b m t f (c ∷ cs) v o =
+    holds-on n b m t f [] v u o = o
+    holds-on n b m t f (c ∷ cs) v u o =
         let R = rulesOf κ in
         let p = cleanup (m .settings) in
-        let a = kept-after R Fit (from b) (NoSooner n b) (keeps-no-sooner n b) (L .clock) m c v p t f o in
-        let h = holds-on n b (R m c .model) t (fateAfter p (R m c .model .clock) (said R m c) t f) cs (L .valid m c v) a in
+        let a = kept-one R Fit (from b) (NoSooner n b) (L .clock) m c v p t (λ x. refl) (keeps-no-sooner n b m c t v (u .0)) f o in
+        let h = holds-on n b (R m c .model) t (fateAfter p (R m c .model .clock) (said R m c) t f) cs (L .valid m c v) (u .1) a in
         subst (λ (x : ℕ). Meets (from b) (NoSooner n b) (after R (R m c .model) cs) t
         (fateFrom p x t (fateAfter p x (said R m c) t f) (events R (R m c .model) cs))) (L .clock m c v)
         (subst (λ (q : ℕ). Meets (from b) (NoSooner n b) (after R (R m c .model) cs) t
         (fateFrom q (R m c .model .clock) t (fateAfter p (R m c .model .clock) (said R m c) t f) (events R (R m c .model) cs)))
         (ap cleanup (L .settings m c v)) h)
 
-    no-sooner : (n : ℕ) (m : Model) (t s : ℕ) (cs : List Call) → Fit m → WaitsFor m t n
+    no-sooner : (n : ℕ) (m : Model) (t s : ℕ) (cs : List Call) → Fit m → WaitsFor m t n → NoneAmends t (events (rulesOf κ) m cs)
         → start (fateFrom (cleanup (m .settings)) (m .clock) t waiting (events (rulesOf κ) m cs)) ≡ some s → earliestFor m n ≤ s
-    no-sooner n m t s cs v w e =
+    no-sooner n m t s cs v w u e =
         started (after (rulesOf κ) m cs) (fateFrom (cleanup (m .settings)) (m .clock) t waiting (events (rulesOf κ) m cs)) e
-        (holds-on n (earliestFor m n) m t waiting cs v (w, omega arith))
+        (holds-on n (earliestFor m n) m t waiting cs v u (w, omega arith))
       where
         started : (m′ : Model) (f : Fate) → start f ≡ some s → Meets (from (earliestFor m n)) (NoSooner n (earliestFor m n)) m′ t f → earliestFor m n ≤ s
         started m′ waiting e o = absurd (let z : _≡_ {A = ℕ} 0 1 = cc in omega arith)
@@ -291,10 +315,10 @@ module _ {κ : Kind} {Fit : Model → Type 0} {OnCourse : Model → ℕ → ℕ 
         started m′ (ended x) e o = let z : x ≡ s = cc in omega arith
         started m′ (withdrawn x) e o = absurd (let z : _≡_ {A = ℕ} 0 1 = cc in omega arith)
 
-    pub no-sooner-call : (n : ℕ) (m : Model) (t s : ℕ) (cs : List Call) → Fit m → WaitsFor m t n
+    pub no-sooner-call : (n : ℕ) (m : Model) (t s : ℕ) (cs : List Call) → Fit m → WaitsFor m t n → NoneAmends t (events call m cs)
         → start (fateFrom (cleanup (m .settings)) (m .clock) t waiting (events call m cs)) ≡ some s → earliestFor m n ≤ s
-    no-sooner-call n m t s cs v w e =
-        no-sooner n m t s cs v w
+    no-sooner-call n m t s cs v w u e =
+        no-sooner n m t s cs v w (subst (NoneAmends t) (same-events L m cs v) u)
         (subst (λ (es : List Event). start (fateFrom (cleanup (m .settings)) (m .clock) t waiting es) ≡ some s) (same-events L m cs v) e)
 
 -- ## For the reader
@@ -313,25 +337,27 @@ answered m t a = by (first (departsAs Cancel t) (m .jobs)) refl
         (j .nodes, record { job = j; inside = i .0; waits = b .0; named = eqb-true (j .ticket) t (b .1); asks = refl }, rw e)
 
 -- From a valid model of either kind and for every list of calls that follows: by the calls and their answers, the job starts no sooner than
--- the minute given.
+-- the minute given, as long as none of them amends it.
 pub starts-no-sooner : (m : Model) (t s : ℕ) (cs : List Call) → Valid m → accepts (earliestStart m t .refusal) ≡ true
-    → start (fateFrom (cleanup (m .settings)) (m .clock) t waiting (events call m cs)) ≡ some s → earliestStart m t .minute ≤ s
-starts-no-sooner m t s cs v a e =
+    → NoneAmends t (events call m cs) → start (fateFrom (cleanup (m .settings)) (m .clock) t waiting (events call m cs)) ≡ some s
+    → earliestStart m t .minute ≤ s
+starts-no-sooner m t s cs v a u e =
     let w = answered m t a in
     omega (arith, w .2, by (m .settings .kind) v (w .0) (w .1))
   where
     by : (k : Kind) → ValidBy k m → (n : ℕ) → WaitsFor m t n → earliestFor m n ≤ s
-    by Conservative v n w = no-sooner-call conservative-lawful conservative-ticketed n m t s cs v w e
-    by Easy v n w = no-sooner-call easy-lawful easy-ticketed n m t s cs v w e
+    by Conservative v n w = no-sooner-call conservative-lawful conservative-ticketed n m t s cs v w u e
+    by Easy v n w = no-sooner-call easy-lawful easy-ticketed n m t s cs v w u e
 
 -- The same of the job's entry in a book, whatever the book has said before: where the entry waits when the minute is given, its start in the
 -- book after the calls that follow is no sooner.
 pub entry-no-sooner : (m : Model) (b : Book) (cs : List Call) (i s : ℕ) (z : Entry) → Valid m → b .clock ≡ m .clock → i < length (b .entries)
     → getD (b .entries) i z .fate ≡ waiting → accepts (earliestStart m (getD (b .entries) i z .ticket) .refusal) ≡ true
-    → start (getD (bookFrom m b (events call m cs) .entries) i z .fate) ≡ some s → earliestStart m (getD (b .entries) i z .ticket) .minute ≤ s
-entry-no-sooner m b cs i s z v c l w a e =
+    → NoneAmends (getD (b .entries) i z .ticket) (events call m cs) → start (getD (bookFrom m b (events call m cs) .entries) i z .fate) ≡ some s
+    → earliestStart m (getD (b .entries) i z .ticket) .minute ≤ s
+entry-no-sooner m b cs i s z v c l w a u e =
     let t = getD (b .entries) i z .ticket in
     let f = entry-fate (unit (m .settings)) (cleanup (m .settings)) b (events call m cs) i z l
     ∙ ap (λ (f : Fate). fateFrom (cleanup (m .settings)) (b .clock) t f (events call m cs)) w
     ∙ ap (λ (x : ℕ). fateFrom (cleanup (m .settings)) x t waiting (events call m cs)) c in
-    starts-no-sooner m t s cs v a (ap start (sym f) ∙ e)
+    starts-no-sooner m t s cs v a u (ap start (sym f) ∙ e)

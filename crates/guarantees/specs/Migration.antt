@@ -6,7 +6,7 @@ use Prim.Native.Nat.{ℕ, _≤_}
 use native.Mathlib.Omega.{arith}
 use mathlib.Core.Path.{_≡_, refl, sym, ap, subst, _∙_}
 use mathlib.Core.Bool.{true, false}
-use mathlib.Core.List.{List, [], _∷_}
+use mathlib.Core.List.{List}
 use mathlib.Core.Option.{some}
 use Rattle.lists.specs.Tests.{true-false}
 use Rattle.lists.specs.Lists.{keep, In, in-map, map-in, in-keep}
@@ -26,20 +26,19 @@ use Rattle.jobs.specs.Soundness as soundness
 use Rattle.history.specs.Calls.{Call, after, events, Event}
 use Rattle.history.specs.Book.{Fate, waiting, running, cleaning, ended, withdrawn, Entry, Book, waits, isWaiting, lowest, start, fateFrom}
 use Rattle.history.specs.Beginning.{fateBy, entryOf, beginning}
-use Rattle.history_proof.specs.Obligations.{JobShown, shown, live, Lawful, Seeded, Meets}
+use Rattle.history_proof.specs.Obligations.{JobShown, shown, live, Meets}
 use Rattle.history_proof.specs.Seen.{seen, isLiveEntry}
-use Rattle.history_proof.specs.Proof.{OnTime, Agrees, InStep, follows}
-use Rattle.history_proof.specs.Beginnings.{beginning-agrees}
+use Rattle.history_proof.specs.Proof.{OnTime, Agrees, InStep}
 use Rattle.conservative_laws.specs.Tightness.{Tight}
 use Rattle.easy_laws.specs.Course.{OnCourse}
 use Rattle.easy_laws.specs.Validity.{Valid}
 use Rattle.easy_laws.specs.Obligations.{easy-lawful, easy-seeded}
 use Rattle.checkpoint_rules.specs.Texts.{deskText, restored}
 use Rattle.checkpoint_laws.specs.Restored.{ValidAs}
-use Rattle.guarantees.specs.Rules.{rulesOf, call}
+use Rattle.guarantees.specs.Rules.{call}
 use Rattle.guarantees.specs.Premise as premise
 use Rattle.guarantees.specs.Premise.{valid-sound}
-use Rattle.guarantees.specs.Statement.{bookOf, Start, changes, startOf, by-rules, same-events}
+use Rattle.guarantees.specs.Statement.{bookOf, Start, changes, startOf, same-events, same-after, in-step-after, in-step-first}
 use Rattle.guarantees.specs.Proof.{change-valid, start-valid, demand3}
 use Rattle.guarantees.specs.Restored.{valid-comes-back}
 use Rattle.guarantees.specs.NoGaps.{stays-tight}
@@ -52,7 +51,7 @@ use Rattle.conservative_laws.specs.Obligations.{conservative-lawful}
 use Rattle.conservative_laws.specs.Sentences.{conservative-ticketed}
 use Rattle.easy_laws.specs.Withdrawal.{easy-ticketed}
 use Rattle.easy_rules.specs.EarliestStart.{earliestFor, earliestStart}
-use Rattle.guarantees.specs.EarliestStart.{WaitsFor, from, NoSooner, answered, holds-on, no-sooner-call}
+use Rattle.guarantees.specs.EarliestStart.{WaitsFor, NoneAmends, from, NoSooner, answered, holds-on, no-sooner-call}
 use Rattle.migration_laws.specs.Soonest.{same-soonest}
 
 -- ## What the new list has of a job that waits
@@ -120,18 +119,10 @@ module _ (m : Model) (b : Book) (v : Valid m) (a : Agrees Easy OnCourse m b) (d 
 
 -- ## From a start on
 
-module _ {k : Kind} {Valid : Model → Type 0} {OnCourse : Model → ℕ → ℕ → Type 0} (L : Lawful k (rulesOf k) Valid OnCourse) (G : Seeded k Valid OnCourse) where
-  same-after : (m : Model) (cs : List Call) → Valid m → after call m cs ≡ after (rulesOf k) m cs
-  same-after m [] v = refl
-  same-after m (c ∷ cs) v =
-      ap (λ (x : Model). after call x cs) (ap (λ r. r .model) (by-rules L m c v)) ∙ same-after (rulesOf k m c .model) cs (L .valid m c v)
-
-  -- model and book after a list of calls are in step
-  in-step : (m : Model) (cs : List Call) → Valid m → InStep L (unit (m .settings)) (cleanup (m .settings)) (after call m cs) (bookOf m (events call m cs))
-  in-step m cs v =
-      rw (same-after m cs v, same-events L m cs v)
-      (follows L (unit (m .settings)) (cleanup (m .settings)) m (beginning m) cs
-      (record { valid = v; agrees = beginning-agrees L G m v; unit-is = refl; cleanup-is = refl }))
+-- model and book after a list of calls are in step
+in-step : (m : Model) (cs : List Call) → Valid m
+    → InStep easy-lawful (unit (m .settings)) (cleanup (m .settings)) (after call m cs) (bookOf m (events call m cs))
+in-step m cs v = in-step-after easy-lawful (unit (m .settings)) (cleanup (m .settings)) m (beginning m) cs (in-step-first easy-lawful easy-seeded m v)
 
 -- of an EASY scheduler the change is that of the definition
 changed-is : (m : Model) → m .settings .kind ≡ Easy → changed m ≡ migrated m
@@ -162,7 +153,7 @@ pub record AroundChange (s : Start) (cs : List Call) (es : List Event) (ds : Lis
 pub around-change : (s : Start) (cs ds : List Call) → startOf s .settings .kind ≡ Easy
     → AroundChange s cs (events call (startOf s) cs) ds (events call (startOf (changes s cs)) ds)
 around-change s cs ds e =
-    let i = in-step easy-lawful easy-seeded (startOf s) cs (subst (λ (k : Kind). ValidAs k (startOf s)) e (start-valid s)) in
+    let i = in-step (startOf s) cs (subst (λ (k : Kind). ValidAs k (startOf s)) e (start-valid s)) in
     let m = after call (startOf s) cs in
     let b = bookOf (startOf s) (events call (startOf s) cs) in
     let q = changed-is m (i .valid .ready .kind) in
@@ -193,34 +184,35 @@ waits-over m v t n w =
       asks = ap (λ (j : Job). j .nodes) (p .1 .job-is) ∙ w .asks;
     }
 
--- It holds over the change: where the job waits still when the change comes, it starts by no later call before the minute that was given of it.
+-- It holds over the change: where the job waits still when the change comes, it starts by no later call before the minute that was given of it,
+-- as long as its order is not amended.
 -- (Before the change: `starts-no-sooner`.)
 module _ (m : Model) (v : Valid m) (t : ℕ) (a : accepts (earliestStart m t .refusal) ≡ true) (cs : List Call)
-    (f : fateFrom (cleanup (m .settings)) (m .clock) t waiting (events call m cs) ≡ waiting) where
+    (f : fateFrom (cleanup (m .settings)) (m .clock) t waiting (events call m cs) ≡ waiting) (u : NoneAmends t (events call m cs)) where
   abbrev old : Model
   old = after call m cs
 
   abbrev changed-now : Model
   changed-now = migrated old
 
-  pub no-sooner-after-change : (s : ℕ) (ds : List Call)
+  pub no-sooner-after-change : (s : ℕ) (ds : List Call) → NoneAmends t (events call changed-now ds)
       → start (fateFrom (cleanup (changed-now .settings)) (changed-now .clock) t waiting (events call changed-now ds)) ≡ some s
       → earliestStart m t .minute ≤ s
-  no-sooner-after-change s ds e =
+  no-sooner-after-change s ds u′ e =
       let w = answered m t a in
       let n = w .0 in
       let b = earliestFor m n in
-      let i = in-step easy-lawful easy-seeded m cs v .valid in
-      let h = holds-on easy-lawful easy-ticketed n b m t waiting cs v (w .1, omega arith) in
+      let i = in-step m cs v .valid in
+      let h = holds-on easy-lawful easy-ticketed n b m t waiting cs v (subst (NoneAmends t) (same-events easy-lawful m cs v) u) (w .1, omega arith) in
       let g : NoSooner n b old t =
       subst (λ (g : Fate). Meets (from b) (NoSooner n b) old t g) f
-      (rw (same-after easy-lawful easy-seeded m cs v, same-events easy-lawful m cs v) h) in
+      (rw (same-after easy-lawful m cs v, same-events easy-lawful m cs v) h) in
       omega (
         arith,
         w .2,
         g .1,
         same-soonest old i n,
-        no-sooner-call conservative-lawful conservative-ticketed n changed-now t s ds (migrated-valid old i) (waits-over old i t n (g .0)) e,
+        no-sooner-call conservative-lawful conservative-ticketed n changed-now t s ds (migrated-valid old i) (waits-over old i t n (g .0)) u′ e,
       )
 
 -- ## Its lines (document 02, No. 11)

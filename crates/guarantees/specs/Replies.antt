@@ -13,7 +13,7 @@ use Rattle.scheduler.specs.declared.Kind.{Kind}
 use Rattle.scheduler.specs.declared.Kind.the-variants.{Conservative, Easy}
 use Rattle.scheduler.specs.Table.{tickets}
 use Rattle.scheduler.specs.Model.{Model}
-use Rattle.scheduler.specs.Answers.{Forecast, headTicket, headMinute, answer, ticketsIn, forecastIn, replyOf}
+use Rattle.scheduler.specs.Answers.{Reply, Forecast, headTicket, headMinute, answer, ticketsIn, forecastIn, replyOf}
 use Rattle.jobs.specs.Order.{asc-in}
 use Rattle.history.specs.Calls.{Call}
 use Rattle.conservative_laws.specs.Obligations.{conservative-lawful}
@@ -38,15 +38,20 @@ head-from Easy m c v f e =
     let w = easy-lawful .forecasts m c f v e .waits in
     omega (arith, w .named, asc-in 1 _ (easy-lawful .valid m c v .ready .sound .asc) (w .isin))
 
+pub head-ticket : (m : Model) (c : Call) → Valid m → (f : Forecast) → call m c .reply .head ≡ some f → 1 ≤ f .ticket
+head-ticket m c v = head-from (m .settings .kind) m c v
+
+-- of any reply in which a head has a ticket
+pub replied-back : (r : Reply) → ((f : Forecast) → r .head ≡ some f → 1 ≤ f .ticket) → replyOf (answer r) ≡ r
+replied-back r h = λ i. record {
+  refusal = r .refusal;
+  ticket = r .ticket;
+  promise = r .promise;
+  reads = r .reads;
+  ended = tickets-back (r .ended) i;
+  started = tickets-back (r .started) i;
+  head = forecast-back (r .head) h i;
+}
+
 pub reply-back : (m : Model) (c : Call) → Valid m → replyOf (answer (call m c .reply)) ≡ call m c .reply
-reply-back m c v =
-    let r = call m c .reply in
-    λ i. record {
-      refusal = r .refusal;
-      ticket = r .ticket;
-      promise = r .promise;
-      reads = r .reads;
-      ended = tickets-back (r .ended) i;
-      started = tickets-back (r .started) i;
-      head = forecast-back (r .head) (head-from (m .settings .kind) m c v) i;
-    }
+reply-back m c v = replied-back (call m c .reply) (head-ticket m c v)

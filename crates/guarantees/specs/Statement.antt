@@ -2,7 +2,7 @@
 -- from what a kind owes of each call, its proof.
 -- Assumes nothing.
 use mathlib.Core.Path.{_≡_, refl, ap, subst, _∙_}
-use mathlib.Core.List.{List, [], _∷_}
+use mathlib.Core.List.{List, [], _∷_, _++_}
 use Prim.Native.Nat.{ℕ, _+_}
 use lib.ListN.{take}
 use Rattle.walltime.specs.WallTime.{wallTime}
@@ -12,6 +12,7 @@ use Rattle.scheduler.specs.declared.Settings.{Settings}
 use Rattle.scheduler.specs.Settings.{longest, cleanup, runTime, unit}
 use Rattle.scheduler.specs.Times.{longest-is, cleanup-is, hold-is}
 use Rattle.scheduler.specs.Model.{Model}
+use Rattle.scheduler.specs.Answers.{Result}
 use Rattle.scheduler.specs.Opening.{opening}
 use Rattle.checkpoint_rules.specs.Texts.{restored}
 use Rattle.migration_rules.specs.Migration.{changed}
@@ -22,7 +23,7 @@ use Rattle.history.specs.Beginning.{beginning}
 use Rattle.history.specs.Guarantee.{Guarantee}
 use Rattle.history_proof.specs.Obligations.{Lawful, Seeded}
 use Rattle.history_proof.specs.Beginnings.{beginning-agrees}
-use Rattle.history_proof.specs.Proof.{Agrees, guaranteed, settings-after}
+use Rattle.history_proof.specs.Proof.{Agrees, InStep, follows, guaranteed, settings-after}
 use Rattle.guarantees.specs.Rules.{rulesOf, call}
 
 -- what calls and their answers say: from a model and a book on, and from a model on, whose jobs count as it has them
@@ -83,6 +84,15 @@ Demand3WithWaits =
     (s : Start) (qs : List Command) (i : ℕ)
     → Guarantee (startOf s .settings .kind) (startOf s .settings) (bookOf (startOf s) (events call (startOf s) (take i (allCalls call (startOf s) qs))))
 
+-- two lists of calls, one after the other
+pub after-append : (m : Model) (cs ds : List Call) → after call m (cs ++ ds) ≡ after call (after call m cs) ds
+after-append m [] ds = refl
+after-append m (c ∷ cs) ds = after-append (call m c .model) cs ds
+
+pub events-append : (m : Model) (cs ds : List Call) → events call m (cs ++ ds) ≡ events call m cs ++ events call (after call m cs) ds
+events-append m [] ds = refl
+events-append m (c ∷ cs) ds = ap (λ (es : List Event). record { call = c; reply = call m c .reply } ∷ es) (events-append (call m c .model) cs ds)
+
 module _ {k : Kind} {Valid : Model → Type 0} {OnCourse : Model → ℕ → ℕ → Type 0} (L : Lawful k (rulesOf k) Valid OnCourse) where
   -- a valid model of the kind goes by the kind's rules
   pub by-rules : (m : Model) (c : Call) → Valid m → call m c ≡ rulesOf k m c
@@ -92,6 +102,18 @@ module _ {k : Kind} {Valid : Model → Type 0} {OnCourse : Model → ℕ → ℕ
   same-events m [] v = refl
   same-events m (c ∷ cs) v = rw (by-rules m c v)
       (ap (λ (es : List Event). record { call = c; reply = rulesOf k m c .reply } ∷ es) (same-events (rulesOf k m c .model) cs (L .valid m c v)))
+
+  pub same-after : (m : Model) (cs : List Call) → Valid m → after call m cs ≡ after (rulesOf k) m cs
+  same-after m [] v = refl
+  same-after m (c ∷ cs) v = ap (λ (r : Result). after call (r .model) cs) (by-rules m c v) ∙ same-after (rulesOf k m c .model) cs (L .valid m c v)
+
+  -- model and book stay in step through every list of calls
+  pub in-step-after : (u p : ℕ) (m : Model) (b : Book) (cs : List Call) → InStep L u p m b → InStep L u p (after call m cs) (enterAll u p b (events call m cs))
+  in-step-after u p m b cs f = rw (same-after m cs (f .valid), same-events m cs (f .valid)) (follows L u p m b cs f)
+
+  -- and are so where a list begins
+  pub in-step-first : Seeded k Valid OnCourse → (m : Model) → Valid m → InStep L (unit (m .settings)) (cleanup (m .settings)) m (beginning m)
+  in-step-first G m v = record { valid = v; agrees = beginning-agrees L G m v; unit-is = refl; cleanup-is = refl }
 
   -- from any book that agrees with a valid model
   pub from-seed : (m : Model) (b : Book) (cs : List Call) → Valid m → Agrees k OnCourse m b → Guarantee k (m .settings) (bookFrom m b (events call m cs))

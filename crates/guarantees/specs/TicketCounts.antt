@@ -2,7 +2,7 @@
 -- Assumes nothing.
 use mathlib.Core.Path.{_≡_, refl}
 use mathlib.Core.Bool.{not, _&&_}
-use mathlib.Core.List.{List, [], _∷_}
+use mathlib.Core.List.{List, [], _∷_, map}
 use mathlib.Core.Option.{Option, none, some}
 use Prim.Native.Nat.{ℕ, zero, suc, _≤_}
 use native.Mathlib.Omega.{arith}
@@ -21,9 +21,10 @@ use Rattle.scheduler.specs.Model.{Model, ending, joined, without}
 use Rattle.scheduler.specs.declared.Refusal.{Refusal}
 use Rattle.scheduler.specs.Answers.{Result, refuse}
 use Rattle.scheduler.specs.Refusals.{departRefusal, tickRefusal}
+use Rattle.scheduler.specs.Amending.{inPlaceRefusal, supersede, inPlace}
 use Rattle.jobs.specs.Soundness.{Sound, fit-room, submit-fit}
 use Rattle.jobs.specs.Judgement.{judged-by}
-use Rattle.history.specs.Calls.{Call, submit, depart, tick, unchanged}
+use Rattle.history.specs.Calls.{Call, submit, depart, tick, amend, unchanged}
 use Rattle.conservative_rules.specs.Conservative as conservative
 use Rattle.easy_rules.specs.Easy as easy
 use Rattle.guarantees.specs.Rules.{rulesOf, call}
@@ -43,12 +44,12 @@ remain-few m clock s =
       length-keep-le (λ (j : Job). not (leaves (m .settings) s j)) (m .jobs),
     )
 
-begun-few : (js ks : List Job) → length (conservative.begun js ks) ≤ length js
+pub begun-few : (js ks : List Job) → length (conservative.begun js ks) ≤ length js
 begun-few [] ks = omega arith
 begun-few (j ∷ js) [] = omega arith
 begun-few (j ∷ js) (k ∷ ks) = case (isWaiting j && isRunning k) (λ e. rw e (omega (arith, begun-few js ks))) (λ e. rw e (omega (arith, begun-few js ks)))
 
-settle-few : (n : ℕ) (m : Model) → length (easy.settle n m .started) ≤ n
+pub settle-few : (n : ℕ) (m : Model) → length (easy.settle n m .started) ≤ n
 unfolding easy.settle
 settle-few zero m = omega arith
 settle-few (suc n) m = go (λ a. settle-few n a) (easy.choice m) refl
@@ -74,7 +75,7 @@ unfolding easy.advanced
 leaving-fits m clock s h = finished-fits m (without m clock s) 0 _ (left-few s (m .jobs) h)
     (omega (arith, remain-few m clock s))
 
-refused-fits : (m : Model) (r : Refusal) → FitsAnswer (refuse m r)
+pub refused-fits : (m : Model) (r : Refusal) → FitsAnswer (refuse m r)
 refused-fits m r = record { ended = omega arith; started = omega arith }
 
 fits-by : (k : Kind) (m : Model) (c : Call) → Sound m → FitsAnswer (rulesOf k m c)
@@ -84,6 +85,8 @@ unfolding
     conservative.submitted
     conservative.departed
     conservative.ticked
+    conservative.amendedTo
+    conservative.amended
     easy.call
     easy.submitRefusal
     easy.advanced
@@ -95,6 +98,13 @@ fits-by Conservative m (submit o) h =
 fits-by Conservative m (depart i t) h = judged-by FitsAnswer m (departRefusal m i t) (conservative.departed m i t) (λ a. advanced-fits m _ _ _ (h .few))
     (λ a. refused-fits m _)
 fits-by Conservative m tick h = judged-by FitsAnswer m (tickRefusal m) (conservative.ticked m) (λ a. advanced-fits m _ _ _ (h .few)) (λ a. refused-fits m _)
+fits-by Conservative m (amend a) h =
+    judged-by FitsAnswer m (inPlaceRefusal m a) (conservative.amended m a)
+    (λ x. record {
+      ended = omega arith;
+      started = omega (arith, begun-few (map (supersede a) (m .jobs)) (conservative.amended m a .model .jobs), length-map (m .jobs) (supersede a), h .few);
+    })
+    (λ x. refused-fits m _)
 fits-by Conservative m (unchanged r) h = refused-fits m _
 fits-by Easy m (submit o) h =
     let j = easy.newJob m o in
@@ -105,6 +115,10 @@ fits-by Easy m (depart i t) h = judged-by FitsAnswer m (departRefusal m i t) (ea
     (λ a. leaving-fits m _ (select.Departing i t) (h .few)) (λ a. refused-fits m _)
 fits-by Easy m tick h = judged-by FitsAnswer m (tickRefusal m) (easy.advanced m (suc (m .clock)) (ending m))
     (λ a. leaving-fits m _ (ending m) (h .few)) (λ a. refused-fits m _)
+fits-by Easy m (amend a) h =
+    judged-by FitsAnswer m (inPlaceRefusal m a) (easy.finished m (inPlace m a) (a .ticket) [])
+    (λ x. finished-fits m (inPlace m a) (a .ticket) [] (omega arith) (omega (arith, length-map (m .jobs) (supersede a), h .few)))
+    (λ x. refused-fits m _)
 fits-by Easy m (unchanged r) h = refused-fits m _
 
 pub call-fits : (m : Model) (c : Call) → Sound m → FitsAnswer (call m c)

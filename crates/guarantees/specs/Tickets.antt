@@ -16,10 +16,11 @@ use Rattle.scheduler.specs.Table.{ends, endedOf}
 use Rattle.scheduler.specs.Model.{Model, ending}
 use Rattle.scheduler.specs.Answers.{Result, accepts}
 use Rattle.scheduler.specs.Refusals.{departRefusal, tickRefusal}
+use Rattle.scheduler.specs.Amending.{inPlaceRefusal}
 use Rattle.jobs.specs.Order.{asc-keep}
 use Rattle.jobs.specs.Soundness.{Sound}
 use Rattle.jobs.specs.Judgement.{judged-by}
-use Rattle.history.specs.Calls.{Call, submit, depart, tick, unchanged, events}
+use Rattle.history.specs.Calls.{Call, submit, depart, tick, amend, unchanged, events}
 use Rattle.history.specs.News.{Newcomer, newsOf}
 use Rattle.history.specs.Tickets.{givenTicket, nextAfter, ticketsGiven, Upward}
 use Rattle.conservative_laws.specs.Sentences as conservative
@@ -54,6 +55,7 @@ module _ (m : Model) (ts : List ℕ) where
       case (accepts (call m (submit o) .reply .refusal)) (λ a. rw a (λ u. (ticket-by (m .settings .kind) m o a, u))) (λ a. rw a (λ u. u))
   one-more (depart h t) = none-more (depart h t) (no-newcomers (accepts (call m (depart h t) .reply .refusal)))
   one-more tick = none-more tick (no-newcomers (accepts (call m tick .reply .refusal)))
+  one-more (amend a) = none-more (amend a) (no-newcomers (accepts (call m (amend a) .reply .refusal)))
   one-more (unchanged w) = none-more (unchanged w) (no-newcomers (accepts (call m (unchanged w) .reply .refusal)))
 
 pub tickets-upward : (m : Model) (cs : List Call) → Valid m → Upward (m .next) (ticketsGiven (events call m cs))
@@ -82,6 +84,7 @@ ended-by Easy m (depart h t) v = judged-by Ascends m (departRefusal m h t) (rule
     (λ a. ended-ascend m (select.Departing h t) (v .ready .sound)) (λ a. tt)
 ended-by Easy m tick v = judged-by Ascends m (tickRefusal m) (rules.advanced m (suc (m .clock)) (ending m))
     (λ a. ended-ascend m (ending m) (v .ready .sound)) (λ a. tt)
+ended-by Easy m (amend a) v = judged-by Ascends m (inPlaceRefusal m a) _ (λ x. tt) (λ x. tt)
 ended-by Easy m (unchanged w) v = tt
 
 pub ended-rise : (m : Model) (c : Call) → Valid m → Rising 1 (call m c .reply .ended)

@@ -7,10 +7,11 @@ use Prim.Native.Nat.{ℕ, suc, _+_, _*_, min}
 use lib.Dec.{eqb, ltb}
 use lib.ListN.{length}
 use Rattle.lists.specs.Lists.{keep, elem}
+use Rattle.scheduler.specs.declared.Amendment.{Amendment}
 use Rattle.scheduler.specs.declared.Tenant.{Tenant}
 use Rattle.scheduler.specs.Answers.{Forecast}
 use Rattle.history.specs.Calls.{Event}
-use Rattle.history.specs.News.{Newcomer, News, news, clockAfter}
+use Rattle.history.specs.News.{Newcomer, amendedTicket, amendedNodes, amendedLeast, News, news, clockAfter}
 
 -- "It has started once a call, its intake or a later one, gives its ticket among those started; the start is the clock after that
 -- call. It runs from then until a call gives its ticket among those ended. It waits from intake until it has started (or a later request's call takes it out)."
@@ -29,7 +30,7 @@ pub record Entry : Type 0 where
   pub ticket : ℕ
   pub nodes : ℕ
   pub promise : ℕ
-  -- the house and the least that its intake named
+  -- the house that its intake named, and the least last asked for it
   pub tenant : Tenant
   pub least : ℕ
   -- "Its bound is the clock at intake + r × 10,080."; none of a job that had started before the list began
@@ -43,7 +44,7 @@ pub record Entry : Type 0 where
 pub record Book : Type 0 where
   pub clock : ℕ
   pub entries : List Entry
-  -- tickets that calls started or withdrew though no such job waited, or did both
+  -- tickets that calls started, withdrew or amended though no such job waited, or both started and withdrew
   pub strays : List ℕ
 
 abbrev pub waits : Fate → Bool
@@ -113,13 +114,22 @@ abbrev pub fateFrom : (k c : ℕ) → ℕ → Fate → List Event → Fate
 fateFrom k c t f [] = f
 fateFrom k c t f (e ∷ es) = let c′ = clockAfter (news e) c in fateFrom k c′ t (fateAfter k c′ (news e) t f) es
 
-abbrev pub withFate : Entry → Fate → Entry
-withFate x f = record {
+-- "its nodes those last asked for it in a call not refused": what the last of these amendments that names this ticket asks, or as before
+abbrev pub lastAsked : (Amendment → ℕ) → List Amendment → (ticket before : ℕ) → ℕ
+lastAsked f [] t n = n
+lastAsked f (a ∷ more) t n = lastAsked f more t (cond (eqb (a .ticket) t) (f a) n)
+
+-- of a job that waits: to amend another is a stray
+abbrev pub askedOf : (Amendment → ℕ) → List Amendment → Fate → (ticket before : ℕ) → ℕ
+askedOf f amended g t n = cond (waits g) (lastAsked f amended t n) n
+
+abbrev pub withFate : List Amendment → Entry → Fate → Entry
+withFate amended x f = record {
   ticket = x .ticket;
-  nodes = x .nodes;
+  nodes = askedOf amendedNodes amended (x .fate) (x .ticket) (x .nodes);
   promise = x .promise;
   tenant = x .tenant;
-  least = x .least;
+  least = askedOf amendedLeast amended (x .fate) (x .ticket) (x .least);
   bound = x .bound;
   fate = f;
   headed = x .headed;
@@ -127,7 +137,7 @@ withFate x f = record {
 }
 
 abbrev pub marked : (k c : ℕ) → News → Entry → Entry
-marked k c e x = withFate x (fateAfter k c e (x .ticket) (x .fate))
+marked k c e x = withFate (e .amended) x (fateAfter k c e (x .ticket) (x .fate))
 
 -- "The head is the waiting stack with the lowest ticket."
 abbrev pub lowest : List ℕ → Option ℕ
@@ -143,10 +153,11 @@ queued xs = map entryTicket (keep isWaiting xs)
 abbrev pub headOf : List Entry → Option ℕ
 headOf xs = lowest (queued xs)
 
--- those that an event starts or withdraws, though none of these jobs waits, or that it both withdraws and starts
+-- those that an event starts, withdraws or amends, though none of these jobs waits, or that it both withdraws and starts
 abbrev pub stray : List Entry → News → List ℕ
 stray xs e =
-    keep (λ (t : ℕ). not (elem t (queued xs))) (e .withdrew)
+    keep (λ (t : ℕ). not (elem t (queued xs))) (map amendedTicket (e .amended))
+    ++ keep (λ (t : ℕ). not (elem t (queued xs))) (e .withdrew)
     ++ keep (λ (t : ℕ). elem t (e .withdrew) || not (elem t (queued xs))) (e .started)
 
 abbrev pub is : Option ℕ → ℕ → Bool

@@ -10,6 +10,7 @@ use native.Mathlib.Omega.{arith}
 use lib.ListN.{replicate}
 use Rattle.lists.specs.Lists.{sum, In, here, there, in-nil}
 use Rattle.scheduler.specs.declared.Kind.the-variants.{Conservative, Easy}
+use Rattle.scheduler.specs.declared.Refusal.{Refusal}
 use Rattle.scheduler.specs.declared.Refusal.the-variants as refusal
 use Rattle.scheduler.specs.declared.Job.{Job}
 use Rattle.scheduler.specs.declared.Settings.{Settings}
@@ -20,7 +21,7 @@ use Rattle.scheduler.specs.declared.Tenant.the-variants.{A, B}
 use Rattle.scheduler.specs.Answers.{Forecast}
 use Rattle.scheduler.specs.Model.{Model}
 use Rattle.scheduler.specs.Settings as times
-use Rattle.history.specs.Calls.{submit, orderOf, cancel, tick, Event}
+use Rattle.history.specs.Calls.{submit, orderOf, cancel, tick, amend, Event}
 use Rattle.history.specs.News.{news}
 use Rattle.history.specs.Book.{Fate, waiting, running, cleaning, ended, withdrawn, Entry, Book, start, headOf, enter, enterAll}
 use Rattle.history.specs.Beginning.{beginning}
@@ -279,6 +280,61 @@ pub forecasts-of-three : map forecastOf (book
     ∷ []) .entries) ≡ some 1 ∷ some 5 ∷ none ∷ []
 unfolding enter
 forecasts-of-three = refl
+
+-- ## Corrected orders
+
+-- an order amended in place, or refused, with the tickets that start
+abbrev amended : Refusal → (ticket nodes least : ℕ) → List ℕ → Event
+amended r t n l ss = record {
+  call = amend (record { ticket = t; nodes = n; estimate = 5; least = l });
+  reply = record { refusal = r; ticket = t; promise = 9; reads = 0; ended = []; started = ss; head = none };
+}
+
+-- 6 nodes run, and a job of 4 waits; then these events
+abbrev six-and-four : List Event → Book
+six-and-four es = book (taken 1 6 0 (1 ∷ []) none ∷ taken 2 4 2 [] (some (record { ticket = 2; minute = 1 })) ∷ es)
+
+-- "its nodes those last asked for it": 5 are asked for it, and it starts
+pub nodes-asked-anew : Guarantee Conservative ten (six-and-four (amended refusal.None 2 5 0 (2 ∷ []) ∷ [])) → ⊥
+unfolding enter
+nodes-asked-anew g = let w = g .within in absurd (omega arith)
+
+-- "last asked for it in a call not refused": the last that was taken asks 2
+pub nodes-last-asked :
+    sum held-nodes (six-and-four
+    (amended refusal.None 2 3 0 []
+    ∷ amended refusal.None 2 2 0 []
+    ∷ amended refusal.NotWaiting 2 9 0 []
+    ∷ ticked (2 ∷ [])
+    ∷ []) .entries) ≡ 8
+unfolding enter
+nodes-last-asked = refl
+
+abbrev askedFor : Entry → ℕ × ℕ
+askedFor x = (x .nodes, x .least)
+
+-- of the job that is named, and of no other
+pub asked-of-both : map askedFor (six-and-four (amended refusal.None 2 3 1 [] ∷ []) .entries) ≡ (6, 0) ∷ (3, 1) ∷ []
+unfolding enter
+asked-of-both = refl
+
+-- the promise, the bound and the forecast that it had stay, in whatever minute it is amended, and bind
+pub bounds-amended : map boundOf (six-and-four (idle ∷ amended refusal.None 2 3 0 [] ∷ []) .entries) ≡ some 10080 ∷ some 10080 ∷ []
+unfolding enter
+bounds-amended = refl
+
+pub promise-amended : Guarantee Conservative ten (six-and-four (amended refusal.None 2 3 0 [] ∷ idle ∷ idle ∷ [])) → ⊥
+unfolding enter
+promise-amended g = never _ 2 refl (g .promises refl _ (there (here refl)) .starts refl (omega arith))
+
+pub forecast-amended : Guarantee Easy ten (six-and-four (amended refusal.None 2 3 0 [] ∷ idle ∷ [])) → ⊥
+unfolding enter
+forecast-amended g = never _ 1 refl (g .forecasts refl _ 1 (there (here refl)) refl .starts refl (omega arith))
+
+-- one is amended that runs
+pub running-amended : Guarantee Conservative ten (six-and-four (amended refusal.None 1 6 0 [] ∷ [])) → ⊥
+unfolding enter
+running-amended g = strayed [] 1 (g .starts)
 
 -- ## Jobs that are there when a list begins
 

@@ -16,12 +16,16 @@ use Rattle.scheduler.specs.declared.Request.the-variants as request
 use Rattle.scheduler.specs.Model.{Model}
 use Rattle.scheduler.specs.Answers.{Reply, Result, accepts}
 use Rattle.scheduler.specs.Refusals.{waitRefusal}
+use Rattle.scheduler.specs.declared.Amendment.{Amendment}
 
 pub data Call : Type 0 where
   submit : Submission → Call
   -- a job leaves: an early end, or a withdrawal (document 02, No. 1)
   depart : Departure → (ticket : ℕ) → Call
   tick : Call
+  -- a corrected order that does not grow (document 02, No. 13). One that grows counts as its withdrawal and its submission (`amendCalls` in
+  -- crates/amend_rules/specs/Amending.antt)
+  amend : Amendment → Call
   -- a call that leaves the scheduler as it is, and answers with this refusal or none: a profile, a refused wait
   unchanged : Refusal → Call
 

@@ -16,10 +16,10 @@ use Rattle.scheduler.specs.Settings.{cleanup}
 use Rattle.scheduler.specs.Model.{Model}
 use Rattle.history.specs.Calls.{Call, Rules}
 use Rattle.history.specs.News.{News, clockAfter}
-use Rattle.history.specs.Book.{Fate, waiting, running, cleaning, ended, withdrawn, fateAfter}
+use Rattle.history.specs.Book.{Fate, waiting, running, cleaning, ended, withdrawn, fateAfter, waits}
 use Rattle.history.specs.Beginning.{fateBy}
 use Rattle.history_proof.specs.Obligations.{JobShown, shown, isLive, live, remark, comers, said, Lawful}
-use Rattle.history_proof.specs.Departures.{shown-with}
+use Rattle.history_proof.specs.Departures.{shown-with, remark-started}
 
 -- its nodes are not free yet
 abbrev pub cleans : Fate → Bool
@@ -63,5 +63,5 @@ module _ {k : Kind} {R : Rules} {Valid : Model → Type 0} {OnCourse : Model →
       ap (fateAfter p (m′ .clock) (said R m c) (x .ticket)) f
       ∙ ap (λ (b : Bool). cond b (cleaning s n) (ended s)) (lt-ltb (m′ .clock) (n + p) (omega arith))
       ∙ sym f in
-      let same : remark p (m′ .clock) (said R m c) x ≡ x = shown-with x _ fate in
+      let same : remark p (m′ .clock) (said R m c) x ≡ x = remark-started p (m′ .clock) (said R m c) x (ap waits f) ∙ shown-with x _ fate in
       subst (λ (y : JobShown). In y (map shown (m′ .jobs))) same (lives-shown x i (ap live (fate ∙ f)))

@@ -30,22 +30,41 @@ use Rattle.jobs.specs.Order.{asc-in, job-elem, elem-picked}
 use Rattle.jobs.specs.Departing.{Ran}
 use Rattle.jobs.specs.Soundness.{SoundJob, Sound, Leaving, early, in-time, withdraws-waits, ends-runs, releases-cleaned, stays, cleans-on, cleaning-holds}
 use Rattle.history.specs.Calls.{Call}
-use Rattle.history.specs.News.{Newcomer, News, newsOf, nothing, clockAfter}
-use Rattle.history.specs.Book.{Fate, waiting, cleaning, ended, over, fateAfter}
+use Rattle.history.specs.News.{Newcomer, News, newsOf, nothing, clockAfter, amendedNodes, amendedLeast}
+use Rattle.history.specs.Book.{Fate, waiting, cleaning, ended, over, fateAfter, waits, askedOf}
 use Rattle.history.specs.Beginning.{fateBy}
 use Rattle.history_proof.specs.Obligations.{JobShown, shown, live, isLive, remark, shownAfter, newly, comers, Tells, Aim, Kept}
 use Rattle.history_proof.specs.Obligations.{Queued}
 
-pub shown-with : (x : JobShown) (f : Fate) → f ≡ x .fate
-    → _≡_ {A = JobShown} (record { ticket = x .ticket; nodes = x .nodes; promise = x .promise; tenant = x .tenant; least = x .least; fate = f }) x
-shown-with x f e = λ i. record { ticket = x .ticket; nodes = x .nodes; promise = x .promise; tenant = x .tenant; least = x .least; fate = e i }
+-- the same job with another fate
+abbrev pub refated : JobShown → Fate → JobShown
+refated x f = record { ticket = x .ticket; nodes = x .nodes; promise = x .promise; tenant = x .tenant; least = x .least; fate = f }
 
--- a job that waits does not run
-pub waits-runs : (s : State) → waiting? s ≡ true → running? s ≡ false
-waits-runs Unused w = refl
-waits-runs Waiting w = refl
-waits-runs Running w = true-false false w refl
-waits-runs Cleanup w = refl
+pub shown-with : (x : JobShown) (f : Fate) → f ≡ x .fate → refated x f ≡ x
+shown-with x f e = ap (refated x) e
+
+-- where nobody is amended, an event leaves of a job all but its fate
+pub remark-same : (k c : ℕ) (e : News) (x : JobShown) → e .amended ≡ []
+    → remark k c e x ≡ refated x (fateAfter k c e (x .ticket) (x .fate))
+remark-same k c e x n = λ i. record {
+  ticket = x .ticket;
+  nodes = nodes i;
+  promise = x .promise;
+  tenant = x .tenant;
+  least = least i;
+  fate = fateAfter k c e (x .ticket) (x .fate);
+}
+  where
+    nodes : askedOf amendedNodes (e .amended) (x .fate) (x .ticket) (x .nodes) ≡ x .nodes
+    nodes = ap (λ cs. askedOf amendedNodes cs (x .fate) (x .ticket) (x .nodes)) n ∙ case (waits (x .fate)) (λ w. rw w) (λ w. rw w)
+
+    least : askedOf amendedLeast (e .amended) (x .fate) (x .ticket) (x .least) ≡ x .least
+    least = ap (λ cs. askedOf amendedLeast cs (x .fate) (x .ticket) (x .least)) n ∙ case (waits (x .fate)) (λ w. rw w) (λ w. rw w)
+
+-- so of one that does not wait
+pub remark-started : (k c : ℕ) (e : News) (x : JobShown) → waits (x .fate) ≡ false
+    → remark k c e x ≡ refated x (fateAfter k c e (x .ticket) (x .fate))
+remark-started k c e x w = rw w
 
 -- a job that waits is in the queue
 pub queued-by : (m : Model) (t : ℕ) (j : Job) → In j (m .jobs) → isWaiting j ≡ true → j .ticket ≡ t → Queued m t
@@ -75,6 +94,7 @@ pub record Departs (m : Model) (c : ℕ) (s : Select) (e : News) : Type 0 where
   pub leaving : Leaving m c s
   pub ended-are : e .ended ≡ endedOf s (m .jobs)
   pub withdrew-are : e .withdrew ≡ ticketsOf (keep (withdraws s) (m .jobs))
+  pub none-amended : e .amended ≡ []
 
 module _ (m : Model) (c : ℕ) (s : Select) (e : News) (v : Sound m) (d : Departs m c s e) where
   abbrev S : Settings
@@ -147,8 +167,8 @@ module _ (m : Model) (c : ℕ) (s : Select) (e : News) (v : Sound m) (d : Depart
     departs-shown n p =
         let u = stays S s j n in
         case (ends s j)
-        (λ y. rw y (shown-with (shown (jobs.cleaning c j)) _ (ending-fate (ends-runs s j y) y (u .2 y))))
-        (λ y. rw y (shown-with (shown j) _ (same-fate y (u .0) (u .1))))
+        (λ y. rw y (remark-same k c e (shown j) (d .none-amended) ∙ shown-with (shown (jobs.cleaning c j)) _ (ending-fate (ends-runs s j y) y (u .2 y))))
+        (λ y. rw y (remark-same k c e (shown j) (d .none-amended) ∙ shown-with (shown j) _ (same-fate y (u .0) (u .1))))
       where
         ending-fate : isRunning j ≡ true → ends s j ≡ true → 1 ≤ k → fateAfter k c e (j .ticket) (fateBy (j .state) (j .start) (j .end)) ≡ cleaning (j .start) c
         ending-fate r y l = rw (running-is (j .state) r, says-ended, y) (over-holds k c (j .start) c (omega arith))
@@ -195,23 +215,24 @@ module _ (k c : ℕ) (e : News) where
 -- ## Nobody leaves
 
 -- no job has ticket 0
-nobody : Select
+pub nobody : Select
 nobody = select.Departing Complete 0
 
-module _ (m : Model) (e : News) (v : Sound m) (d : e .ended ≡ []) (w : e .withdrew ≡ []) where
-  none-ends : (j : Job) → In j (m .jobs) → ends nobody j ≡ false
+module _ (m : Model) (e : News) (v : Sound m) (d : e .ended ≡ []) (w : e .withdrew ≡ []) (n : e .amended ≡ []) where
+  pub none-ends : (j : Job) → In j (m .jobs) → ends nobody j ≡ false
   unfolding nobody
   none-ends j i = and-right-false (isRunning j) (ne-eqb (j .ticket) 0 (λ z. omega (arith, asc-in 1 (m .jobs) (v .asc) i)))
 
-  nobody-departs : Departs m (m .clock) nobody e
+  pub nobody-departs : Departs m (m .clock) nobody e
   unfolding nobody
   nobody-departs = record {
     leaving = early Complete 0;
     ended-are = d ∙ sym (ap ticketsOf (keep-none (ends nobody) (m .jobs) none-ends));
     withdrew-are = w ∙ sym (ap ticketsOf (keep-none (λ (j : Job). false) (m .jobs) (λ j i. refl)));
+    none-amended = n;
   }
 
-  none-leaves : (j : Job) → In j (m .jobs) → leaves (m .settings) nobody j ≡ false
+  pub none-leaves : (j : Job) → In j (m .jobs) → leaves (m .settings) nobody j ≡ false
   unfolding nobody
   none-leaves j i = rw (none-ends j i)
 
@@ -240,7 +261,7 @@ module _ (m : Model) (e : News) (v : Sound m) (d : e .ended ≡ []) (w : e .with
 -- where nothing is said, nothing has changed
 pub tells-nothing : (m : Model) (e : News) → Sound m → e ≡ nothing → Tells m e m
 tells-nothing m e v n =
-    subst (λ (x : News). Tells m x m) (sym n) (rw (append-nil (m .jobs)) at (tells-stay m nothing v refl refl [] (λ j i. refl) refl))
+    subst (λ (x : News). Tells m x m) (sym n) (rw (append-nil (m .jobs)) at (tells-stay m nothing v refl refl refl [] (λ j i. refl) refl))
 
 -- ## Whose run ends
 

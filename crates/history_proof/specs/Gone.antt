@@ -24,7 +24,7 @@ use Rattle.jobs.specs.Order.{asc-one, elem-job}
 use Rattle.jobs.specs.Departing.{Ran}
 use Rattle.jobs.specs.Soundness.{waiting-clean, running-clean}
 use Rattle.history.specs.Calls.{Call, Rules, Event, events}
-use Rattle.history.specs.News.{Newcomer, News, news, clockAfter}
+use Rattle.history.specs.News.{Newcomer, amendedTicket, News, news, clockAfter}
 use Rattle.history.specs.Tickets.{nextAfter}
 use Rattle.history.specs.Book.{over, fateAfter}
 use Rattle.history.specs.Beginning.{fateBy}
@@ -35,6 +35,7 @@ use Rattle.history_proof.specs.Cleaning.{cleans, cleans-job}
 -- an event says nothing of this ticket
 pub record Unsaid (t : ℕ) (e : News) : Type 0 where
   pub came : Comes e t → ⊥
+  pub amended : elem t (map amendedTicket (e .amended)) ≡ false
   pub withdrew : elem t (e .withdrew) ≡ false
   pub ended : elem t (e .ended) ≡ false
   pub started : elem t (e .started) ≡ false
@@ -160,6 +161,7 @@ module _ {k : Kind} {R : Rules} {Valid : Model → Type 0} {OnCourse : Model →
     gone-unsaid : (t : ℕ) → Gone m t → Unsaid t r
     gone-unsaid t g = record {
       came = new;
+      amended = never (map amendedTicket (r .amended)) (λ e. gone-waits m t g (L .amends m c t v e));
       withdrew = never (r .withdrew) (λ e. gone-waits m t g (L .withdraws m c t v e));
       ended = never (r .ended) (λ e. ran (T .ends m c t v e));
       started = never (r .started) (λ e. waited (L .starts m c t v e .1));

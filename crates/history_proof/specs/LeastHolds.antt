@@ -19,7 +19,7 @@ use Rattle.scheduler.specs.Model.{Model}
 use Rattle.jobs.specs.Order.{asc-one}
 use Rattle.history.specs.Calls.{Call, Rules}
 use Rattle.history.specs.News.{News}
-use Rattle.history.specs.Book.{Fate, waiting, running, cleaning, ended, withdrawn, over, fateAfter}
+use Rattle.history.specs.Book.{Fate, waiting, running, cleaning, ended, withdrawn, over, fateAfter, waits}
 use Rattle.history.specs.Beginning.{fateBy}
 use Rattle.history_proof.specs.Obligations.{JobShown, shown, live, isLive, remark, newly, comers, said, Lawful, Ticketed}
 use Rattle.history_proof.specs.Cleaning.{clock-rises}
@@ -44,11 +44,19 @@ allHeld m u t = sum (leastHeld (cleanup (m .settings)) (m .clock) u t) (map show
 
 module _ (k c c′ u : ℕ) (e : News) (up : c ≤ c′) (past : c′ ≤ u) where
   -- where one test implies another
-  implies : (a b : Bool) → (a ≡ true → b ≡ true) → (o : Bool) (n : ℕ) → on (o && a) n ≤ on (o && b) n
-  implies true b f true n = rw (f refl) (omega arith)
-  implies true b f false n = omega arith
-  implies false b f true n = omega arith
-  implies false b f false n = omega arith
+  implies : (a b : Bool) (n p : ℕ) → (a ≡ true → (b ≡ true) × (n ≡ p)) → (o : Bool) → on (o && a) n ≤ on (o && b) p
+  implies true b n p f true = rw (f refl .0) (omega (arith, f refl .1))
+  implies true b n p f false = omega arith
+  implies false b n p f true = omega arith
+  implies false b n p f false = omega arith
+
+  -- who holds nodes beyond u does not wait, so that nothing is asked anew for it
+  begun : (l : ℕ) (f : Fate) → beyond k c u l f ≡ true → waits f ≡ false
+  begun l waiting b = true-false false b refl
+  begun l (running s) b = refl
+  begun l (cleaning s n) b = refl
+  begun l (ended s) b = refl
+  begun l (withdrawn w) b = refl
 
   -- what is taken beyond u before the event is so after it, and where the job is live no longer, nothing was
   module _ (t l : ℕ) where
@@ -81,7 +89,8 @@ module _ (k c c′ u : ℕ) (e : News) (up : c ≤ c′) (past : c′ ≤ u) whe
     stays x r =
         let f = kept (x .ticket) (x .least) (x .fate) r in (
           λ q. case (beyond k c u (x .least) (x .fate)) (λ b. true-false (isLive (remark k c′ e x)) (f b .0) q) (λ b. rw b (none (not (eqb (x .ticket) t)))),
-          implies (beyond k c u (x .least) (x .fate)) (beyond k c′ u (x .least) (remark k c′ e x .fate)) (λ b. f b .1) (not (eqb (x .ticket) t)) (x .nodes),
+          implies (beyond k c u (x .least) (x .fate)) (beyond k c′ u (remark k c′ e x .least) (remark k c′ e x .fate)) (x .nodes) (remark k c′ e x .nodes)
+              (λ b. let w = begun (x .least) (x .fate) b in rw w (f b .1, refl)) (not (eqb (x .ticket) t)),
         )
       where
         none : (o : Bool) → on (o && false) (x .nodes) ≡ 0

@@ -1,6 +1,7 @@
 pub mod Obligations
 pub mod Departures
 pub mod Seen
+pub mod Amended
 pub mod Proof
 pub mod Beginnings
 pub mod Cleaning

@@ -21,9 +21,9 @@ use Rattle.scheduler.specs.Answers.{Forecast}
 use Rattle.jobs.specs.Departing.{Ran}
 use Rattle.jobs.specs.Soundness.{Sound}
 use Rattle.history.specs.Calls.{Call, Rules}
-use Rattle.history.specs.News.{Newcomer, News, newsOf, clockAfter}
+use Rattle.history.specs.News.{Newcomer, amendedTicket, News, newsOf, clockAfter, amendedNodes, amendedLeast}
 use Rattle.history.specs.Tickets.{nextAfter}
-use Rattle.history.specs.Book.{Fate, waiting, running, cleaning, ended, withdrawn, fateAfter, lowest}
+use Rattle.history.specs.Book.{Fate, waiting, running, cleaning, ended, withdrawn, fateAfter, lowest, askedOf}
 use Rattle.history.specs.Beginning.{fateBy}
 
 -- ## What calls and answers can show of a job
@@ -60,10 +60,10 @@ isLive x = live (x .fate)
 abbrev pub remark : (k c : ℕ) → News → JobShown → JobShown
 remark k c e x = record {
   ticket = x .ticket;
-  nodes = x .nodes;
+  nodes = askedOf amendedNodes (e .amended) (x .fate) (x .ticket) (x .nodes);
   promise = x .promise;
   tenant = x .tenant;
-  least = x .least;
+  least = askedOf amendedLeast (e .amended) (x .fate) (x .ticket) (x .least);
   fate = fateAfter k c e (x .ticket) (x .fate);
 }
 
@@ -164,6 +164,8 @@ pub record Lawful (k : Kind) (R : Rules) (Valid : Model → Type 0) (OnCourse : 
   pub starts : (m : Model) (c : Call) (t : ℕ) → Valid m → elem t (said R m c .started) ≡ true
       → (elem t (said R m c .withdrew) ≡ false) × (Queued m t ⊎ Comes (said R m c) t)
   pub withdraws : (m : Model) (c : Call) (t : ℕ) → Valid m → elem t (said R m c .withdrew) ≡ true → Queued m t
+  -- whoever is amended waited
+  pub amends : (m : Model) (c : Call) (t : ℕ) → Valid m → elem t (map amendedTicket (said R m c .amended)) ≡ true → Queued m t
   -- a ticket given is not that of the head
   pub fresh : (m : Model) (c : Call) (o : Newcomer) → Valid m → In o (said R m c .came) → lowestWaiting m ≡ some (o .ticket) → ⊥
   -- a forecast is kept, and on the Loose Desk whoever is head and was not before hears one

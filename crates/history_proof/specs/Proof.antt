@@ -23,7 +23,7 @@ use Rattle.scheduler.specs.Model.{Model}
 use Rattle.scheduler.specs.Answers.{Forecast}
 use Rattle.jobs.specs.Order.{elem-job}
 use Rattle.history.specs.Calls.{Call, Rules, after, events}
-use Rattle.history.specs.News.{Newcomer, News, clockAfter, withdraws-now}
+use Rattle.history.specs.News.{Newcomer, amendedTicket, News, clockAfter, withdraws-now}
 use Rattle.history.specs.Tickets.{givenTicket}
 use Rattle.history.specs.Book.{Fate, waiting, running, cleaning, ended, withdrawn, Entry, Book, waits, start, withdrawal, isWaiting, rank, entry, fateAfter, marked, lowest}
 use Rattle.history.specs.Book.{over, entryTicket, queued, headOf, is, given, hearing, heard, enter, enterAll}
@@ -103,20 +103,28 @@ given-told h F t e q = rw (e, eq-eqb (F .ticket) t q)
 
 -- what each call keeps of the start of a job that waits, it keeps of every job; and a call that withdraws passes no minute, so that a job
 -- withdrawn might still wait in the minute after it
-module _ (R : Rules) (Valid : Model → Type 0) (a : Aim) (Course : Model → ℕ → Type 0) (K : Keeps R Valid a Course)
+module _ (R : Rules) (Valid : Model → Type 0) (a : Aim) (Course : Model → ℕ → Type 0)
     (C : (m : Model) (c : Call) → Valid m → R m c .model .clock ≡ clockAfter (said R m c) (m .clock)) (m : Model) (c : Call) (v : Valid m) where
   over-kept : (p t now s n : ℕ) → a .mayStart s → Meets a Course (R m c .model) t (over p now s n)
   over-kept p t now s n o = case (ltb now (n + p)) (λ q. rw q o) (λ q. rw q o)
 
-  pub kept-after : (p t : ℕ) (f : Fate) → Meets a Course m t f → Meets a Course (R m c .model) t (fateAfter p (R m c .model .clock) (said R m c) t f)
-  kept-after p t waiting o =
+  -- of one job, where this one call keeps it so
+  pub kept-one : (p t : ℕ) → (Course m t → a .mayWait (m .clock))
+      → (Course m t → elem t (said R m c .withdrew) ≡ false → Kept a Course t (said R m c) (R m c .model)) → (f : Fate)
+      → Meets a Course m t f → Meets a Course (R m c .model) t (fateAfter p (R m c .model .clock) (said R m c) t f)
+  kept-one p t rest keeps waiting o =
       case (elem t (said R m c .withdrew))
-      (λ w. rw w (subst (a .mayWait) (sym (C m c v ∙ ap (λ (p : Bool). cond p (suc (m .clock)) (m .clock)) (withdraws-now c (R m c .reply) t w))) (K .rest m t v o)))
-      (λ w. K .keeps m c t v o w)
-  kept-after p t (running s) o = case (elem t (R m c .reply .ended)) (λ e. rw e (over-kept p t (R m c .model .clock) s (R m c .model .clock) o)) (λ e. rw e o)
-  kept-after p t (cleaning s n) o = over-kept p t (R m c .model .clock) s n o
-  kept-after p t (ended s) o = o
-  kept-after p t (withdrawn w) o = o
+      (λ w. rw w (subst (a .mayWait) (sym (C m c v ∙ ap (λ (p : Bool). cond p (suc (m .clock)) (m .clock)) (withdraws-now c (R m c .reply) t w))) (rest o)))
+      (λ w. keeps o w)
+  kept-one p t rest keeps (running s) o =
+      case (elem t (R m c .reply .ended)) (λ e. rw e (over-kept p t (R m c .model .clock) s (R m c .model .clock) o)) (λ e. rw e o)
+  kept-one p t rest keeps (cleaning s n) o = over-kept p t (R m c .model .clock) s n o
+  kept-one p t rest keeps (ended s) o = o
+  kept-one p t rest keeps (withdrawn w) o = o
+
+  pub kept-after : Keeps R Valid a Course → (p t : ℕ) (f : Fate) → Meets a Course m t f
+      → Meets a Course (R m c .model) t (fateAfter p (R m c .model .clock) (said R m c) t f)
+  kept-after K p t f o = kept-one p t (K .rest m t v) (K .keeps m c t v) f o
 
 module _ {k : Kind} {R : Rules} {Valid : Model → Type 0} {OnCourse : Model → ℕ → ℕ → Type 0} (L : Lawful k R Valid OnCourse) where
   -- ### the book after the call
@@ -211,7 +219,7 @@ module _ {k : Kind} {R : Rules} {Valid : Model → Type 0} {OnCourse : Model →
     on-time : (t d : ℕ) (f : Fate) → OnTime OnCourse m t f d → OnTime OnCourse m′ t (fateAfter p c′ r t f) d
     on-time t d f o =
         subst (λ (x : ℕ). OnTime OnCourse m′ t (fateAfter p x r t f) d) clock-after
-        (kept-after R Valid (by d) (For OnCourse d) (L .keeps d) (L .clock) m c v p t f o)
+        (kept-after R Valid (by d) (For OnCourse d) (L .clock) m c v (L .keeps d) p t f o)
 
     deadline-came : (x : Entry) (d : ℕ) → Came x → deadlineOf k x ≡ some d → OnTime OnCourse m′ (x .ticket) (fateAfter p c′ r (x .ticket) (x .fate)) d
     deadline-came x d (old y i) e = on-time (x .ticket) d (x .fate) (a .deadlines x d i e)
@@ -306,6 +314,8 @@ module _ {k : Kind} {R : Rules} {Valid : Model → Type 0} {OnCourse : Model →
     strays-after =
         rw (
           a .none-stray,
+          keep-none (λ (t : ℕ). not (elem t (queued xs))) (map amendedTicket (r .amended)) (λ t i.
+              ap not (in-queue t (inl (L .amends m c t v (in-elem (map amendedTicket (r .amended)) i))))),
           keep-none (λ (t : ℕ). not (elem t (queued xs))) (r .withdrew) (λ t i.
               ap not (in-queue t (inl (L .withdraws m c t v (in-elem (r .withdrew) i))))),
         )

@@ -122,7 +122,8 @@ queue-live xs =
 pub queue-seen : (xs : List Entry) → map entryTicket (keep isWaiting xs) ≡ queue (map seen xs)
 queue-seen xs = sym (ap (map shown-ticket) (keep-map waits-shown seen xs) ∙ map-map shown-ticket seen (keep isWaiting xs))
 
-waits-job : (s : State) (b n : ℕ) → live? s ≡ true → waits (fateBy s b n) ≡ waiting? s
+-- a live job waits by what it shows if it waits
+pub waits-job : (s : State) (b n : ℕ) → live? s ≡ true → waits (fateBy s b n) ≡ waiting? s
 waits-job Unused b n e = true-false false e refl
 waits-job Waiting b n e = refl
 waits-job Running b n e = refl

@@ -5,3 +5,4 @@ pub mod Judgement
 pub mod Slots
 pub mod Departing
 pub mod NoCleanup
+pub mod Amended

@@ -8,6 +8,8 @@ pub mod Times
 pub mod Model
 pub mod Answers
 pub mod Refusals
+pub mod Amending
 pub mod Opening
 pub mod TableLaws
 pub mod Computed
+pub mod AmendingComputed

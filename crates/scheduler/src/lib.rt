@@ -169,6 +169,14 @@ pub struct Submission {
     pub least: u32,
 }
 
+// A corrected order for the waiting job with this ticket (document 02, No. 13): what is asked for it from now on. Its tenant stays.
+pub struct Amendment {
+    pub ticket: u32,
+    pub nodes: u32,
+    pub estimate: u32,
+    pub least: u32,
+}
+
 // How a job leaves on request: one that runs is over early, one that waits is withdrawn.
 pub enum Departure {
     Complete,

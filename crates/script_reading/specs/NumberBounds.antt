@@ -14,7 +14,7 @@ use Rattle.text.specs.Fields.{fieldOf}
 use Rattle.scheduler.specs.declared.Kind.{Kind}
 use Rattle.scheduler.specs.Tenants.{tenantOf}
 use Rattle.scheduler.specs.declared.Opening.{Opening}
-use Rattle.history.specs.Calls.{Command, ask, wait, submit, depart, orderBetween, complete, cancel, tick, unchanged}
+use Rattle.history.specs.Calls.{Command, ask, wait, submit, depart, orderBetween, complete, cancel, tick, unchanged, amend}
 use Rattle.script_rules.specs.Reading.{inWord, endWord, waitWord, dropWord}
 use Rattle.desk_lines.specs.DeskLine.{numberAt, letterAt, withNumber, withKind, kindOf, hasForm, deskWord, openingIn}
 use Rattle.script_rules.specs.Reading.{submitFor, commandIn}
@@ -31,6 +31,7 @@ abbrev pub SmallCommand : Command → Type 0
 SmallCommand (ask (submit o)) = Small (o .nodes) × Small (o .least) × Small (o .estimate)
 SmallCommand (ask (depart h t)) = Small t
 SmallCommand (ask tick) = ⊥
+SmallCommand (ask (amend a)) = ⊥
 SmallCommand (ask (unchanged why)) = ⊥
 SmallCommand (wait n) = Small n
 

@@ -1,7 +1,7 @@
 -- How many jobs have not ended, after a call: none comes unless it is submitted, and one less is left where one ends. And no job gets a least.
 -- Assumes nothing.
 use mathlib.Core.Path.{_≡_, refl, sym, ap, subst, _∙_}
-use mathlib.Core.Bool.{Bool, true, false, not}
+use mathlib.Core.Bool.{Bool, true, false, not, cond}
 use mathlib.Core.List.{List, [], _∷_, _++_, map}
 use mathlib.Core.Logic.{_⊎_, inl, inr}
 use Prim.Native.Nat.{ℕ, _+_, _≤_, _<_}
@@ -13,6 +13,7 @@ use Rattle.scheduler.specs.declared.Kind.{Kind}
 use Rattle.scheduler.specs.declared.Kind.the-variants.{Conservative, Easy}
 use Rattle.scheduler.specs.declared.Job.{Job}
 use Rattle.scheduler.specs.declared.Submission.{Submission}
+use Rattle.scheduler.specs.declared.Amendment.{Amendment}
 use Rattle.scheduler.specs.declared.State.{State}
 use Rattle.scheduler.specs.declared.State.the-variants.{Unused, Waiting, Running, Cleanup}
 use Rattle.scheduler.specs.States.{running?, cleaning?}
@@ -27,6 +28,7 @@ use Rattle.history.specs.Tickets.{nextAfter}
 use Rattle.history.specs.Book.{Fate, waiting, running, cleaning, ended, withdrawn, over, fateAfter}
 use Rattle.history.specs.Beginning.{fateBy}
 use Rattle.history_proof.specs.Obligations.{JobShown, shown, live, isLive, remark, comers, newly, Tells, said}
+use Rattle.history_proof.specs.Departures.{remark-same}
 use Rattle.conservative_laws.specs.Obligations.{conservative-lawful}
 use Rattle.conservative_laws.specs.Sentences.{conservative-ticketed}
 use Rattle.easy_laws.specs.Obligations.{easy-lawful}
@@ -71,6 +73,11 @@ depart-came m t = case (accepts (call m (complete t) .reply .refusal)) (λ e. rw
 
 pub tick-came : (m : Model) → said call m tick .came ≡ []
 tick-came m = case (accepts (call m tick .reply .refusal)) (λ e. rw e) (λ e. rw e)
+
+-- none of these amends
+pub none-amended : (b : Bool) → _≡_ {A = List Amendment} (cond b [] []) []
+none-amended true = refl
+none-amended false = refl
 
 -- a submission that is taken brings one, under the next ticket
 pub submit-came : (m : Model) (o : Submission) → accepts (call m (submit o) .reply .refusal) ≡ true
@@ -200,11 +207,12 @@ module _ (m : Model) (c : Call) (v : Valid m) where
 
   -- ## Leasts
 
-  pub leasts-after : ((j : Job) → In j (m .jobs) → j .least ≡ 0) → ((o : Newcomer) → In o (e .came) → o .least ≡ 0) → (j : Job) → In j (m′ .jobs) → j .least ≡ 0
-  leasts-after f g j i =
+  pub leasts-after : e .amended ≡ [] → ((j : Job) → In j (m .jobs) → j .least ≡ 0) → ((o : Newcomer) → In o (e .came) → o .least ≡ 0) → (j : Job)
+      → In j (m′ .jobs) → j .least ≡ 0
+  leasts-after n f g j i =
       let x : In (shown j) (keep isLive (map after (map shown (m .jobs) ++ comers e))) = subst (In (shown j)) (tells m c v) (in-map shown i) in
       let y = map-in after (map shown (m .jobs) ++ comers e) (keep-in isLive (map after (map shown (m .jobs) ++ comers e)) x .0) in
-      ap (λ (z : JobShown). z .least) (y .2) ∙ by (y .0) (in-append (map shown (m .jobs)) (y .1))
+      ap (λ (z : JobShown). z .least) (y .2 ∙ remark-same (cleanup (m′ .settings)) (m′ .clock) e (y .0) n) ∙ by (y .0) (in-append (map shown (m .jobs)) (y .1))
     where
       by : (z : JobShown) → In z (map shown (m .jobs)) ⊎ In z (comers e) → z .least ≡ 0
       by z (inl k) = let w = map-in shown (m .jobs) k in ap (λ (u : JobShown). u .least) (w .2) ∙ f (w .0) (w .1)

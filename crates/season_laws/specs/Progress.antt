@@ -34,7 +34,7 @@ use Rattle.season_rules.specs.Season as season
 use Rattle.season_rules.specs.Season.{Season, Turn, ends, refuses, arrives, steps, over, endsNow, byJobs, byArrival, byLines, byEnd, turnOf, arrivalRefusal, orderOf}
 use Rattle.season_rules.specs.Season.{textBy, seasonBy, isOver, played, unended, turnsLeft, remaining, noted, nextLine, firstArrival, arrivalNext, highestWith}
 use Rattle.season_laws.specs.Accepted.{live-clock, tick-taken, complete-taken, complete-ends}
-use Rattle.season_laws.specs.Ended.{going, clock-is, depart-came, tick-came, unended-after, unended-less, leasts-after}
+use Rattle.season_laws.specs.Ended.{going, clock-is, depart-came, tick-came, none-amended, unended-after, unended-less, leasts-after}
 
 -- what holds of a season all along: its model is valid, and no job has a least
 pub record Ready (s : Season) : Type 0 where
@@ -125,11 +125,11 @@ module _ (s : Season) (r : Ready s) where
   abbrev m : Model
   m = s .model
 
-  after-ready : (c : Call) → ((o : Newcomer) → In o (said call m c .came) → o .least ≡ 0) → Ready (season.after s (call m c))
-  after-ready c f = record { valid = call-valid m c (r .valid); no-least = leasts-after m c (r .valid) (r .no-least) f }
+  after-ready : (c : Call) → said call m c .amended ≡ [] → ((o : Newcomer) → In o (said call m c .came) → o .least ≡ 0) → Ready (season.after s (call m c))
+  after-ready c n f = record { valid = call-valid m c (r .valid); no-least = leasts-after m c (r .valid) n (r .no-least) f }
 
-  none-come : (c : Call) → said call m c .came ≡ [] → Ready (season.after s (call m c))
-  none-come c e = after-ready c (λ o i. in-nil (subst (In o) e i))
+  none-come : (c : Call) → said call m c .amended ≡ [] → said call m c .came ≡ [] → Ready (season.after s (call m c))
+  none-come c n e = after-ready c n (λ o i. in-nil (subst (In o) e i))
 
   none-more : (c : Call) → said call m c .came ≡ [] → sum going (comers (said call m c)) ≡ 0
   none-more c e = rw e
@@ -151,12 +151,12 @@ module _ (s : Season) (r : Ready s) where
       case (accepts (p .refusal)) (λ e. rw e (record { valid = q .valid; no-least = q .no-least })) (λ e. rw e q)
 
   by-ready : (t : Turn) → Ready (seasonBy s t)
-  by-ready (ends j) = none-come (complete (j .ticket)) (depart-came m (j .ticket))
+  by-ready (ends j) = none-come (complete (j .ticket)) (none-amended (accepts (call m (complete (j .ticket)) .reply .refusal))) (depart-came m (j .ticket))
   by-ready (refuses x) = record { valid = r .valid; no-least = r .no-least }
   by-ready (arrives a) =
-      let q = after-ready (submit (orderOf a)) (no-least-comes a) in
+      let q = after-ready (submit (orderOf a)) (none-amended (accepts (call m (submit (orderOf a)) .reply .refusal))) (no-least-comes a) in
       noted-ready a (call m (submit (orderOf a)) .reply) (nextLine (season.after s (call m (submit (orderOf a))))) (record { valid = q .valid; no-least = q .no-least })
-  by-ready steps = none-come tick (tick-came m)
+  by-ready steps = none-come tick (none-amended (accepts (call m tick .reply .refusal))) (tick-came m)
   by-ready over = r
 
   -- what holds goes on holding

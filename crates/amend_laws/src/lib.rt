@@ -1,0 +1,1 @@
+// What holds of corrected orders, all in specs/: there is no code here.

@@ -1,0 +1,3 @@
+pub mod Amending
+pub mod Steps
+pub mod Computed
