@@ -68,7 +68,7 @@ begun-pad : (js ks : List Job) → length js ≡ length ks → begun (pad slots 
 unfolding pad
 begun-pad js ks e = begun-append js ks (slots - length js) (slots - length ks) e
 
-begun-stored : (m : Model) (ks : List Job) → length (m .jobs) ≡ length ks → begun (store m .jobs) (store (withModelJobs m ks) .jobs) ≡ begun (m .jobs) ks
+pub begun-stored : (m : Model) (ks : List Job) → length (m .jobs) ≡ length ks → begun (store m .jobs) (store (withModelJobs m ks) .jobs) ≡ begun (m .jobs) ks
 unfolding store
 begun-stored m ks e = begun-pad (m .jobs) ks e
 

@@ -1,7 +1,8 @@
 -- A call is its own part and then a settling: what each part gives.
 -- Assumes nothing.
 use Prim.Native.Nat.{ℕ}
-use mathlib.Core.List.{[], _∷_}
+use mathlib.Core.Path.{_≡_}
+use mathlib.Core.List.{List, [], _∷_}
 use lib.Dec.{ltb}
 use Rattle.scheduler.specs.declared.Settings.{Settings}
 use Rattle.scheduler.specs.declared.Submission.{Submission}
@@ -9,12 +10,16 @@ use Rattle.scheduler.specs.declared.Refusal.{Refusal}
 use Rattle.scheduler.specs.declared.Refusal.the-variants as refusal
 use Rattle.scheduler.specs.declared.Request.{Request}
 use Rattle.scheduler.specs.declared.Request.the-variants as request
+use Rattle.scheduler.specs.declared.Outcome.{Outcome}
 use Rattle.scheduler.specs.Settings.{horizon}
-use Rattle.scheduler.specs.Model.{Model, joined}
-use Rattle.scheduler.specs.Answers.{Result, verdict}
+use Rattle.scheduler.specs.Table.{tickets}
+use Rattle.scheduler.specs.Model.{Model, view, joined}
+use Rattle.scheduler.specs.Answers.{Result, verdict, outcome}
 use Rattle.scheduler.specs.Refusals.{testsBy}
-use Rattle.easy_rules.specs.Easy.{newJob, submitRefusal, finished}
-use Rattle.job_table.specs.Parts.{Own, coming, judgedOwn, departing, ticking}
+use Rattle.easy_rules.specs.Easy.{head, newJob, submitRefusal, finished}
+use Rattle.easy_engine.specs.Survey.{ticketIn, headBefore}
+use Rattle.job_table.specs.declared.Part.{Part}
+use Rattle.job_table.specs.Parts.{Own, coming, judgedOwn, departing, ticking, handed}
 
 -- ## The own part
 
@@ -41,6 +46,12 @@ answering b o =
       };
       model = r .model;
     }
+
+-- r is the outcome of a call whose own part is p, whatever the model before it was: p tells the head of before
+abbrev pub Finishes : Part → Outcome → Type 0
+Finishes p r =
+    (b : Model) (ts : List ℕ) → p .ended ≡ tickets ts
+    → headBefore (p .ticket) (p .withdrawn) (ticketIn (head (view (p .scheduler)))) ≡ ticketIn (head b) → r ≡ outcome (answering b (handed p ts))
 
 -- ## Refusals by numbers
 

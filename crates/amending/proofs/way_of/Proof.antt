@@ -1,0 +1,28 @@
+-- `amending::way_of` meets its contract.
+-- Assumes nothing.
+use mathlib.Core.Path.{_∙_}
+use borrow.Author.Needs.{needs}
+use Rattle.amending.specs.Named.{slot-some, slot-none, way-none, way-one}
+use Rattle.amending.proofs.way_of.Statement.{statement}
+use Rattle.amending.proofs.way_of.Tie as tie
+
+returns : tie.Need-returns
+returns c =
+    let t = c .before .before .before in
+    let v = t .before in
+    let s = v .before in
+    let d = s .args .t1 in
+    let a = s .args .a in
+    c .way-for .ensures ∙ way-one d a (s .pre) (v .slot-of .result) (slot-some d a (s .pre) _ (v .slot-of .ensures) (t .if1 .taken))
+
+returns-2 : tie.Need-returns-2
+returns-2 c =
+    let v = c .before in
+    let s = v .before in
+    let d = s .args .t1 in
+    let a = s .args .a in
+    way-none d a (s .pre) (slot-none d a (s .pre) _ (v .slot-of .ensures) (c .if1 .left))
+
+pub way-of-spec : {M : Type 1} → statement M
+way-of-spec =
+    tie.close (tie.spec (λ c κs. search needs) (λ c. search needs) (λ c. search needs) (λ c κs. search needs) returns returns-2)
