@@ -5,3 +5,4 @@ pub mod LongestCall
 pub mod TextCall
 pub mod RestoreCall
 pub mod MigrateCall
+pub mod AmendCall

@@ -14,8 +14,13 @@ ghost use Rattle.calls.specs.IndexCall.{indexing, indexIn, indexOutcome,
 ghost use Rattle.calls.specs.LongestCall.{longestOf};
 ghost use Rattle.calls.specs.TextCall.{ShowsPage, ShowsText, ShowsWhy, ShowsBytes};
 ghost use Rattle.calls.specs.MigrateCall.{migrating};
+ghost use Rattle.calls.specs.AmendCall.{amends};
+ghost use Rattle.amending.specs.declared.Way.the-variants as way;
+ghost use Rattle.amending.specs.Ways.{wayOf};
+use amending::Way;
 use conservative_index::Blocks;
 use conservative_profile::Profile;
+use scheduler::Amendment;
 use scheduler::Departure;
 use scheduler::Earliest;
 use scheduler::Inquiry;
@@ -65,6 +70,49 @@ pub fn cancel(d: Scheduler, ticket: u32) -> Outcome
     ensures { λ r. ⌜ r ≡ outcome (call (view d) (calls.cancel ticket)) ⌝ }
 {
     call(d, Request::Depart(Departure::Cancel, ticket))
+}
+
+// A corrected order in place, by the kind's rules.
+fn amend_in_place(d: Scheduler, a: Amendment) -> Outcome
+    requires { ⌜ Premise d ⌝ }
+    ensures { λ r. ⌜ r ≡ outcome (call (view d) (calls.amend a)) ⌝ }
+{
+    let settings = d.settings;
+    let kind = settings.kind;
+    match kind {
+        Kind::Conservative => conservative_amending::amend(d, a),
+        Kind::Easy => easy_amending::amend(d, a),
+    }
+}
+
+// A corrected order that grows: the old ticket is withdrawn, and this is taken in. Where it is not, everything is as it was.
+fn resubmit(d: Scheduler, a: Amendment, s: Submission) -> Outcome
+    requires { ⌜ (Premise d) × (way.Anew s ≡ wayOf (view d) a) ⌝ }
+    ensures { λ r. ⌜ r ≡ amends d a ⌝ }
+{
+    let withdrawn = cancel(d, a.ticket);
+    let mut taken = submit(withdrawn.scheduler, s);
+    let answer = taken.answer;
+    let refusal = answer.refusal;
+    if refusal.is_none() {
+        let both = amend_answer::both(withdrawn.answer, answer);
+        taken.answer = both;
+        return taken;
+    }
+    d.refused(refusal)
+}
+
+// A corrected order for a waiting job (document 02, No. 13): in place, or withdrawn and taken in anew where it grows.
+pub fn amend(d: Scheduler, a: Amendment) -> Outcome
+    requires { ⌜ Premise d ⌝ }
+    ensures { λ r. ⌜ r ≡ amends d a ⌝ }
+{
+    let way = amending::way_of(d, a);
+    match way {
+        Way::Refused(refusal) => d.refused(refusal),
+        Way::Anew(s) => resubmit(d, a, s),
+        Way::InPlace => amend_in_place(d, a),
+    }
 }
 
 // One minute passes (document 01: "minute step").

@@ -12,6 +12,8 @@ use Rattle.hingerota.proofs.Desk as D
 use Rattle.hingerota.proofs.Desk.Laws as D′
 use Rattle.hingerota.proofs.Order as X
 use Rattle.hingerota.proofs.Order.Laws as X′
+use Rattle.hingerota.proofs.Amendment as A
+use Rattle.hingerota.proofs.Amendment.Laws as A′
 use Rattle.hingerota.proofs.Answer as N
 use Rattle.hingerota.proofs.Answer.Laws as N′
 use Rattle.hingerota.proofs.Outcome as S
@@ -37,6 +39,12 @@ order = struct-flat X.the-type X′.the-laws
 
 pub order-laws : FlatLaws order
 order-laws = struct-laws X.the-type X′.the-laws X′.the-plain
+
+abbrev pub amendment : Flat
+amendment = struct-flat A.the-type A′.the-laws
+
+pub amendment-laws : FlatLaws amendment
+amendment-laws = struct-laws A.the-type A′.the-laws A′.the-plain
 
 abbrev pub outcome-two : Two answer D.the-type D′.the-laws
 outcome-two = two-of N.the-type N′.the-laws N′.lowers (S.the-type .name) (S.the-type .D) (λ r. r .answer) D.the-type D′.the-laws D′.lowers (λ r. r .desk)

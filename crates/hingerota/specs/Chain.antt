@@ -2,7 +2,7 @@
 -- Document 01: "Each call, taken or refused, gets the desk that the last one handed back, or left where it was lent"; "A profile leaves the
 -- desk as it is, and the points lent to it are no part of the desk"; "a `wait` as its steps or as one refused call".
 -- Assumes nothing.
-use mathlib.Core.Path.{_≡_, refl, ap, subst, _∙_}
+use mathlib.Core.Path.{_≡_, refl, sym, ap, ap₂, subst, _∙_}
 use mathlib.Core.Bool.{false}
 use mathlib.Core.List.{List, map}
 use Prim.Native.Nat.{ℕ}
@@ -10,6 +10,7 @@ use lib.Dec.{eqb}
 use lib.ListN.{length}
 use Rattle.scheduler.specs.declared.Kind.the-variants.{Easy}
 use Rattle.scheduler.specs.declared.Settings.{Settings}
+use Rattle.scheduler.specs.declared.Amendment as scheduler-amendment
 use Rattle.scheduler.specs.Limits.{longestEstimate}
 use Rattle.scheduler.specs.Model.{Model, store, view}
 use Rattle.scheduler.specs.Answers.{Reply, answer, replyOf, noTickets}
@@ -27,6 +28,10 @@ use Rattle.guarantees.specs.Replies.{reply-back}
 use Rattle.guarantees.specs.Chain.{answerOf, MadeAll, unchanged-refuses, made-keeps, made-around}
 use Rattle.guarantees.specs.Statement as start
 use Rattle.guarantees.specs.Statement.{bookOf, Start, startOf}
+use Rattle.amend_rules.specs.Amending.{amended}
+use Rattle.amend_rules.specs.Steps.{Step, allSteps, replies}
+use Rattle.amend_laws.specs.OneAnswer.{amended-back}
+use Rattle.amend_laws.specs.Steps.{saidFrom, MadeStep, steps-keep, steps-around}
 use Rattle.calls.specs.ListCall.{listRefusal}
 use Rattle.calls.specs.ProfileCall.{pointsOf}
 use Rattle.calls.specs.IndexCall.{blocksOf}
@@ -34,6 +39,7 @@ use Rattle.calls.specs.LongestCall.{longestOf}
 use Rattle.checkpoint_laws.specs.Restored.{restored-lined}
 use Rattle.hingerota.specs.declared.Opening as host-opening
 use Rattle.hingerota.specs.declared.Desk.{Desk}
+use Rattle.hingerota.specs.declared.Amendment.{Amendment}
 use Rattle.hingerota.specs.declared.Answer.{Answer}
 use Rattle.hingerota.specs.declared.Point.{Point}
 use Rattle.hingerota.specs.declared.Block.{Block}
@@ -42,8 +48,8 @@ use Rattle.hingerota.specs.declared.Inquiry.{Inquiry}
 use Rattle.hingerota.specs.declared.Longest.{Longest}
 use Rattle.hingerota.specs.declared.Shown.{Shown}
 use Rattle.hingerota.specs.Mirror.{mirror, mirrorTickets, mirrorAnswer, read, read-mirror, readAnswer, read-answer}
-use Rattle.hingerota.specs.DeskPremise.{opens, promiseOpening, looseOpening, restores, opening-longest}
-use Rattle.hingerota.specs.CallContract.{HostLeaves}
+use Rattle.hingerota.specs.DeskPremise.{opens, promiseOpening, looseOpening, restores, opening-longest, amendmentOf}
+use Rattle.hingerota.specs.CallContract.{HostLeaves, HostLeavesAmended}
 use Rattle.hingerota.specs.ProfileContract.{HostShowsPoints}
 use Rattle.hingerota.specs.IndexContract.{HostShowsBlocks}
 use Rattle.hingerota.specs.EarliestContract.{earliestOn}
@@ -178,3 +184,50 @@ host-around s cs ds xs ys d e f k l q l′ =
     reply-said (startBy s) k (start-longest s) (start-longest (changesDesk s cs))
     (subst (λ (x : Desk). MadeAll HostMade x cs xs d) (desk-is s) l)
     (subst (λ (x : Desk). MadeAll HostMade x ds ys f) (q .leaves ∙ migrated-starts s cs d (host-keeps s cs xs d l .0)) l′)
+
+-- ## Corrected orders (document 02, No. 13)
+
+-- the order b given to the desk d, lent: what it was answered, and the desk after it
+abbrev pub HostAmended : Desk → scheduler-amendment.Amendment → Answer → Desk → Type 0
+HostAmended d b a e = (x : Amendment) × (b ≡ amendmentOf x) × HostLeavesAmended d x a e
+
+host-amended-is : (m : Model) → Valid m → m .settings .longest ≡ longestEstimate → (b : scheduler-amendment.Amendment) (a : Answer) (e : Desk)
+    → HostAmended (mirror (store m)) b a e
+    → (e ≡ mirror (store (amended call m b .model))) × (a ≡ mirrorAnswer (answer (amended call m b .reply)))
+host-amended-is m v w b a e (x, q, l) = (
+  l .leaves ∙ ap₂ (λ (y : Model) (z : scheduler-amendment.Amendment). mirror (store (amended call y z .model))) (desk-view m v w) (sym q),
+  l .answers ∙ ap₂ (λ (y : Model) (z : scheduler-amendment.Amendment). mirrorAnswer (answer (amended call y z .reply))) (desk-view m v w) (sym q),
+)
+
+amended-said : (m : Model) (b : scheduler-amendment.Amendment) → Valid m
+    → hostReply (mirrorAnswer (answer (amended call m b .reply))) ≡ amended call m b .reply
+amended-said m b v = ap replyOf (read-answer (answer (amended call m b .reply))) ∙ amended-back m b v
+
+-- a call or a corrected order of a host, as it was made
+abbrev pub HostMadeStep : Desk → Step → Answer → Desk → Type 0
+HostMadeStep = MadeStep HostMade HostAmended
+
+-- Lists with corrected orders among the calls: desk and answers are those of the calls that these count as, and the book of what was asked and of the
+-- answers received has the guarantees
+pub host-amended-keeps : (s : HostStart) (qs : List Step) (xs : List Answer) (e : Desk) → MadeAll HostMadeStep (deskBy s) qs xs e
+    → let m = startOf (startBy s) in
+    (e ≡ mirror (store (after call m (allSteps call m qs)))) × (xs ≡ map (λ (r : Reply). mirrorAnswer (answer r)) (replies call m qs))
+    × Guarantee (m .settings .kind) (m .settings) (bookOf m (saidFrom m qs (map hostReply xs)))
+host-amended-keeps s qs xs e l =
+    steps-keep HostMade HostAmended (λ m. mirror (store m)) (λ r. mirrorAnswer (answer r)) hostReply (λ S. S .longest ≡ longestEstimate)
+    (λ m c a d v w. made-is m v w) (λ m b a d v w. host-amended-is m v w b a d) reply-said amended-said (startBy s) (start-longest s)
+    (subst (λ (x : Desk). MadeAll HostMadeStep x qs xs e) (desk-is s) l)
+
+-- and both lists around a change of kind
+pub host-amended-around : (s : HostStart) (qs ps : List Step) (xs ys : List Answer) (d e f : Desk) → startOf (startBy s) .settings .kind ≡ Easy
+    → MadeAll HostMadeStep (deskBy s) qs xs d → HostMigrates d e → MadeAll HostMadeStep e ps ys f
+    → let m = startOf (startBy s) in
+    let t = startOf (start.changes (startBy s) (allSteps call m qs)) in
+    AroundChange (startBy s) (allSteps call m qs) (saidFrom m qs (map hostReply xs)) (allSteps call t ps) (saidFrom t ps (map hostReply ys))
+host-amended-around s qs ps xs ys d e f k l q l′ =
+    let cs = allSteps call (startOf (startBy s)) qs in
+    steps-around HostMade HostAmended (λ m. mirror (store m)) (λ r. mirrorAnswer (answer r)) hostReply (λ S. S .longest ≡ longestEstimate)
+    (λ m c a d v w. made-is m v w) (λ m b a d v w. host-amended-is m v w b a d) reply-said amended-said (startBy s) k (start-longest s)
+    (start-longest (changesDesk s cs))
+    (subst (λ (x : Desk). MadeAll HostMadeStep x qs xs d) (desk-is s) l)
+    (subst (λ (x : Desk). MadeAll HostMadeStep x ps ys f) (q .leaves ∙ migrated-starts s cs d (host-amended-keeps s qs xs d l .0)) l′)

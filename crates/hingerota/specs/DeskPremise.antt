@@ -15,6 +15,7 @@ use Rattle.scheduler.specs.declared.Job.{Job}
 use Rattle.scheduler.specs.declared.Opening.{Opening}
 use Rattle.scheduler.specs.declared.Scheduler.{Scheduler}
 use Rattle.scheduler.specs.declared.Outcome as scheduler-outcome
+use Rattle.scheduler.specs.declared.Amendment as scheduler-amendment
 use Rattle.scheduler.specs.declared.Settings.{Settings}
 use Rattle.scheduler.specs.Limits.{longestEstimate}
 use Rattle.scheduler.specs.Model.{store, view}
@@ -26,9 +27,12 @@ use Rattle.guarantees.specs.Premise.{Premise, opened-premise, call-premise}
 use Rattle.guarantees.specs.Cleanup.{settings-stay}
 use Rattle.checkpoint_laws.specs.Restored.{restored-lined}
 use Rattle.restoring.specs.Restoring.{restoring}
+use Rattle.amend_laws.specs.Sentences.{amended-settings, amended-premise}
 use Rattle.calls.specs.RestoreCall.{restored-premise}
+use Rattle.calls.specs.AmendCall.{amends}
 use Rattle.hingerota.specs.declared.Opening as host-opening
 use Rattle.hingerota.specs.declared.Desk.{Desk}
+use Rattle.hingerota.specs.declared.Amendment.{Amendment}
 use Rattle.hingerota.specs.declared.Record.{Record}
 use Rattle.hingerota.specs.declared.Outcome.{Outcome}
 use Rattle.hingerota.specs.declared.Opened.{Opened}
@@ -48,6 +52,13 @@ restores t = mirrorOpened (restoring t)
 
 abbrev pub gives : Desk → Call → Outcome
 gives d c = mirrorOutcome (outcome (call (view (read d)) c))
+
+-- what a host's corrected order asks (document 02, No. 13), and what that gives
+abbrev pub amendmentOf : Amendment → scheduler-amendment.Amendment
+amendmentOf b = record { ticket = b .ticket; nodes = b .nodes; estimate = b .estimate; least = b .least }
+
+abbrev pub amendsOn : Desk → Amendment → Outcome
+amendsOn d b = mirrorOutcome (amends (read d) (amendmentOf b))
 
 -- what a host's opening asks, of a kind; document 02, No. 6: "longest estimate (elsewhere 10,080)"
 abbrev openingOf : Kind → host-opening.Opening → Opening
@@ -93,6 +104,13 @@ call-handed d c h =
     mirror-handed (outcome (call (view (read d)) c) .scheduler)
     (ap (λ (S : Settings). S .longest) (settings-stay (view (read d)) (c ∷ []) (h .premise .holds))) (call-premise (read d) c (h .premise))
 
+pub amended-handed : (d : Desk) (b : Amendment) → Handed d → Handed (amendsOn d b .desk)
+unfolding store view read
+amended-handed d b h =
+    mirror-handed (amends (read d) (amendmentOf b) .scheduler)
+    (ap (λ (S : Settings). S .longest) (amended-settings (view (read d)) (amendmentOf b) (h .premise .holds)))
+    (amended-premise (read d) (amendmentOf b) (h .premise))
+
 -- ## No other number stands for a kind or a state
 
 kind-low : (k : Kind) → kindNumber k ≤ 1
@@ -125,3 +143,7 @@ read-premise d s e h = subst Premise (sym e) (h .premise)
 pub call-given : (d : Desk) (c : Call) (s : Scheduler) (o : scheduler-outcome.Outcome) (r : Outcome) → s ≡ read d → o ≡ outcome (call (view s) c)
     → r ≡ mirrorOutcome o → r ≡ gives d c
 call-given d c s o r e f g = g ∙ ap mirrorOutcome (f ∙ ap (λ (x : Scheduler). outcome (call (view x) c)) e)
+
+pub amend-given : (d : Desk) (b : Amendment) (s : Scheduler) (o : scheduler-outcome.Outcome) (r : Outcome) → s ≡ read d → o ≡ amends s (amendmentOf b)
+    → r ≡ mirrorOutcome o → r ≡ amendsOn d b
+amend-given d b s o r e f g = g ∙ ap mirrorOutcome (f ∙ ap (λ (x : Scheduler). amends x (amendmentOf b)) e)

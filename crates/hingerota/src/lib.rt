@@ -7,9 +7,9 @@ ghost use Rattle.hingerota.specs.Mirror.{kindOf, kindNumber, stateOf, st
 ghost use Rattle.hingerota.specs.Mirror.{mirrorTickets, mirrorAnswer, mirrorOutcome, mirrorOpened};
 ghost use mathlib.Core.Bool.{true};
 ghost use Rattle.lists.specs.Every.{every};
-ghost use Rattle.hingerota.specs.DeskPremise.{Handed, gives, opens, promiseOpening, looseOpening, restores};
+ghost use Rattle.hingerota.specs.DeskPremise.{Handed, gives, opens, promiseOpening, looseOpening, restores, amendsOn};
 ghost use Rattle.hingerota.specs.Checks.{isZero, allZero, isJob, follows, inOrder, checkNumber};
-ghost use Rattle.hingerota.specs.CallContract.{HostLeaves};
+ghost use Rattle.hingerota.specs.CallContract.{HostLeaves, HostLeavesAmended};
 ghost use Rattle.hingerota.specs.ListContract.{mirrorShown};
 ghost use Rattle.hingerota.specs.ProfileContract.{mirrorPoint, pointsIn, pointAt, HostShowsPoints};
 ghost use Rattle.hingerota.specs.IndexContract.{mirrorBlock, blocksIn, blockAt, HostShowsBlocks};
@@ -45,6 +45,15 @@ pub struct Order {
     pub nodes: u32,
     pub estimate: u32,
     pub tenant: u32,
+    pub least: u32,
+}
+
+// A corrected order for the waiting job with this ticket: what is asked for it from now on. Its tenant stays.
+#[repr(C)]
+pub struct Amendment {
+    pub ticket: u32,
+    pub nodes: u32,
+    pub estimate: u32,
     pub least: u32,
 }
 
@@ -507,6 +516,19 @@ fn cancel(d: Desk, ticket: u32) -> Outcome
     mirror_outcome(calls::cancel(read(d), ticket))
 }
 
+fn amend(d: Desk, amendment: Amendment) -> Outcome
+    requires { ⌜ Handed d ⌝ }
+    ensures { λ r. ⌜ r ≡ amendsOn d amendment ⌝ }
+{
+    let a = scheduler::Amendment {
+        ticket: amendment.ticket,
+        nodes: amendment.nodes,
+        estimate: amendment.estimate,
+        least: amendment.least,
+    };
+    mirror_outcome(calls::amend(read(d), a))
+}
+
 fn tick(d: Desk) -> Outcome
     requires { ⌜ Handed d ⌝ }
     ensures { λ r. ⌜ r ≡ gives d calls.tick ⌝ }
@@ -712,6 +734,17 @@ pub extern "C" fn hingerota_cancel(d: &mut Desk, ticket: u32) -> Answer
     ensures { λ r. ⌜ HostLeaves (now (d .entry)) (calls.cancel ticket) r (now (d .exit)) ⌝ }
 {
     let s = cancel(*d, ticket);
+    *d = s.desk;
+    s.answer
+}
+
+// A waiting job gets a corrected order (document 02, No. 13).
+#[no_mangle]
+pub extern "C" fn hingerota_amend(d: &mut Desk, amendment: Amendment) -> Answer
+    requires { ⌜ Handed (now d) ⌝ }
+    ensures { λ r. ⌜ HostLeavesAmended (now (d .entry)) amendment r (now (d .exit)) ⌝ }
+{
+    let s = amend(*d, amendment);
     *d = s.desk;
     s.answer
 }

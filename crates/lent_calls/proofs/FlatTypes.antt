@@ -19,6 +19,8 @@ use Rattle.scheduler.proofs.Answer as N
 use Rattle.scheduler.proofs.Answer.Laws as N′
 use Rattle.scheduler.proofs.Submission as X
 use Rattle.scheduler.proofs.Submission.Laws as X′
+use Rattle.scheduler.proofs.Amendment as A
+use Rattle.scheduler.proofs.Amendment.Laws as A′
 use Rattle.scheduler.proofs.Outcome as S
 use Rattle.scheduler.proofs.Refusal as F
 use Rattle.scheduler.proofs.Refusal.Laws as F′
@@ -42,6 +44,12 @@ submission = struct-flat X.the-type X′.the-laws
 
 pub submission-laws : FlatLaws submission
 submission-laws = struct-laws X.the-type X′.the-laws X′.the-plain
+
+abbrev pub amendment : Flat
+amendment = struct-flat A.the-type A′.the-laws
+
+pub amendment-laws : FlatLaws amendment
+amendment-laws = struct-laws A.the-type A′.the-laws A′.the-plain
 
 abbrev pub outcome-two : Two answer D.the-type D′.the-laws
 outcome-two = two-of N.the-type N′.the-laws N′.lowers (S.the-type .name) (S.the-type .D) (λ r. r .answer) D.the-type D′.the-laws D′.lowers (λ r. r .scheduler)

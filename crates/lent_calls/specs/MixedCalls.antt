@@ -8,6 +8,7 @@ use mathlib.Core.Bool.{false}
 use mathlib.Core.List.{List, map}
 use Prim.Native.Nat.{ℕ}
 use Rattle.spans.specs.declared.Point.{Point}
+use Rattle.scheduler.specs.declared.Amendment.{Amendment}
 use Rattle.scheduler.specs.declared.Answer.{Answer}
 use Rattle.scheduler.specs.declared.Outcome.{Outcome}
 use Rattle.scheduler.specs.declared.Refusal.{Refusal}
@@ -41,7 +42,12 @@ use Rattle.scheduler.specs.declared.Longest.{Longest}
 use Rattle.calls.specs.LongestCall.{longestOf}
 use Rattle.calls.specs.ListCall.{Shows}
 use Rattle.calls.specs.MigrateCall.{migrating}
-use Rattle.lent_calls.specs.CallContract.{Leaves}
+use Rattle.amend_rules.specs.Amending.{amended}
+use Rattle.amend_rules.specs.Steps.{Step, allSteps, replies}
+use Rattle.amend_laws.specs.OneAnswer.{amended-back}
+use Rattle.amend_laws.specs.Steps.{saidFrom, MadeStep, steps-keep, steps-around}
+use Rattle.calls.specs.AmendCall.{amends}
+use Rattle.lent_calls.specs.CallContract.{Leaves, LeavesAmended}
 use Rattle.lent_calls.specs.ProfileContract.{ShowsPoints}
 use Rattle.lent_calls.specs.IndexContract.{ShowsBlocks}
 
@@ -129,3 +135,44 @@ mixed-around s cs ds xs ys d e f k l q l′ =
     made-around Made store answer replyOf (λ S. Unit {0}) (λ m c a d v w. made-is m v) reply-back s k tt tt
     (subst (λ (x : Scheduler). MadeAll Made x cs xs d) (started-is s) l)
     (subst (λ (x : Scheduler). MadeAll Made x ds ys f) (q ∙ migrated-starts s cs d (mixed-keeps s cs xs d l .0)) l′)
+
+-- ## Corrected orders (document 02, No. 13)
+
+-- the order b given to d, by value or on what is lent: what it was answered, and the scheduler after it
+pub data Amended (d : Scheduler) (b : Amendment) : Answer → Scheduler → Type 0 where
+  byValue : {o : Outcome} → o ≡ amends d b → Amended d b (o .answer) (o .scheduler)
+  onLent : {a : Answer} {e : Scheduler} → LeavesAmended d b a e → Amended d b a e
+
+amended-is : (m : Model) → Valid m → {b : Amendment} {a : Answer} {e : Scheduler} → Amended (store m) b a e
+    → (e ≡ store (amended call m b .model)) × (a ≡ answer (amended call m b .reply))
+amended-is m v {b} (byValue q) = let p = q ∙ ap (λ (x : Model). outcome (amended call x b)) (valid-view m v) in
+    (ap (λ (o : Outcome). o .scheduler) p, ap (λ (o : Outcome). o .answer) p)
+amended-is m v {b} (onLent l) = (
+  l .leaves ∙ ap (λ (x : Model). store (amended call x b .model)) (valid-view m v),
+  l .answers ∙ ap (λ (x : Model). answer (amended call x b .reply)) (valid-view m v),
+)
+
+-- a call or a corrected order, as it was made
+abbrev pub MadeMixed : Scheduler → Step → Answer → Scheduler → Type 0
+MadeMixed = MadeStep Made Amended
+
+-- Lists with corrected orders among the calls: scheduler and answers are those of the calls that these count as, and the book of what was asked and of
+-- the answers received has the guarantees
+pub amended-keeps : (s : Start) (qs : List Step) (xs : List Answer) (e : Scheduler) → MadeAll MadeMixed (started s) qs xs e
+    → (e ≡ store (after call (startOf s) (allSteps call (startOf s) qs))) × (xs ≡ map answer (replies call (startOf s) qs))
+    × Guarantee (startOf s .settings .kind) (startOf s .settings) (bookOf (startOf s) (saidFrom (startOf s) qs (map replyOf xs)))
+amended-keeps s qs xs e l =
+    steps-keep Made Amended store answer replyOf (λ S. Unit {0}) (λ m c a d v w. made-is m v) (λ m b a d v w. amended-is m v) reply-back amended-back s tt
+    (subst (λ (x : Scheduler). MadeAll MadeMixed x qs xs e) (started-is s) l)
+
+-- and both lists around a change of kind
+pub amended-around : (s : Start) (qs ps : List Step) (xs ys : List Answer) (d e f : Scheduler) → startOf s .settings .kind ≡ Easy
+    → MadeAll MadeMixed (started s) qs xs d → e ≡ migrating d → MadeAll MadeMixed e ps ys f
+    → let cs = allSteps call (startOf s) qs in
+    let t = changes s cs in
+    AroundChange s cs (saidFrom (startOf s) qs (map replyOf xs)) (allSteps call (startOf t) ps) (saidFrom (startOf t) ps (map replyOf ys))
+amended-around s qs ps xs ys d e f k l q l′ =
+    let cs = allSteps call (startOf s) qs in
+    steps-around Made Amended store answer replyOf (λ S. Unit {0}) (λ m c a d v w. made-is m v) (λ m b a d v w. amended-is m v) reply-back amended-back s k tt tt
+    (subst (λ (x : Scheduler). MadeAll MadeMixed x qs xs d) (started-is s) l)
+    (subst (λ (x : Scheduler). MadeAll MadeMixed x ps ys f) (q ∙ migrated-starts s cs d (amended-keeps s qs xs d l .0)) l′)

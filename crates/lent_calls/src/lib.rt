@@ -7,12 +7,13 @@ ghost use Rattle.easy_rules.specs.EarliestStart.{earliestStart};
 ghost use Rattle.guarantees.specs.Premise.{Premise};
 ghost use Rattle.calls.specs.LongestCall.{longestOf};
 ghost use Rattle.calls.specs.TextCall.{ShowsPage, ShowsText, ShowsWhy};
-ghost use Rattle.lent_calls.specs.CallContract.{Leaves};
+ghost use Rattle.lent_calls.specs.CallContract.{Leaves, LeavesAmended};
 ghost use Rattle.lent_calls.specs.ProfileContract.{ShowsPoints};
 ghost use Rattle.lent_calls.specs.IndexContract.{ShowsBlocks};
 ghost use Rattle.lent_calls.specs.RestoreContract.{Restores};
 ghost use Rattle.lent_calls.specs.MigrateContract.{Migrates};
 use calls::Shown;
+use scheduler::Amendment;
 use scheduler::Answer;
 use scheduler::Earliest;
 use scheduler::Inquiry;
@@ -46,6 +47,16 @@ pub fn cancel(d: &mut Scheduler, ticket: u32) -> Answer
     ensures { λ r. ⌜ Leaves (now (d .entry)) (calls.cancel ticket) r (now (d .exit)) ⌝ }
 {
     let o = calls::cancel(*d, ticket);
+    *d = o.scheduler;
+    o.answer
+}
+
+// A corrected order for a waiting job (document 02, No. 13).
+pub fn amend(d: &mut Scheduler, a: Amendment) -> Answer
+    requires { ⌜ Premise (now d) ⌝ }
+    ensures { λ r. ⌜ LeavesAmended (now (d .entry)) a r (now (d .exit)) ⌝ }
+{
+    let o = calls::amend(*d, a);
     *d = o.scheduler;
     o.answer
 }

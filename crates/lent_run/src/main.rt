@@ -7,13 +7,14 @@ ghost use Rattle.jobs.specs.Premise.{Holds};
 ghost use Rattle.history.specs.Calls as calls;
 ghost use Rattle.guarantees.specs.Premise.{Premise};
 ghost use Rattle.calls.specs.TextCall.{ShowsPage, ShowsText, ShowsWhy};
-ghost use Rattle.lent_calls.specs.CallContract.{Leaves};
+ghost use Rattle.lent_calls.specs.CallContract.{Leaves, LeavesAmended};
 ghost use Rattle.lent_calls.specs.ProfileContract.{ShowsPoints};
 ghost use Rattle.lent_calls.specs.IndexContract.{ShowsBlocks};
 ghost use Rattle.lent_calls.specs.RestoreContract.{Restores};
 ghost use Rattle.lent_calls.specs.MigrateContract.{Migrates};
 use calls::Shown;
 use libc::STDOUT_FILENO;
+use scheduler::Amendment;
 use scheduler::Answer;
 use scheduler::Inquiry;
 use scheduler::Kind;
@@ -61,6 +62,18 @@ fn lent_cancel(d: Scheduler, ticket: u32) -> Outcome
     let a = lent_calls::cancel(&mut e, ticket);
     Outcome {
         answer: a,
+        scheduler: e,
+    }
+}
+
+fn lent_amend(d: Scheduler, a: Amendment) -> Outcome
+    requires { ⌜ Premise d ⌝ }
+    ensures { λ r. ⌜ LeavesAmended d a (r .answer) (r .scheduler) ⌝ }
+{
+    let mut e = d;
+    let answer = lent_calls::amend(&mut e, a);
+    Outcome {
+        answer: answer,
         scheduler: e,
     }
 }
@@ -249,6 +262,22 @@ fn cancel(d: Scheduler, ticket: u32) -> Scheduler
     ensures { λ r. ⌜ Premise r ⌝ }
 {
     let o = lent_cancel(d, ticket);
+    let e = o.scheduler;
+    print_answer(e.clock, o.answer);
+    e
+}
+
+fn amend(d: Scheduler, ticket: u32, nodes: u32, least: u32, most: u32) -> Scheduler
+    requires { ⌜ Premise d ⌝ }
+    ensures { λ r. ⌜ Premise r ⌝ }
+{
+    let a = Amendment {
+        ticket: ticket,
+        nodes: nodes,
+        estimate: most,
+        least: least,
+    };
+    let o = lent_amend(d, a);
     let e = o.scheduler;
     print_answer(e.clock, o.answer);
     e
@@ -614,6 +643,54 @@ fn open(kind: Kind, nodes: u32, minute: u32, cleanup: u32, quota_a: u32) -> Sche
     )
 }
 
+// Corrected orders: refused by 11, 1, 2 and 19; in place, with an estimate that grows within its held time, and with fewer nodes, by which the next
+// one starts.
+fn amend_in_place(d: Scheduler)
+    requires { ⌜ Premise d ⌝ }
+{
+    let s3 = amend(d, 1, 6, 0, 20);
+    let s4 = amend(s3, 2, 11, 0, 0);
+    let s5 = amend(s4, 2, 8, 11, 10081);
+    let s6 = amend(s5, 2, 8, 11, 10);
+    let s7 = amend(s6, 3, 4, 1, 25);
+    let s8 = amend(s7, 2, 6, 0, 10);
+    print_lines(s8);
+}
+
+// Anew: by one node, and by the held time alone, with fewer nodes.
+fn amend_anew(d: Scheduler)
+    requires { ⌜ Premise d ⌝ }
+{
+    let s3 = amend(d, 2, 9, 0, 10);
+    print_lines(s3);
+    let s4 = amend(d, 3, 1, 5, 26);
+    print_lines(s4);
+}
+
+fn corrected_orders() {
+    let s = open(Kind::Conservative, 10, 0, 0, 63);
+    let s0 = submit(s, 6, 20, Tenant::A);
+    let s1 = submit(s0, 8, 10, Tenant::A);
+    let s2 = submit(s1, 4, 25, Tenant::A);
+    amend_in_place(s2);
+    amend_anew(s2);
+    // near the last minute one that grows is refused, and the old order stays
+    let t = open(Kind::Conservative, 10, 999940, 0, 63);
+    let t1 = submit(t, 10, 30, Tenant::A);
+    let t2 = submit(t1, 4, 10, Tenant::B);
+    let t3 = amend(t2, 2, 5, 0, 31);
+    print_lines(t3);
+    // EASY: the head is corrected in place and starts; anew it is no longer the head
+    let u = open(Kind::Easy, 10, 0, 7, 63);
+    let u1 = submit(u, 6, 20, Tenant::A);
+    let u2 = submit(u1, 8, 10, Tenant::B);
+    let u3 = submit(u2, 5, 30, Tenant::A);
+    let u4 = amend(u3, 2, 4, 2, 9);
+    print_lines(u4);
+    let u5 = amend(u3, 2, 8, 0, 11);
+    print_lines(u5);
+}
+
 fn main() {
     // conservative: the list is longer than the profile, then as long, then too short
     let d = open(Kind::Conservative, 10, 0, 0, 63);
@@ -753,4 +830,5 @@ fn main() {
     let r10 = cancel(r9, 3);
     let r11 = migrate(r10);
     show(r11);
+    corrected_orders();
 }

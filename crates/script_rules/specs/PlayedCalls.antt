@@ -12,7 +12,7 @@ use Rattle.scheduler.specs.Opening.{opening}
 use Rattle.history.specs.Calls.{Call, Command, Event, after, events, callsOf, allCalls}
 use Rattle.history.specs.Guarantee.{Guarantee}
 use Rattle.guarantees.specs.Rules.{call}
-use Rattle.guarantees.specs.Statement.{bookOf}
+use Rattle.guarantees.specs.Statement.{bookOf, events-append}
 use Rattle.guarantees.specs.Proof.{opened-keeps}
 use Rattle.desk_lines.specs.Lines.{Line}
 use Rattle.script_rules.specs.Reading.{commandOf}
@@ -79,10 +79,6 @@ answers-texts m (c ∷ cs) = ap (λ t. textOf (m .settings .kind) (call m c .mod
 answers-told : (m : Model) (cs : List Call) → told (answers m cs) ≡ events call m cs
 answers-told m [] = refl
 answers-told m (c ∷ cs) = ap (λ t. record { call = c; reply = call m c .reply } ∷ t) (answers-told (call m c .model) cs)
-
-events-append : (m : Model) (cs ds : List Call) → events call m (cs ++ ds) ≡ events call m cs ++ events call (after call m cs) ds
-events-append m [] ds = refl
-events-append m (c ∷ cs) ds = ap (λ t. record { call = c; reply = call m c .reply } ∷ t) (events-append (call m c .model) cs ds)
 
 by-texts : (m : Model) (q : Option Command) → printedBy m q ≡ texts (itemsBy m q)
 by-texts m none = sym (append-nil malformed)
