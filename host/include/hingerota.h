@@ -28,16 +28,19 @@
  * nodes than the machine has; and of each tenant these and those that wait are never more than its quota. A promise, a bound and a forecast
  * bind until the job is withdrawn: that was before any of these minutes. A job that is withdrawn never starts. After any call no waiting
  * job of a Promise Desk could begin earlier than planned with all others where they are. A job never starts before a minute that
- * hingerota_earliest_start gave of it, whatever calls followed. On a Promise Desk a longer estimate never gets an earlier minute, so that a
- * job is promised the minute asked for, or an earlier one, exactly up to the estimate that hingerota_longest_estimate gives. The index
- * agrees with the profile after every call, and the minute found by it is that of the search through every point. Minutes depend on the
- * jobs of both tenants, and are kept for both.
+ * hingerota_earliest_start gave of it, whatever calls followed but a correction of its own order. On a Promise Desk a longer estimate never
+ * gets an earlier minute, so that a job is promised the minute asked for, or an earlier one, exactly up to the estimate that
+ * hingerota_longest_estimate gives. The index agrees with the profile after every call, and the minute found by it is that of the search
+ * through every point. Minutes depend on the jobs of both tenants, and are kept for both.
+ * An order that is corrected in place (see hingerota_amend) has its nodes and its least as they were asked last, and its promise, its bound
+ * and its forecast bind on. One that grows counts as a withdrawal of the old ticket and a submission under the new one, a refused one as a
+ * refused call.
  *
  * Of a desk that is read back. Every desk that calls made is accepted from its own lines and comes back the same. Two different desks never
  * have the same lines. Lines that no calls made may be accepted too. A list of calls may begin with any desk read back, and its jobs then
  * count as the lines give them. The promise, the bound and the forecast that the lines give a job that waits are kept. All of the above
- * holds, but for one sentence where no calls made the lines: that no waiting job could begin earlier holds from the first early end or
- * withdrawal on. The same is true of a desk of which hingerota_check gives 0.
+ * holds, but for one sentence where no calls made the lines: that no waiting job could begin earlier holds from the first early end,
+ * withdrawal or correction on. The same is true of a desk of which hingerota_check gives 0.
  *
  * Of a desk that changes its kind. A list of calls on a Loose Desk ends with hingerota_migrate, and another begins with the Promise Desk
  * that it leaves, whose jobs count as it has them. The promises that it gives are kept, as are those of submissions. All of the above
@@ -118,6 +121,14 @@ typedef struct {
     uint32_t least;    /* the least that it runs, at most the estimate */
 } hingerota_order; /* 16 bytes */
 
+/* What is asked anew for a job that waits. */
+typedef struct {
+    uint32_t ticket;   /* of the job */
+    uint32_t nodes;
+    uint32_t estimate; /* the most that it runs, in minutes */
+    uint32_t least;    /* the least that it runs, at most the estimate */
+} hingerota_amendment; /* 16 bytes */
+
 /* What is asked of a job before it is submitted: how long may it be to start by this minute? */
 typedef struct {
     uint32_t nodes;
@@ -165,9 +176,9 @@ typedef struct {
 /* What a call does not give is 0. */
 typedef struct {
     uint32_t refusal;
-    uint32_t ticket;   /* of a submission that is taken */
+    uint32_t ticket;   /* of a submission or a correction that is taken */
     uint32_t promise;  /* and, on a Promise Desk, the minute by which it starts */
-    uint32_t reads;    /* and how many points of the profile were read to find it (see hingerota_index) */
+    uint32_t reads;    /* and how many points of the profile were read to find it (see hingerota_index); 0 of a correction in place */
     uint32_t head;     /* on a Loose Desk: the first waiting job, if it was not the first before this call */
     uint32_t forecast; /* and the minute by which it starts */
     hingerota_tickets ended;   /* ascending */
@@ -227,6 +238,18 @@ hingerota_answer hingerota_complete(hingerota_desk *d, uint32_t ticket);
  * before its time: those that start now stand in `started`. Refused by 11. */
 hingerota_answer hingerota_cancel(hingerota_desk *d, uint32_t ticket);
 
+/* The order of a waiting job is corrected; its tenant stays. There are two ways.
+ * In place, where neither its nodes nor its estimate rounded up grow, also if nothing changes at all: the job waits on under its ticket,
+ * with the nodes, the estimate and the least of the correction, and keeps its promise, or on a Loose Desk `submitted`, `rank` and
+ * `forecast`. Then it and all others that wait move as after a withdrawal, and none of them gets a later minute; those that start now,
+ * which may be this one, stand in `started`. `ticket` is its own, and `promise` the one that it keeps.
+ * Anew, where either grows: the job is withdrawn, and then its order is submitted, as the last, with a new ticket, on the desk as the
+ * withdrawal leaves it. `ticket`, `promise` and `reads` are of that submission. `started` has those that the withdrawal starts, and then
+ * the new ticket if it starts at once. `head` is the one that the withdrawal makes, or else the one that the submission makes.
+ * Refused by 11, 1, 2 or 19, the first of these that applies, and where either grows then by 5 or 6, as that submission is; the job then
+ * waits on as it was, and nobody has moved. */
+hingerota_answer hingerota_amend(hingerota_desk *d, hingerota_amendment amendment);
+
 /* One minute passes: those whose time is over end, those whose cleanup is over leave, and those whose turn has come start. Nodes that come
  * free serve a start in that same minute. Who leaves after its cleanup is told no more: it stood in `ended` before. Refused by 6, at
  * minute 1,000,000. */
@@ -257,7 +280,8 @@ uint32_t hingerota_wait_refusal(const hingerota_desk *d, uint32_t minutes);
 
 /* The earliest minute at which a waiting job can start: the smallest, now or later, at which its nodes would be free if every running job
  * were over at its start + its least, or now where that is past, its nodes free again after the cleanup, and no other job waited. The job
- * never starts before that minute, whatever calls follow. Refused by 11. The desk, of either kind, is only read. */
+ * never starts before that minute, whatever calls follow, unless its order is corrected: then ask again. Refused by 11. The desk, of either
+ * kind, is only read. */
 hingerota_earliest hingerota_earliest_start(const hingerota_desk *d, uint32_t ticket);
 
 /* How long may a job be and still start by then? The largest estimate with which a submission of these nodes, of this tenant, would now be

@@ -1,7 +1,7 @@
 //! The structs of `raw.rs` have the sizes and offsets of those in `include/hingerota.h`, as a C compiler lays them out, and the lengths of
 //! `lib.rs` are the header's.
 
-use crate::raw::{Answer, Block, Desk, Earliest, Inquiry, Longest, Opened, Opening, Order, Point, Record, Shown, Tickets};
+use crate::raw::{Amendment, Answer, Block, Desk, Earliest, Inquiry, Longest, Opened, Opening, Order, Point, Record, Shown, Tickets};
 use std::mem::{offset_of, size_of};
 use std::path::Path;
 use std::process::Command;
@@ -42,6 +42,7 @@ fn layouts_are_those_of_the_header() {
     let (lines, numbers) = layouts! {
         "hingerota_opening" Opening { nodes minute ticket cleanup quota_a quota_b }
         "hingerota_order" Order { nodes estimate tenant least }
+        "hingerota_amendment" Amendment { ticket nodes estimate least }
         "hingerota_inquiry" Inquiry { nodes tenant minute }
         "hingerota_record" Record { ticket nodes estimate state tenant least start promise end submitted rank forecast }
         "hingerota_desk" Desk { kind nodes cleanup quota_a quota_b clock next jobs }
@@ -88,6 +89,7 @@ fn sizes_are_as_stated() {
     for (name, size) in [
         ("hingerota_opening", size_of::<Opening>()),
         ("hingerota_order", size_of::<Order>()),
+        ("hingerota_amendment", size_of::<Amendment>()),
         ("hingerota_inquiry", size_of::<Inquiry>()),
         ("hingerota_record", size_of::<Record>()),
         ("hingerota_desk", size_of::<Desk>()),

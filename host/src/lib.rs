@@ -8,7 +8,7 @@ mod layout;
 mod raw;
 
 pub use raw::Desk as Numbers;
-pub use raw::{Answer, Block, Earliest, Inquiry, Longest, Opening, Order, Point, Record, Shown, Tickets};
+pub use raw::{Amendment, Answer, Block, Earliest, Inquiry, Longest, Opening, Order, Point, Record, Shown, Tickets};
 
 /// The list of points that always suffices.
 pub const MOST_POINTS: usize = 129;
@@ -110,6 +110,14 @@ impl Desk {
         unsafe { raw::hingerota_cancel(&mut self.raw, ticket) }
     }
 
+    /// The order of a waiting job is corrected; refused by 11, 1, 2 or 19. Where neither its nodes nor its estimate rounded up grow, it waits
+    /// on under its ticket and keeps its promise, or on a Loose Desk its bound and its forecast; then it and the others move as after a
+    /// withdrawal. Where either grows, it is withdrawn and its order submitted with a new ticket, which the answer has; where that is
+    /// refused, by 5 or 6, everything is as it was.
+    pub fn amend(&mut self, amendment: Amendment) -> Answer {
+        unsafe { raw::hingerota_amend(&mut self.raw, amendment) }
+    }
+
     /// One minute passes; refused by 6.
     pub fn tick(&mut self) -> Answer {
         unsafe { raw::hingerota_tick(&mut self.raw) }
@@ -139,7 +147,7 @@ impl Desk {
     }
 
     /// The earliest minute at which a waiting job can start, if every running one is over at its least and no other waits; refused by 11.
-    /// Whatever calls follow, it never starts before.
+    /// Whatever calls follow, it never starts before, unless its order is corrected.
     pub fn earliest_start(&self, ticket: u32) -> Earliest {
         unsafe { raw::hingerota_earliest_start(&self.raw, ticket) }
     }

@@ -30,6 +30,19 @@ pub struct Order {
     pub least: u32,
 }
 
+/// What is asked anew for a job that waits.
+#[repr(C)]
+#[derive(Clone, Copy, PartialEq, Eq, Debug)]
+pub struct Amendment {
+    /// Of the job.
+    pub ticket: u32,
+    pub nodes: u32,
+    /// The most that it runs, in minutes.
+    pub estimate: u32,
+    /// The least that it runs, in minutes, at most the estimate.
+    pub least: u32,
+}
+
 /// What is asked of a job before it is submitted: how long may it be to start by this minute?
 #[repr(C)]
 #[derive(Clone, Copy, PartialEq, Eq, Debug)]
@@ -155,6 +168,7 @@ extern "C" {
     pub fn hingerota_submit(d: *mut Desk, order: Order) -> Answer;
     pub fn hingerota_complete(d: *mut Desk, ticket: u32) -> Answer;
     pub fn hingerota_cancel(d: *mut Desk, ticket: u32) -> Answer;
+    pub fn hingerota_amend(d: *mut Desk, amendment: Amendment) -> Answer;
     pub fn hingerota_tick(d: *mut Desk) -> Answer;
     pub fn hingerota_migrate(d: *mut Desk);
     pub fn hingerota_profile(d: *const Desk, points: *mut Point, room: usize) -> Shown;

@@ -3,7 +3,7 @@
 
 use crate::model::{held, Job, Model, State, BLOCK_POINTS, HOUSES, LONGEST_ESTIMATE};
 use crate::why::Finding;
-use hingerota_host::{Answer, Block, Earliest, Inquiry, Kind, Longest, Order, Point, Tickets};
+use hingerota_host::{Amendment, Answer, Block, Earliest, Inquiry, Kind, Longest, Order, Point, Tickets};
 use std::collections::BTreeMap;
 
 /// What has become of a job taken in.
@@ -36,8 +36,13 @@ struct Entry {
     fate: Fate,
     least: u32,
     hold: u32,
-    /// The largest minute given as its earliest start, and the minute in which that was first given.
+    /// The largest minute given as its earliest start, and the minute in which that was first given. "its soonest minute counts afresh":
+    /// since its order was last corrected in place.
     earliest: Option<(u32, u32)>,
+    /// The largest that was given before such a correction, and binds no more.
+    stale: Option<u32>,
+    /// Its order was corrected in place.
+    corrected: bool,
     told: Told,
 }
 
@@ -67,8 +72,15 @@ impl Entry {
             least: job.least,
             hold: held(job.estimate),
             earliest: None,
+            stale: None,
+            corrected: false,
             told: Told::Lines,
         }
+    }
+
+    /// Nodes or held time do.
+    fn grows(&self, amendment: &Amendment) -> bool {
+        amendment.nodes > self.nodes || held(amendment.estimate) > self.hold
     }
 
     /// Its nodes are taken, or it waits for them.
@@ -90,6 +102,13 @@ impl Entry {
         let bound = (kind == Kind::Loose).then_some(self.bound);
         (self.standing(), (self.promise, bound, self.forecast))
     }
+}
+
+/// These tickets, as an answer has them.
+pub fn listed(tickets: &[u32]) -> Tickets {
+    let mut list = [0; 64];
+    list[..tickets.len()].copy_from_slice(tickets);
+    Tickets { count: tickets.len(), list }
 }
 
 /// "Its bound is the clock at intake + r × 10,080", with the clearing.
@@ -120,7 +139,10 @@ pub struct Book {
 /// question was; of desks written out and read back, and of the jobs in their lines; of jobs that waited in the lines of a desk that no
 /// calls need have made, and started by the promise, the bound or the forecast that these gave, or were withdrawn before; of desks that
 /// changed their kind, of the promises that these gave to jobs that waited, and of these, to heads before their forecasts, and at the very
-/// bounds; of jobs that started by a promise of a change, or were withdrawn before; of jobs of which it was said why they wait.
+/// bounds; of jobs that started by a promise of a change, or were withdrawn before; of jobs of which it was said why they wait; of orders
+/// corrected in place, and of those that grew, and of both, of jobs that the lines or a change told; of jobs that started by what they were
+/// told before they were corrected in place, and of these, before an earliest start that was given then; of earliest starts given after a
+/// correction that were smaller than one before it.
 #[derive(Default, Clone, Copy)]
 pub struct Tried {
     pub promises: u64,
@@ -158,6 +180,15 @@ pub struct Tried {
     pub promises_of_changes: u64,
     pub withdrawn_of_changes: u64,
     pub findings: u64,
+    pub corrected_in_place: u64,
+    pub corrected_anew: u64,
+    pub corrected_of_lines: u64,
+    pub corrected_of_changes: u64,
+    pub promises_of_corrected: u64,
+    pub bounds_of_corrected: u64,
+    pub forecasts_of_corrected: u64,
+    pub starts_before_the_stale: u64,
+    pub earliest_afresh: u64,
 }
 
 impl Tried {
@@ -197,6 +228,15 @@ impl Tried {
         self.promises_of_changes += other.promises_of_changes;
         self.withdrawn_of_changes += other.withdrawn_of_changes;
         self.findings += other.findings;
+        self.corrected_in_place += other.corrected_in_place;
+        self.corrected_anew += other.corrected_anew;
+        self.corrected_of_lines += other.corrected_of_lines;
+        self.corrected_of_changes += other.corrected_of_changes;
+        self.promises_of_corrected += other.promises_of_corrected;
+        self.bounds_of_corrected += other.bounds_of_corrected;
+        self.forecasts_of_corrected += other.forecasts_of_corrected;
+        self.starts_before_the_stale += other.starts_before_the_stale;
+        self.earliest_afresh += other.earliest_afresh;
     }
 }
 
@@ -204,6 +244,7 @@ pub enum Call {
     Submit(Order),
     Complete { ticket: u32 },
     Cancel { ticket: u32 },
+    Amend(Amendment),
     Tick,
 }
 
@@ -246,7 +287,7 @@ impl Book {
         }
         for (ticket, line) in lines.entries {
             let entry = self.entries.get_mut(&ticket).unwrap();
-            *entry = Entry { earliest: entry.earliest, told: entry.told, ..line };
+            *entry = Entry { earliest: entry.earliest, stale: entry.stale, corrected: entry.corrected, told: entry.told, ..line };
             self.tried.jobs_reread += 1;
         }
         self.tried.rereads += 1;
@@ -265,7 +306,7 @@ impl Book {
         self.becomes(&lines)?;
         for (ticket, line) in lines.entries {
             let entry = self.entries.get_mut(&ticket).unwrap();
-            *entry = Entry { earliest: entry.earliest, told: Told::Change, ..line };
+            *entry = Entry { earliest: entry.earliest, stale: entry.stale, told: Told::Change, ..line };
         }
         (self.kind, self.longest) = (lines.kind, None);
         self.tried.changes += 1;
@@ -341,8 +382,10 @@ impl Book {
 
     pub fn enter(&mut self, call: &Call, answer: &Answer) -> Result<(), String> {
         let (ended, started) = (answer.ended.as_slice(), answer.started.as_slice());
-        if let Call::Submit(order) = call {
-            self.as_asked(order, answer)?;
+        match call {
+            Call::Submit(order) => self.as_asked(order, answer)?,
+            Call::Amend(amendment) => self.judged(amendment, answer)?,
+            Call::Complete { .. } | Call::Cancel { .. } | Call::Tick => {}
         }
         if !answer.is_taken() {
             claim!(
@@ -351,6 +394,11 @@ impl Book {
             );
             return Ok(());
         }
+        if let Call::Amend(amendment) = call {
+            if answer.ticket != amendment.ticket {
+                return self.taken_anew(amendment, answer);
+            }
+        }
         self.longest = None;
         self.reads(call, answer)?;
         match *call {
@@ -358,8 +406,9 @@ impl Book {
                 claim!(HOUSES.contains(&house), "a job of {house} is taken in");
                 claim!(least <= estimate, "a job of {least} to {estimate} minutes is taken in");
                 let bound = bound(self.clock, self.waiting().count() as u32 + 1, self.cleanup);
-                let (promise, hold, fate) = (answer.promise, held(estimate), Fate::Waiting);
-                let entry = Entry { nodes, house, promise, bound, forecast: None, fate, least, hold, earliest: None, told: Told::Answers };
+                let (promise, hold, fate, told) = (answer.promise, held(estimate), Fate::Waiting, Told::Answers);
+                let (forecast, earliest, stale, corrected) = (None, None, None, false);
+                let entry = Entry { nodes, house, promise, bound, forecast, fate, least, hold, earliest, stale, corrected, told };
                 claim!(self.entries.insert(answer.ticket, entry).is_none(), "ticket {} is given twice", answer.ticket);
             }
             Call::Tick => self.clock += 1,
@@ -367,6 +416,10 @@ impl Book {
             Call::Cancel { ticket } => {
                 claim!(ended.is_empty(), "a withdrawal ends {ended:?}");
                 self.withdraw(ticket)?;
+            }
+            Call::Amend(amendment) => {
+                claim!(ended.is_empty(), "a correction ends {ended:?}");
+                self.supersede(&amendment, answer)?;
             }
         }
         claim!(ended.windows(2).all(|w| w[0] < w[1]), "tickets ended do not ascend");
@@ -405,6 +458,12 @@ impl Book {
                     self.tried.forecasts_of_lines += u64::from(entry.forecast.is_some());
                 }
                 Told::Change => self.tried.promises_of_changes += 1,
+            }
+            if entry.corrected {
+                self.tried.promises_of_corrected += u64::from(self.kind == Kind::Promise);
+                self.tried.bounds_of_corrected += u64::from(self.kind == Kind::Loose);
+                self.tried.forecasts_of_corrected += u64::from(entry.forecast.is_some());
+                self.tried.starts_before_the_stale += u64::from(entry.stale.is_some_and(|minute| self.clock < minute));
             }
             if let Some((earliest, given)) = entry.earliest {
                 claim!(self.clock >= earliest, "{ticket} starts before its earliest start {earliest}");
@@ -467,8 +526,66 @@ impl Book {
         Ok(())
     }
 
+    /// "Checks: 11 for the named ticket, then 1, 2 and 19, and if either grows the rest of intake's", of which 5 and 6 are left: its place is
+    /// its own.
+    fn judged(&self, amendment: &Amendment, answer: &Answer) -> Result<(), String> {
+        let Amendment { ticket, nodes, estimate, least } = *amendment;
+        let entry = self.entries.get(&ticket).filter(|e| e.fate == Fate::Waiting);
+        let own = match entry {
+            None => 11,
+            Some(_) if !(1..=self.nodes).contains(&nodes) => 1,
+            Some(_) if !(1..=LONGEST_ESTIMATE).contains(&estimate) => 2,
+            Some(_) if least > estimate => 19,
+            Some(entry) if entry.grows(amendment) && [5, 6].contains(&answer.refusal) => answer.refusal,
+            Some(_) => 0,
+        };
+        claim!(answer.refusal == own, "a correction of {ticket} is refused by {}, and not by {own}", answer.refusal);
+        Ok(())
+    }
+
+    /// "If neither nodes nor held time grow, it supersedes that record in place and keeps its promise, or on the Loose Desk its intake minute,
+    /// r and forecast. [...] its soonest minute counts afresh." So its bound stays; "its nodes those last asked for it in a call not
+    /// refused".
+    fn supersede(&mut self, amendment: &Amendment, answer: &Answer) -> Result<(), String> {
+        let Amendment { ticket, nodes, estimate, least } = *amendment;
+        let entry = self.entries.get_mut(&ticket).expect("a job that waits");
+        claim!(!entry.grows(amendment), "{ticket} grows to {nodes} nodes and {estimate} minutes, and keeps its ticket");
+        let kept = if self.kind == Kind::Promise { entry.promise } else { 0 };
+        claim!(answer.promise == kept, "{ticket} is corrected, promised {}, and keeps {kept}", answer.promise);
+        let stale = entry.stale.max(entry.earliest.map(|(minute, _)| minute));
+        *entry = Entry { nodes, least, hold: held(estimate), earliest: None, stale, corrected: true, ..*entry };
+        self.tried.corrected_in_place += 1;
+        self.tried.corrected_of_lines += u64::from(entry.told == Told::Lines);
+        self.tried.corrected_of_changes += u64::from(entry.told == Told::Change);
+        Ok(())
+    }
+
+    /// "If either grows, the old ticket is withdrawn and the order is taken in last with a new ticket": it counts as these two calls. Whoever
+    /// starts or becomes head, and is not the new ticket, does so by the withdrawal.
+    fn taken_anew(&mut self, amendment: &Amendment, answer: &Answer) -> Result<(), String> {
+        let Amendment { ticket, nodes, estimate, least } = *amendment;
+        let entry = self.entries[&ticket];
+        claim!(entry.grows(amendment), "{ticket} does not grow, and gets the ticket {}", answer.ticket);
+        let ended = answer.ended.as_slice();
+        claim!(ended.is_empty(), "a correction ends {ended:?}");
+        let started = answer.started.as_slice();
+        let others = started.strip_suffix(&[answer.ticket]).unwrap_or(started);
+        claim!(!others.contains(&answer.ticket), "{} starts, and then others: {started:?}", answer.ticket);
+        let own_head = answer.head == answer.ticket;
+        let head = |own| if own == own_head { (answer.head, answer.forecast) } else { (0, 0) };
+        let of = |tickets: &[u32], (head, forecast)| Answer { started: listed(tickets), head, forecast, ..*answer };
+        let withdrawal = Answer { ticket: 0, promise: 0, reads: 0, ..of(others, head(false)) };
+        let submission = of(&started[others.len()..], head(true));
+        self.enter(&Call::Cancel { ticket }, &withdrawal)?;
+        self.enter(&Call::Submit(Order { nodes, estimate, tenant: entry.house, least }), &submission)?;
+        self.tried.corrected_anew += 1;
+        self.tried.corrected_of_lines += u64::from(entry.told == Told::Lines);
+        self.tried.corrected_of_changes += u64::from(entry.told == Told::Change);
+        Ok(())
+    }
+
     /// Of every job that waits and of no other an earliest start is given, now or later, and no later than by when it starts. While it
-    /// waits, that never falls.
+    /// waits, and its order is not corrected, that never falls.
     pub fn earliest_start(&mut self, ticket: u32, answer: Earliest) -> Result<(), String> {
         let Earliest { refusal, minute } = answer;
         let waiting = self.entries.get_mut(&ticket).filter(|e| e.fate == Fate::Waiting);
@@ -486,6 +603,7 @@ impl Book {
         claim!(minute >= before, "the earliest start {minute} of {ticket} was {before}");
         if entry.earliest.is_none() || minute > before {
             self.tried.earliest_risen += u64::from(entry.earliest.is_some());
+            self.tried.earliest_afresh += u64::from(entry.earliest.is_none() && entry.stale.is_some_and(|stale| minute < stale));
             entry.earliest = Some((minute, self.clock));
         }
         self.tried.earliest_given += 1;
@@ -634,11 +752,6 @@ impl Book {
 
 /// Each claim can fail: answers made up to break it, and nothing else, are found out.
 pub fn finds_broken_claims() {
-    let tickets = |given: &[u32]| {
-        let mut list = [0; 64];
-        list[..given.len()].copy_from_slice(given);
-        Tickets { count: given.len(), list }
-    };
     let answer = |ticket, promise, started: &[u32], (head, forecast)| Answer {
         refusal: 0,
         ticket,
@@ -646,8 +759,8 @@ pub fn finds_broken_claims() {
         reads: 0,
         head,
         forecast,
-        ended: tickets(&[]),
-        started: tickets(started),
+        ended: listed(&[]),
+        started: listed(started),
     };
     let order = Order { nodes: 6, estimate: 20, tenant: HOUSES[0], least: 0 };
     let submit = || Call::Submit(order);
@@ -687,7 +800,7 @@ pub fn finds_broken_claims() {
     broken(Kind::Promise, vec![promised(9), starts(), withdrawn()], "1 is withdrawn and does not wait: Running(1)");
     broken(Kind::Promise, vec![promised(9), withdrawn(), withdrawn()], "1 is withdrawn and does not wait: Withdrawn(0)");
     broken(Kind::Promise, vec![withdrawn()], "withdrawn that was never given");
-    let ends = Answer { ended: tickets(&[1]), ..answer(0, 0, &[], (0, 0)) };
+    let ends = Answer { ended: listed(&[1]), ..answer(0, 0, &[], (0, 0)) };
     broken(Kind::Promise, vec![promised(9), (cancel(), ends)], "a withdrawal ends [1]");
     // A job that waits in the minute it was told is found out there and then; so that its withdrawal is what is wrong, the clock is put there.
     let withdrawn_at = |kind, taken: (Call, Answer), minute, claim: &str| {
@@ -703,7 +816,7 @@ pub fn finds_broken_claims() {
     withdrawn_at(Kind::Loose, waits(20_000), LONGEST_ESTIMATE, "withdrawn at its bound 10080");
 
     // Job 1 ends in the minute of its start, and its 6 nodes are taken for 5 minutes more: job 2 starts one minute too early, and in time.
-    let ended = || (Call::Complete { ticket: 1 }, Answer { ended: tickets(&[1]), ..answer(0, 0, &[], (0, 0)) });
+    let ended = || (Call::Complete { ticket: 1 }, Answer { ended: listed(&[1]), ..answer(0, 0, &[], (0, 0)) });
     let both = |minutes: usize| {
         let mut calls = vec![(submit(), answer(1, 0, &[1], (0, 0))), ended()];
         calls.extend((0..minutes).map(|_| nothing()));

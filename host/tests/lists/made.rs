@@ -45,6 +45,9 @@ pub fn desk(random: &mut Random) -> Model {
         making.settle();
         making.tell();
     }
+    if making.random.percent(15) {
+        making.desk.next = LAST_TICKET + making.random.below(2);
+    }
     making.desk
 }
 

@@ -1,16 +1,18 @@
 //! Random lists of calls, on the library and on a model written from document 01's words: after every call the answers, every field of the
 //! desk and of its 64 records, the points, the blocks and an earliest start are compared, and now and then how long a job may be, the
-//! status page, the desk's lines, which are read back, and why jobs wait; the guarantees are watched by the calls and their answers, and
-//! the rule on gaps by the records and the points. Each list starts from an opening, and then once more from a desk that no calls need have
-//! made, read back from lines or found in memory; every second Loose Desk becomes a Promise Desk in the middle. The lists are the same in
-//! every run; LISTS says how many, and LIST plays one alone.
+//! status page, the desk's lines, which are read back, and why jobs wait; the guarantees are watched by the calls and their answers, the
+//! rule on gaps by the records and the points, and corrected orders by the records and by the calls that they count as. Each list starts
+//! from an opening, and then once more from a desk that no calls need have made, read back from lines or found in memory; every second
+//! Loose Desk becomes a Promise Desk in the middle. The lists are the same in every run; LISTS says how many, and LIST plays one alone.
 
 mod acceptance;
 mod board;
 mod book;
 mod broken_changes;
+mod broken_corrections;
 mod broken_lines;
 mod broken_sentences;
+mod correction;
 mod damage;
 mod edge;
 mod gaps;
@@ -25,6 +27,7 @@ mod why;
 
 use acceptance::CONDITIONS;
 use book::{Book, Call, Tried};
+use correction::Corrections;
 use hingerota_host::{
     Answer, Block, Desk, Earliest, Inquiry, Kind, Longest, Opening, Order, Point, Shown, MOST_BLOCKS, MOST_POINTS, PAGE_BYTES,
 };
@@ -78,10 +81,12 @@ struct Plan {
     places: [u32; 2],
     calls: u32,
     estimates: Estimates,
-    /// Of a hundred calls, so many are submissions, completions, withdrawals, profiles and waits that are only judged; the others are ticks.
+    /// Of a hundred calls, so many are submissions, completions, withdrawals, corrections, profiles and waits that are only judged; the
+    /// others are ticks.
     submissions: u32,
     completions: u32,
     withdrawals: u32,
+    corrections: u32,
     profiles: u32,
     waits: u32,
 }
@@ -115,19 +120,33 @@ fn plan(random: &mut Random) -> Plan {
         180..=197 => random.between(81, 400),
         _ => random.between(1_000, 2_500),
     };
-    let (submissions, completions, withdrawals, profiles, waits) = random.one_of(&[
-        (40, 15, 10, 10, 5),
-        (60, 8, 5, 5, 3),
-        (25, 20, 15, 20, 8),
-        (80, 4, 3, 4, 2),
-        (35, 30, 10, 5, 5),
-        (45, 5, 30, 5, 3),
-        (90, 3, 2, 2, 1),
+    let (submissions, completions, withdrawals, corrections, profiles, waits) = random.one_of(&[
+        (40, 15, 10, 5, 8, 4),
+        (55, 8, 5, 10, 4, 2),
+        (25, 20, 10, 10, 18, 6),
+        (75, 4, 3, 7, 3, 2),
+        (35, 25, 8, 10, 5, 4),
+        (40, 5, 25, 10, 5, 3),
+        (88, 3, 2, 3, 2, 1),
     ]);
     let kind = random.one_of(&[Kind::Promise, Kind::Loose]);
     let estimates = random.one_of(&[Estimates::Tiny, Estimates::Short, Estimates::Edges, Estimates::Any]);
-    let mut plan =
-        Plan { kind, nodes, minute, ticket, cleanup, places, calls, estimates, submissions, completions, withdrawals, profiles, waits };
+    let mut plan = Plan {
+        kind,
+        nodes,
+        minute,
+        ticket,
+        cleanup,
+        places,
+        calls,
+        estimates,
+        submissions,
+        completions,
+        withdrawals,
+        corrections,
+        profiles,
+        waits,
+    };
     // One opening of twelve is refused, for one reason or for several.
     if random.percent(8) {
         match random.below(9) {
@@ -179,6 +198,7 @@ struct Count {
     /// Refused one minute before the least.
     completions_just_before_least: u64,
     withdrawals: u64,
+    corrections: Corrections,
     ticks: u64,
     profiles: u64,
     points: u64,
@@ -204,7 +224,7 @@ struct Count {
     most_points: usize,
     most_blocks: usize,
     most_reads: u32,
-    /// Early ends and withdrawals after which a pass moved somebody that was not the first.
+    /// Early ends, withdrawals and corrections after which a pass moved somebody that was not the first.
     passes_repeated: u64,
     most_passes: u32,
     /// Waiting jobs of which it was watched that they could not begin earlier.
@@ -251,6 +271,7 @@ impl Count {
         self.completions_in_cleanup += other.completions_in_cleanup;
         self.completions_just_before_least += other.completions_just_before_least;
         self.withdrawals += other.withdrawals;
+        self.corrections.add(&other.corrections);
         self.ticks += other.ticks;
         self.profiles += other.profiles;
         self.points += other.points;
@@ -311,7 +332,7 @@ struct Played {
     /// The tickets withdrawn.
     withdrawn: Vec<u32>,
     /// No waiting job could begin earlier, after any call. "On a desk read back, the rule on gaps holds from its first early end or
-    /// withdrawal."
+    /// withdrawal", or correction: "All waiting stacks, this one too, then move as after a withdrawal".
     tight: bool,
     count: Count,
     done: Vec<String>,
@@ -398,7 +419,7 @@ impl Played {
         Ok(())
     }
 
-    /// After an early end or a withdrawal.
+    /// After an early end, a withdrawal or a correction.
     fn passed(&mut self, answer: &model::Answer) {
         self.tight |= answer.refusal == 0;
         if answer.refusal == 0 && self.model.kind == Kind::Promise {
@@ -703,7 +724,10 @@ fn step(plan: &Plan, played: &mut Played, random: &mut Random) -> Result<(), Str
     } else if roll < plan.submissions + plan.completions + plan.withdrawals {
         let ticket = some_ticket(played, State::Waiting, random);
         played.cancel(ticket)
-    } else if roll < plan.submissions + plan.completions + plan.withdrawals + plan.profiles {
+    } else if roll < plan.submissions + plan.completions + plan.withdrawals + plan.corrections {
+        let amendment = correction::some_correction(plan, played, random);
+        played.amend(amendment)
+    } else if roll < plan.submissions + plan.completions + plan.withdrawals + plan.corrections + plan.profiles {
         let points = played.model.profile().len();
         let room = match random.below(6) {
             0 => 0,
@@ -714,7 +738,7 @@ fn step(plan: &Plan, played: &mut Played, random: &mut Random) -> Result<(), Str
             _ => random.between(0, 200) as usize,
         };
         played.profile(room)
-    } else if roll < plan.submissions + plan.completions + plan.withdrawals + plan.profiles + plan.waits {
+    } else if roll < plan.submissions + plan.completions + plan.withdrawals + plan.corrections + plan.profiles + plan.waits {
         let left = model::LAST_MINUTE - played.model.clock;
         let minutes = match random.below(4) {
             0 => random.one_of(&[0, 1, 10_080, 10_081, 1_000_000, u32::MAX]),
@@ -779,6 +803,7 @@ fn calls(number: u32, plan: &Plan, played: &mut Played, random: &mut Random) -> 
     for call in 0..number {
         if call == change {
             played.migrate(random)?;
+            played.amend_copies(plan, random)?;
         }
         round(plan, played, random)?;
     }
@@ -802,6 +827,7 @@ fn rounds(plan: &Plan, played: &mut Played, random: &mut Random) -> Result<(), S
     played.checkpoint(random)?;
     played.why(random)?;
     played.migrate_a_copy()?;
+    played.amend_copies(plan, random)?;
     calls(random.below(CALLS_GOING_ON), plan, played, random)
 }
 
@@ -828,6 +854,7 @@ fn main() {
     board::finds_broken_pages();
     broken_lines::are_found();
     broken_changes::are_found();
+    broken_corrections::are_found();
     broken_sentences::are_found();
     rereading::reads_texts_handed_over();
     let (began, total, shown) = (Instant::now(), end - first, std::io::stderr().is_terminal());
@@ -910,7 +937,8 @@ fn main() {
          {refused_alike} were refused as the question was"
     );
     println!(
-        "{} waiting jobs could not begin earlier; after {} early ends and withdrawals a second pass moved jobs, and there were up to {} passes",
+        "{} waiting jobs could not begin earlier; after {} early ends, withdrawals and corrections a second pass moved jobs, and there were \
+         up to {} passes",
         all.no_gaps, all.passes_repeated, all.most_passes
     );
     let Tried { rereads, jobs_reread, promises_of_lines, bounds_of_lines, forecasts_of_lines, withdrawn_of_lines, .. } = all.tried;
@@ -954,6 +982,18 @@ fn main() {
         all.holders_in_cleanup,
         all.holders_planned,
         all.tried.findings
+    );
+    print!("{}", all.corrections);
+    let Tried { corrected_in_place, corrected_anew, corrected_of_lines, corrected_of_changes, .. } = all.tried;
+    let Tried { promises_of_corrected, bounds_of_corrected, forecasts_of_corrected, .. } = all.tried;
+    println!(
+        "by calls and answers {corrected_in_place} in place and {corrected_anew} anew, {corrected_of_lines} of jobs of lines that no calls \
+         need have made, {corrected_of_changes} of jobs that a change of kind promised a minute"
+    );
+    println!(
+        "of jobs corrected in place {promises_of_corrected} promises, {bounds_of_corrected} bounds and {forecasts_of_corrected} forecasts \
+         kept; {} earliest starts were smaller than one given before, and {} jobs started before that",
+        all.tried.earliest_afresh, all.tried.starts_before_the_stale
     );
     println!("conditions broken first:");
     for ((words, _), times) in CONDITIONS.iter().zip(all.broken) {

@@ -1,7 +1,7 @@
 //! Document 01's two desks, with what document 02 adds, written from their words and as plainly as they allow, to be compared with: a list
 //! of live jobs, everything worked out anew in each call. Their words are quoted where they are followed.
 
-use hingerota_host::{Inquiry, Kind, Order};
+use hingerota_host::{Amendment, Inquiry, Kind, Order};
 
 pub const MOST_NODES: u32 = 1_024;
 pub const LAST_MINUTE: u32 = 1_000_000;
@@ -87,7 +87,7 @@ pub struct Model {
     /// In the order of tickets.
     pub jobs: Vec<Job>,
     pub search: Search,
-    /// How many passes the last early end or withdrawal took, with the one that moved nothing.
+    /// How many passes the last early end, withdrawal or correction took, with the one that moved nothing.
     pub passes: u32,
 }
 
@@ -190,6 +190,7 @@ impl Model {
 
     /// The minute from which a job's nodes are free again: "nodes stay taken for clearing minutes [...] after a planned or an early end
     /// alike".
+    #[inline]
     pub fn freed(&self, job: &Job) -> u32 {
         match job.state {
             State::Cleanup => job.end + self.cleanup,
@@ -261,6 +262,43 @@ impl Model {
         let head = self.head();
         self.jobs.remove(place);
         self.moves(head, Answer::default())
+    }
+
+    /// Document 02, No. 13: "A photographer finds two frames too many and sends a corrected order naming a waiting ticket." "Checks: 11 for
+    /// the named ticket, then 1, 2 and 19, and if either grows the rest of intake's."
+    pub fn amend(&mut self, amendment: Amendment) -> Answer {
+        let Amendment { ticket, nodes, estimate, least } = amendment;
+        let Some(place) = self.jobs.iter().position(|j| j.waits() && j.ticket == ticket) else {
+            return refused(11);
+        };
+        if nodes == 0 || nodes > self.nodes {
+            return refused(1);
+        }
+        if estimate < 1 || estimate > self.longest {
+            return refused(2);
+        }
+        if least > estimate {
+            return refused(19);
+        }
+        let old = self.jobs[place];
+        // "If neither nodes nor held time grow, it supersedes that record in place and keeps its promise, or on the Loose Desk its intake
+        // minute, r and forecast. All waiting stacks, this one too, then move as after a withdrawal". "either way the answer gives ticket
+        // and promise as intake's does"
+        if nodes <= old.nodes && held(estimate) <= held(old.estimate) {
+            let head = self.head();
+            self.jobs[place] = Job { nodes, estimate, least, ..old };
+            return self.moves(head, Answer { ticket, promise: old.promise, ..Answer::default() });
+        }
+        // "If either grows, the old ticket is withdrawn and the order is taken in last with a new ticket, judged on the desk as the
+        // withdrawal leaves it. If that intake is refused, the old order remains untouched. The house is kept"
+        let untouched = self.clone();
+        let withdrawn = self.cancel(ticket);
+        let taken = self.submit(Order { nodes, estimate, tenant: old.house, least });
+        if taken.refusal != 0 {
+            *self = untouched;
+            return refused(taken.refusal);
+        }
+        Answer { started: [withdrawn.started, taken.started].concat(), head: withdrawn.head.or(taken.head), ..taken }
     }
 
     /// After an early end, and after a withdrawal: "The Promise Desk then moves the others as after an early end; the Loose Desk settles."
@@ -525,7 +563,7 @@ impl Model {
         self.jobs.iter().find(|j| j.waits()).map(|j| j.ticket)
     }
 
-    fn free_now(&self) -> u32 {
+    pub fn free_now(&self) -> u32 {
         self.nodes - self.jobs.iter().filter(|j| j.holds()).map(|j| j.nodes).sum::<u32>()
     }
 

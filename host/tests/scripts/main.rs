@@ -204,6 +204,7 @@ fn arguments() {
         "in NODES [LEAST] MOST HOUSE",
         "end TICKET",
         "drop TICKET",
+        "correct TICKET NODES [LEAST] MOST",
         "wait MINUTES",
         "  change  ",
         "profile",

@@ -3,7 +3,7 @@
 use crate::fields::{letter, number, numbers};
 use crate::page::{taken, Done, Page, Refusal, LACKS_THE_FORM};
 use crate::script::Rack;
-use hingerota_host::{Block, Inquiry, Order, Point, MOST_BLOCKS, MOST_POINTS, PAGE_BYTES};
+use hingerota_host::{Amendment, Block, Inquiry, Order, Point, MOST_BLOCKS, MOST_POINTS, PAGE_BYTES};
 
 struct Word {
     /// The word, and the fields after it as the usage shows them.
@@ -41,6 +41,16 @@ const WORDS: &[Word] = &[
         play: |rack, fields, page| {
             let [ticket] = numbers(fields)?;
             let answer = rack.desk.cancel(ticket);
+            page.answer(&rack.desk, &answer)
+        },
+    },
+    Word {
+        form: "correct TICKET NODES [LEAST] MOST",
+        does: "a waiting job's order is corrected, under a new ticket if NODES or MOST, rounded up, grow",
+        play: |rack, fields, page| {
+            let (ticket, rest) = fields.split_first().ok_or(LACKS_THE_FORM)?;
+            let (ticket, [nodes, least, estimate]) = (number(ticket)?, order(rest)?);
+            let answer = rack.desk.amend(Amendment { ticket, nodes, estimate, least });
             page.answer(&rack.desk, &answer)
         },
     },
