@@ -305,7 +305,7 @@ hingerota_shown hingerota_status_page(const hingerota_desk *d, uint8_t *page, si
  * its start, and then, in the order of tickets, each other job that holds nodes in that minute, by a run, a cleanup or a plan, with its
  * nodes. On a desk read back there may be no such job: then the sentence ends with the minute. Where no waiting job could begin earlier,
  * the nodes of these jobs and its own are together more than the machine has. Two different findings never have the same sentence. On a
- * Loose Desk, and where nobody waits, there is no sentence. Refused by 10, with nothing written. The desk is only read. The call takes some 75
+ * Loose Desk, and where nobody waits, there is no sentence. Refused by 10, with nothing written. The desk is only read. The call takes some 86
  * kB of stack. */
 hingerota_shown hingerota_why(const hingerota_desk *d, uint8_t *text, size_t room);
 
