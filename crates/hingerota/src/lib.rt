@@ -93,7 +93,7 @@ pub struct Tickets {
     pub list: [u32; 64],
 }
 
-// What a call answers; the refusal is document 01's number.
+// What a call answers; the refusal is the number of documents 01 and 02.
 #[repr(C)]
 pub struct Answer {
     pub refusal: u32,
@@ -132,7 +132,7 @@ pub struct Block {
     pub most: u32,
 }
 
-// What a call for the profile, the index, the status page or the lines answers; the refusal is document 01's number.
+// What a call for the profile, the index, the status page or the lines answers; the refusal is the number of documents 01 and 02.
 #[repr(C)]
 pub struct Shown {
     pub refusal: u32,
