@@ -1,5 +1,5 @@
-// Whether a scheduler is one that calls may be made on (document 02, No. 11: "A desk read back is tested"): first each record by itself, then the
-// plan and EASY's queue. Any numbers may stand in it.
+// Tests whether calls may be made on a scheduler (document 02, No. 11: "A desk read back is tested"). Each record is tested by itself first, then
+// the plan and EASY's queue. The scheduler may hold any numbers.
 ghost use mathlib.Core.Path.{_≡_};
 ghost use Rattle.scheduler.specs.Model.{view};
 ghost use Rattle.checkpoint_rules.specs.Acceptance.{accepted};

@@ -1,4 +1,4 @@
--- Two answers made one: that to the withdrawal of a corrected order, and that to its submission (document 02, No. 13).
+-- One answer made of two: the answer to the withdrawal of a corrected order and the answer to its submission (document 02, No. 13).
 -- Assumes nothing.
 use Prim.Native.Nat.{ℕ, suc, _+_, _-_, _≤_}
 use native.Mathlib.Omega.{arith}
@@ -17,7 +17,7 @@ use Rattle.scheduler.specs.Table.{tickets}
 use Rattle.scheduler.specs.Answers.{Reply, Forecast, headTicket, headMinute, answer, replyOf}
 use Rattle.amend_rules.specs.Amending.{hears, answeredBoth}
 
--- two lists of tickets that have room in one
+-- two lists of tickets that fit into one
 pub record Lists (first second : Tickets) : Type 0 where
   pub before : List ℕ
   pub after : List ℕ
@@ -25,7 +25,7 @@ pub record Lists (first second : Tickets) : Type 0 where
   pub second-is : second ≡ tickets after
   pub few : length before + length after ≤ slots
 
--- the replies that two answers are, whose starts have room in one; the first says its reply, so that a head of 0 is none
+-- the replies of two answers whose starts fit into one; the first answer says its reply, so that a head of 0 means none
 pub record Replies (withdrawal submission : Answer) : Type 0 where
   pub first : Reply
   pub second : Reply
@@ -73,7 +73,7 @@ module _ {first second : Tickets} (l : Lists first second) where
     ),
   )
 
-  -- once all of the second stand after the first
+  -- all tickets of the second stand after the first
   pub joined-is : (list : List ℕ) (i : ℕ) → i ≡ second .count → list ≡ sets (first .list) (first .count) (take i (second .list))
       → record { count = first .count + i; list = list } ≡ tickets (l .before ++ l .after)
   unfolding tickets

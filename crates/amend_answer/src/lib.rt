@@ -26,7 +26,8 @@ fn joined(first: Tickets, second: Tickets) -> Tickets
     }
 }
 
-// The answer to a withdrawal and a submission: the submission's, with those that the withdrawal started before, and the head that it made.
+// One answer for a withdrawal and a submission: the submission's. The tickets that the withdrawal started stand first, and a head that the
+// withdrawal made is the head of the answer.
 pub fn both(withdrawal: Answer, submission: Answer) -> Answer
     requires { ⌜ Replies withdrawal submission ⌝ }
     ensures { λ r. ⌜ ((q : Replies withdrawal submission) → r ≡ answer (answeredBoth (q .first) (q .second))) ⌝ }

@@ -1,5 +1,5 @@
--- A corrected order counts as its calls: one call in place, a withdrawal and a submission where it grows, one refused call where it is refused.
--- Its model is theirs, and its one answer tells theirs apart.
+-- A corrected order counts as its calls: one call in place, a withdrawal and a submission where it grows, one refused call where it is refused. It
+-- leaves the model that these calls leave, and its one answer tells their replies apart.
 -- Assumes nothing.
 use Prim.Native.Nat.{ℕ, _≤_, _<_}
 use native.Mathlib.Omega.{arith}
@@ -60,7 +60,7 @@ use Rattle.amend_rules.specs.Amending.{hears, answeredBoth, bothOf, resubmitted
 
 -- ## Three ways
 
--- it is refused, is taken in place, or grows and is taken in anew: what holds of each, with the calls that it counts as, holds of it
+-- it is refused, is taken in place, or grows and is taken in anew: what holds in each case, with the calls that it counts as, holds of it
 module _ (R : Rules) (m : Model) (a : Amendment) where
   pub amended-by : (P : Result → List Call → Type 0) → ((r : Refusal) → accepts r ≡ false → P (refuse m r) (unchanged r ∷ []))
       → ((j : Job) → named m a ≡ some j → grows (m .settings) a j ≡ false → accepts (amendRefusal m a) ≡ true → P (R m (amend a)) (amend a ∷ []))
@@ -85,9 +85,9 @@ module _ (R : Rules) (m : Model) (a : Amendment) where
   counted-model U =
       amended-by (λ x cs. x .model ≡ after R m cs) (λ r n. sym (ap (λ (x : Result). x .model) (U m r))) (λ j e g x. refl) (λ j e g x. refl)
 
--- ## Its one answer tells theirs apart
+-- ## Its one answer tells the replies of its calls apart
 
--- w is the reply of the withdrawal of ticket t, and r that of the submission after it
+-- w is the reply to the withdrawal of ticket t, and r the reply to the submission after it
 pub record Split (w r : Reply) (t : ℕ) : Type 0 where
   pub withdrawal : w ≡ ofWithdrawal (answeredBoth w r)
   pub submission : r ≡ ofSubmission (answeredBoth w r)
@@ -110,7 +110,7 @@ waits-for m a j e =
     let b = both (isWaiting j) (eqb (j .ticket) (a .ticket)) (i .1) in
     queued-by m (a .ticket) j (i .0) (b .0) (eqb-true (j .ticket) (a .ticket) (b .1))
 
--- o is the order that is taken in where a growing one is
+-- o is the order that is taken in if the corrected one grows
 abbrev pub OrderFor : Model → Amendment → Submission → Type 0
 OrderFor m a o = (j : Job) → named m a ≡ some j → o ≡ orderFor a j
 
@@ -120,7 +120,7 @@ module _ {R : Rules} {Valid : Model → Type 0} (T : Tellable R Valid) (m : Mode
   said-new w r p x =
       rw (x, p .other) (ap₂ (λ (y z : Reply). event (cancel (a .ticket)) y ∷ event (submit o) z ∷ []) (sym (p .withdrawal)) (sym (p .submission)))
 
-  -- as a caller has them: the calls that it counts as, with what its answer says of each
+  -- as a caller sees them: the calls that it counts as, each with what the answer says of it
   pub counted-events : OrderFor m a o → eventsSaid a o (amended R m a .reply) ≡ events R m (amendCalls R m a)
   counted-events q =
       amended-by R m a (λ x cs. eventsSaid a o (x .reply) ≡ events R m cs)
@@ -137,7 +137,7 @@ module _ {R : Rules} {Valid : Model → Type 0} (T : Tellable R Valid) (m : Mode
 
 -- ## What both kinds share of it
 
--- the answer of a withdrawal, and of a submission
+-- the answers to a withdrawal and to a submission
 abbrev gave : List ℕ → Option Forecast → Reply
 gave ws f = record { refusal = refusal.None; ticket = 0; promise = 0; reads = 0; ended = []; started = ws; head = f }
 

@@ -61,7 +61,7 @@ module _ {k : Kind} {Fit : Model → Type 0} {OnCourse : Model → ℕ → ℕ �
   abbrev after : JobShown → JobShown
   after = remark (cleanup (n .settings)) (n .clock) (said (rulesOf k) m (cancel (j .ticket)))
 
-  -- what each job counts for its tenant after the withdrawal, and the withdrawn one nothing
+  -- how much each job counts for its tenant after the withdrawal: the withdrawn one counts nothing
   abbrev counts : Tenant → Job → ℕ
   counts h y = on (isLive (after (shown y))) (mine h (shown y))
 

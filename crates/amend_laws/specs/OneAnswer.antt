@@ -1,5 +1,5 @@
--- The one answer of a corrected order has room for its tickets, and loses nothing. Where it grows, those that the withdrawal starts are live after it,
--- and then a place is left for the new one.
+-- The one answer of a corrected order has room for its tickets, and loses nothing. Where the order grows, the jobs that the withdrawal starts are
+-- live after it, so that a place is left for the new one.
 -- Assumes nothing.
 use Prim.Native.Nat.{ℕ, _≤_}
 use native.Mathlib.Omega.{arith}

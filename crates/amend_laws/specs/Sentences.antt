@@ -57,7 +57,7 @@ use Rattle.amend_laws.specs.Steps.{left-is, step-valid, saidFrom, said-i
 
 -- ## A refused one changes nothing
 
--- "If that intake is refused, the old order remains untouched", nor does one that is refused by its own tests change anything
+-- "If that intake is refused, the old order remains untouched". An order that its own tests refuse changes nothing either
 pub refused-amendment : (m : Model) (a : Amendment) → accepts (amended call m a .reply .refusal) ≡ false
     → amended call m a ≡ refuse m (amended call m a .reply .refusal)
 refused-amendment m a =
@@ -101,7 +101,7 @@ module _ (m : Model) (a : Amendment) (v : conservative-valid.Valid m) where
   pub in-place-never-later : (j : Job) → In j (m .jobs) → isWaiting j ≡ true → (k : Job) × In k (conservative.call m (amend a) .model .jobs) × Still j k
   in-place-never-later j i w = still-there m (amend a) j v i w (none-withdrawn (j .ticket))
 
-  -- and whatever it does: every job that waits but the one that is withdrawn since it grows
+  -- and in every case: every waiting job except the one that is withdrawn because it grows
   pub amended-never-later : (j : Job) → In j (m .jobs) → isWaiting j ≡ true → (names a j && grows (m .settings) a j) ≡ false
       → (k : Job) × In k (amended conservative.call m a .model .jobs) × Still j k
   unfolding conservative.call conservative.submitted
@@ -155,13 +155,13 @@ module _ (m : Model) (a : Amendment) (v : easy-valid.Valid m) where
   none-leaves : (t : ℕ) → elem t (said easy.call m (amend a) .withdrew) ≡ false
   none-leaves t = case (accepts (now .reply .refusal)) (λ x. rw x) (λ x. rw x)
 
-  -- in place: whatever a job was on course for, it is so still
+  -- in place: a job is still on course for whatever it was on course for
   pub in-place-in-time : (u b : ℕ) → OnCourse m u b → InTime now u b
   in-place-in-time u b o =
       let k = easy-lawful .keeps b .keeps m (amend a) u v o (none-leaves u) in
       case (elem u (now .reply .started)) (λ s. inl (s, rw (none-leaves u, s) at k)) (λ s. inr (rw (none-leaves u, s) at k))
 
-  -- so of every job that waits, the corrected one too, the bound and the forecast that its record has
+  -- so each waiting job, the corrected one too, keeps to the bound and the forecast of its record
   pub bound-and-forecast : (j : Job) → In j (m .jobs) → isWaiting j ≡ true
       → InTime now (j .ticket) (boundOf (m .settings) j) × (1 ≤ j .forecast → InTime now (j .ticket) (j .forecast))
   bound-and-forecast j i w = (
@@ -169,7 +169,7 @@ module _ (m : Model) (a : Amendment) (v : easy-valid.Valid m) where
     λ f. in-place-in-time (j .ticket) (j .forecast) (v .ready .kept j i w f),
   )
 
-  -- and the shadow of a head that is head still comes no later
+  -- and if the head stays head, its shadow comes no later
   pub head-shadow-no-later : (h k : Job) (later q : List Job) → easy.queue (m .jobs) ≡ h ∷ later → easy.queue (now .model .jobs) ≡ k ∷ q → k .ticket ≡ h .ticket
       → easy.shadow (now .model) (k .nodes) ≤ easy.shadow m (h .nodes)
   head-shadow-no-later h k later q e e′ t =
@@ -213,15 +213,15 @@ module _ (t : ℕ) where
       (all-append (λ (e : Event). Unamended t (news e)) (events call m cs) (events call (after call m cs) ds) (step-unsaid m q (o .0))
       (subst (λ (n : Model). NoneAmends t (events call n ds)) (left-is m q) (all-unsaid (stepped call m q .model) qs (o .1))))
 
--- For every list of calls and corrected orders that follows: by these and their answers, a job starts no sooner than the minute given of it, as long
--- as none of them corrects its order.
+-- For every list of calls and corrected orders that follows: by these and their answers, a job starts no sooner than the minute given for it, as
+-- long as none of them corrects its order.
 pub no-sooner-unamended : (m : Model) (t s : ℕ) (qs : List Step) → Valid m → accepts (earliestStart m t .refusal) ≡ true → All (Other t) qs
     → start (fateFrom (cleanup (m .settings)) (m .clock) t waiting (saidFrom m qs (replies call m qs))) ≡ some s → earliestStart m t .minute ≤ s
 no-sooner-unamended m t s qs v x o e =
     starts-no-sooner m t s (allSteps call m qs) v x (all-unsaid t m qs o)
     (subst (λ (es : List Event). start (fateFrom (cleanup (m .settings)) (m .clock) t waiting es) ≡ some s) (said-is m qs v) e)
 
--- once it is corrected, the minute that the new model gives of it holds in the same way
+-- once its order is corrected, the minute that the new model gives for it holds in the same way
 pub soonest-afresh : (m : Model) (a : Amendment) (s : ℕ) (qs : List Step) → Valid m
     → (let n = amended call m a .model in
     accepts (earliestStart n (a .ticket) .refusal) ≡ true → All (Other (a .ticket)) qs

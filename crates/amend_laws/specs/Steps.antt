@@ -1,5 +1,5 @@
--- Lists of calls with corrected orders among them: demand 3 holds of each, after every single call that they count as, and by the answers that a
--- caller received. For calls as they were made, by value, on what is lent or by a host, it is proved once, as `made-keeps` and `made-around` are.
+-- Lists of calls that contain corrected orders. Demand 3 holds of each such list, after every single call that it counts as, by the answers that a
+-- caller received. One proof covers calls by value, calls on what is lent and a host's calls, like those of `made-keeps` and `made-around`.
 -- Assumes nothing.
 use Prim.Native.Nat.{ℕ}
 use native.Mathlib.Omega.{arith}
@@ -52,7 +52,7 @@ demand3-with-amendments s qs i = demand3 s (take i (allAsked call (startOf s) qs
 
 -- ## By the answers
 
--- a step leaves what its calls do
+-- a step leaves what its calls leave
 pub left-is : (m : Model) (q : Step) → stepped call m q .model ≡ after call m (stepCalls call m q)
 left-is m (ask c) = refl
 left-is m (corrects a) = counted-model call m a unchanged-refuses
@@ -160,7 +160,7 @@ module _ {D A : Type 0} (Made : D → Call → A → D → Type 0) (Amends : D �
   same-settings : (m : Model) (q : Step) → Valid m → stepped call m q .model .settings ≡ m .settings
   same-settings m q v = ap (λ (n : Model). n .settings) (left-is m q) ∙ settings-stay m (stepCalls call m q) v
 
-  -- from a valid model on, what is left and what is answered are those of the steps
+  -- from a valid model on, the models left and the answers given are those of the steps
   pub steps-are : (m : Model) {d : D} {qs : List Step} {xs : List A} {e : D} → Valid m → fit (m .settings) → d ≡ desk m
       → MadeAll (MadeStep Made Amends) d qs xs e
       → (e ≡ desk (after call m (allSteps call m qs))) × (xs ≡ map answered (replies call m qs)) × (map said xs ≡ replies call m qs)

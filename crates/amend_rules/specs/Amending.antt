@@ -1,5 +1,5 @@
--- Corrected orders (document 02, No. 13), above both kinds: in place, or as a withdrawal and a submission; the calls that one counts as in a list,
--- and what a caller can tell of these by its one answer.
+-- Corrected orders (document 02, No. 13), above both kinds. One is taken in place, or it is a withdrawal and a submission. Here are also the calls
+-- that it counts as in a list, and what a caller can tell of these calls by its one answer.
 -- Assumes nothing.
 use mathlib.Core.Bool.{not, cond}
 use mathlib.Core.List.{List, [], _∷_, _++_}
@@ -19,13 +19,13 @@ use Rattle.history.specs.Calls.{Call, Event, Rules, submit, cancel, amend, unch
 
 -- ## What one gives
 
--- who hears a forecast: a head that the withdrawal made, or else one that the submission made
+-- who hears a forecast: a head that the withdrawal made, otherwise one that the submission made
 abbrev pub hears : Option Forecast → Option Forecast → Option Forecast
 hears none f = f
 hears (some g) f = some g
 
--- "either way the answer gives ticket and promise as intake's does": those of the submission. The tickets that the withdrawal started stand
--- before the one that the submission did
+-- "either way the answer gives ticket and promise as intake's does": those of the submission. The tickets that the withdrawal started stand before
+-- the one that the submission started
 abbrev pub answeredBoth : Reply → Reply → Reply
 answeredBoth w r = record {
   refusal = r .refusal;
@@ -62,8 +62,8 @@ amended R m a = judged m (amendRefusal m a) (amendedOf R m a (named m a))
 
 -- ## The calls that it counts as in a list of demand 3
 
--- One that grows is its withdrawal and its submission, or where that submission is refused one refused call, as document 01 has it of a `wait`: "as
--- its steps or as one refused call". So the bound of the new ticket counts those that wait once the old one is withdrawn.
+-- One that grows counts as its withdrawal and its submission. If that submission is refused, it counts as one refused call, as document 01 says of
+-- a `wait`: "as its steps or as one refused call". So the bound of the new ticket counts the jobs that wait once the old one is withdrawn.
 unfoldable pub resubmitCalls : Rules → Model → Amendment → Job → List Call
 resubmitCalls R m a j =
     let x = R (R m (cancel (a .ticket)) .model) (submit (orderFor a j)) .reply .refusal in
@@ -76,9 +76,9 @@ callsOf R m a (some j) = let anew = resubmitCalls R m a j in cond (grows (m .set
 unfoldable pub amendCalls : Rules → Model → Amendment → List Call
 amendCalls R m a = cond (accepts (amendRefusal m a)) (callsOf R m a (named m a)) (unchanged (amendRefusal m a) ∷ [])
 
--- ## These calls as a caller has them, by the one answer
+-- ## These calls as a caller sees them, by the one answer
 
--- of a new ticket t: whoever else has started or become head did so by the withdrawal
+-- t is a new ticket: any other job that has started or become head did so by the withdrawal
 abbrev pub headElse : ℕ → Option Forecast → Option Forecast
 headElse t none = none
 headElse t (some f) = cond (eqb (f .ticket) t) none (some f)

@@ -18,7 +18,7 @@ use Rattle.amend_rules.specs.Amending.{amended, amendCalls, event, event
 
 -- ## What is asked, and the calls that it counts as
 
--- with one answer: a call, or a corrected order
+-- what gets one answer: a call, or a corrected order
 pub data Step : Type 0 where
   ask : Call → Step
   corrects : Amendment → Step
@@ -67,7 +67,7 @@ abbrev pub saidBy : Book → Step → Reply → List Event
 saidBy b (ask c) r = event c r ∷ []
 saidBy b (corrects a) r = eventsSaid a (orderBy b a) r
 
--- of steps and the replies received, as far as both lists go, from a book on; u is the unit of the bound, and k the minutes for which nodes stay taken
+-- what steps and the replies received say, as far as both lists go, from a book on; u is the unit of the bound, and nodes stay taken for k minutes
 -- after the end
 abbrev pub saidAll : (u k : ℕ) → Book → List Step → List Reply → List Event
 saidAll u k b [] rs = []

@@ -44,7 +44,7 @@ use Rattle.amending.specs.Ways.{wayOf, superseding, slotOf, rangeRefusal
 -- ## Among the jobs
 
 module _ (a : Amendment) where
-  -- it alone is superseded, and what is asked of those named is asked of it
+  -- it alone is superseded, and what is asked of the jobs named is asked of it
   record Alone (n : ℕ) (js : List Job) : Type 0 where
     changed : map (supersede a) js ≡ set js n (superseded a (getD js n unused))
     asked : (q : Job → Bool) → any (λ (j : Job). names a j && q j) js ≡ q (getD js n unused)

@@ -1,4 +1,4 @@
--- What becomes of a corrected order (document 02, No. 13), and what one in place does on the table. Of either kind.
+-- What becomes of a corrected order (document 02, No. 13), and what one in place does on the table. It is the same for both kinds.
 -- Assumes nothing.
 use Prim.Native.Nat.{ℕ}
 use mathlib.Core.Bool.{cond}

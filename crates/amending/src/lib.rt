@@ -27,7 +27,7 @@ pub enum Way {
     InPlace,
 }
 
-// What it is refused for by its numbers, in this order: 1, 2, 19.
+// The refusal that its numbers give, in this order: 1, 2, 19.
 fn range_refusal(a: Amendment, settings: Settings) -> Refusal
     ensures { λ r. ⌜ r ≡ rangeRefusal settings a ⌝ }
 {
@@ -57,7 +57,7 @@ fn grows(a: Amendment, job: Job, settings: Settings) -> bool
     held < to_hold
 }
 
-// What is taken in where it grows.
+// The submission that is taken in if it grows.
 fn order_for(a: Amendment, job: Job) -> Submission
     ensures { λ r. ⌜ r ≡ orderFor a job ⌝ }
 {
@@ -70,7 +70,8 @@ fn order_for(a: Amendment, job: Job) -> Submission
     }
 }
 
-// The record in place: it waits on under its ticket, where it was planned, and keeps its promise, or its submission and forecast.
+// The record in place. The job waits on under its ticket, where it was planned. It keeps its promise, or on EASY its intake minute, rank and
+// forecast.
 fn superseded(job: Job, a: Amendment) -> Job
     requires { ⌜ (a .nodes ≤ maxNodes) × (a .estimate ≤ longestEstimate) × (a .least ≤ a .estimate) ⌝ }
     ensures { λ r. ⌜ r ≡ superseded a job ⌝ }
@@ -93,7 +94,7 @@ fn superseded(job: Job, a: Amendment) -> Job
     }
 }
 
-// The slot of the waiting job that it names; the one after the last if there is none.
+// The slot of the waiting job that it names; the one after the last if there is no such job.
 fn slot_of(d: Scheduler, ticket: u32) -> usize
     ensures { λ r. ⌜ r ≡ slotOf (position (departsAs Departure.Cancel ticket) (d .jobs)) ⌝ }
 {
@@ -122,7 +123,7 @@ fn way_for(a: Amendment, job: Job, settings: Settings) -> Way
     Way::Refused(refusal)
 }
 
-// What it is refused for in place, by the job that it names.
+// The refusal of an order in place, by the job that it names.
 fn in_place_refusal(a: Amendment, job: Job, settings: Settings) -> Refusal
     ensures { λ r. ⌜ r ≡ inPlaceBy settings a job ⌝ }
 {
@@ -158,7 +159,7 @@ pub fn kept_promise(d: Scheduler, a: Amendment) -> u32
     0
 }
 
-// It supersedes the record in place; nobody moves yet.
+// The order supersedes the record in place. No job moves yet.
 pub fn supersede(d: Scheduler, a: Amendment) -> Part
     requires { ⌜ Holds Sound d ⌝ }
     ensures { λ r. ⌜ r ≡ part (superseding (view d) a) ⌝ }

@@ -1,4 +1,4 @@
--- What a corrected order gives (document 02, No. 13), and the ways by which the code comes to it.
+-- What a corrected order gives (document 02, No. 13), and how the code computes it.
 -- Assumes nothing.
 use mathlib.Core.Path.{_≡_, refl, sym, ap, subst, _∙_}
 use mathlib.Core.Bool.{true, false}

@@ -1,5 +1,5 @@
--- What a question gives that fills what the caller lends, a list or a page: its elements, by the kind of the scheduler. Document 01, 10: "the
--- lent list, page or text is shorter than what goes into it"; "Places past the last point (or past the end of what is written in a lent text)
+-- A question whose answer fills a list or a page that the caller lends: which elements it gives, by the kind of the scheduler. Document 01, 10:
+-- "the lent list, page or text is shorter than what goes into it"; "Places past the last point (or past the end of what is written in a lent text)
 -- keep what they held"; "A refusal gives .. any lent list unchanged".
 -- Assumes nothing.
 use mathlib.Core.Path.{_≡_, sym}
@@ -30,7 +30,7 @@ module _ {A : Type 0} where
   past-last z xs n e l = sym (List·getD-eq-default xs z (omega arith))
 
 module _ {A : Type 0} (items : Model → List A) where
-  -- what a list with so much room is refused by: the whole of its answer in a history of calls (`unchanged`)
+  -- the refusal for a list with this much room: it is the whole answer in a history of calls (`unchanged`)
   abbrev pub listRefusal : Model → ℕ → Refusal
   listRefusal m room = verdict ((ltb room (length (items m)), refusal.TooShort) ∷ [])
 

@@ -81,7 +81,7 @@ bytes-shown bytes lent after end l c text d e =
     text-shown text d lent {most = length bytes} (omega (arith, ap length e))
     (record { place = omega (arith, c .0, ap length e); left = c .1 ∙ ap (sets lent 0) e; few = omega (arith, ap length e) })
 
--- ## The texts of every valid model have room in so many bytes, so that a call with them is not refused
+-- ## The texts of every valid model fit into these numbers of bytes, so that a call that lends as many is not refused
 
 pub enough-for : (text : Model → List ℕ) (m : Model) (room : ℕ) → length (text m) ≤ room → listRefusal text m room ≡ refusal.None
 unfolding verdict

@@ -35,7 +35,7 @@ use scheduler::Submission;
 use spans::Block;
 use spans::Point;
 
-// What is asked, by the kind's rules.
+// The call that the request asks for, by the kind's rules.
 pub fn call(d: Scheduler, request: Request) -> Outcome
     requires { ⌜ Premise d ⌝ }
     ensures { λ r. ⌜ r ≡ outcome (call (view d) (calls.asked request)) ⌝ }
@@ -85,7 +85,7 @@ fn amend_in_place(d: Scheduler, a: Amendment) -> Outcome
     }
 }
 
-// A corrected order that grows: the old ticket is withdrawn, and this is taken in. Where it is not, everything is as it was.
+// A corrected order that grows: the old ticket is withdrawn, and this submission is taken in. If it is refused, everything stays as it was.
 fn resubmit(d: Scheduler, a: Amendment, s: Submission) -> Outcome
     requires { ⌜ (Premise d) × (way.Anew s ≡ wayOf (view d) a) ⌝ }
     ensures { λ r. ⌜ r ≡ amends d a ⌝ }
@@ -123,7 +123,7 @@ pub fn tick(d: Scheduler) -> Outcome
     call(d, Request::Tick)
 }
 
-// What a call answers that fills what is lent to it: how many elements it wrote.
+// The answer of a call that fills a lent list or page: the refusal, and how many elements were written.
 pub struct Shown {
     pub refusal: Refusal,
     pub count: usize,
@@ -265,7 +265,7 @@ pub fn block_at(p: IndexOutcome, i: usize) -> Block
     p.blocks[i]
 }
 
-// The minute before which the waiting job with this ticket cannot start (document 02, No. 7: "soonest minute"), on either kind.
+// The minute before which the waiting job with this ticket cannot start (document 02, No. 7: "soonest minute"), for either kind.
 pub fn earliest_start(d: Scheduler, ticket: u32) -> Earliest
     requires { ⌜ Premise d ⌝ }
     ensures { λ r. ⌜ r ≡ earliestStart (view d) ticket ⌝ }
@@ -273,8 +273,8 @@ pub fn earliest_start(d: Scheduler, ticket: u32) -> Earliest
     earliest::start(d, ticket)
 }
 
-// The largest estimate with which a submission now would be promised the wanted minute or an earlier one (document 02, No. 9), of conservative
-// backfilling. EASY promises none, and has nothing to answer.
+// The largest estimate with which a submission now would be promised the wanted minute or an earlier one (document 02, No. 9). EASY makes no
+// promises and has nothing to answer.
 pub fn longest_estimate(d: Scheduler, q: Inquiry) -> Longest
     requires { ⌜ Premise d ⌝ }
     ensures { λ r. ⌜ r ≡ longestOf (view d) q ⌝ }
@@ -308,7 +308,7 @@ pub fn status_page(d: Scheduler, page: &mut [u8]) -> Shown
     }
 }
 
-// What was written of a text, into the front of the bytes lent, where there is room for it.
+// Copies a text into the front of the bytes lent, if there is room for it.
 fn show_bytes(lent: &mut [u8], written: &[u8]) -> Shown
     ensures { λ r. ⌜ ShowsBytes (now (written .entry)) (now (lent .entry)) r (now (lent .exit)) ⌝ }
 {
@@ -335,8 +335,8 @@ pub fn checkpoint(d: Scheduler, text: &mut [u8]) -> Shown
     show_bytes(text, &page[..count])
 }
 
-// Why each waiting job of a conservative scheduler waits, a sentence each (document 02, No. 14), into the front of the bytes lent. EASY has nothing to
-// write.
+// Why each waiting job of a conservative scheduler waits, one sentence per job (document 02, No. 14), into the front of the bytes lent. EASY has
+// nothing to write.
 pub fn why(d: Scheduler, text: &mut [u8]) -> Shown
     requires { ⌜ Premise d ⌝ }
     ensures { λ r. ⌜ ShowsWhy d (now (text .entry)) r (now (text .exit)) ⌝ }
@@ -368,7 +368,7 @@ pub fn migrate(d: Scheduler) -> Scheduler
     }
 }
 
-// Why a wait of `minutes` is refused, or that it is not: it is then that number of ticks.
+// Why a wait of `minutes` is refused, if it is. A wait that is not refused is that number of ticks.
 pub fn wait_refusal(d: Scheduler, minutes: u32) -> Refusal
     requires { ⌜ Premise d ⌝ }
     ensures { λ r. ⌜ r ≡ waitRefusal (view d) minutes ⌝ }

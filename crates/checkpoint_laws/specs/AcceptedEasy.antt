@@ -197,7 +197,7 @@ module _ (m : Model) (k : m .settings .kind ≡ Easy) where
             (every-in (boundHolds m h) (at-head m (λ h. every (boundHolds m h) (queue (m .jobs))) (q .bounds) h later x) (in-keep isWaiting i w));
       }
 
-      -- whoever waits and has a forecast is the head
+      -- a waiting job with a forecast is the head
       on-forecast : (j : Job) → In j (m .jobs) → isWaiting j ≡ true → 1 ≤ j .forecast → OnCourse m (j .ticket) (j .forecast)
       on-forecast j i w f =
           let h = head-of m (j .ticket) (record { job = j; isin = i; waits = w; named = refl }) in

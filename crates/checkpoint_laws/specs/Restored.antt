@@ -1,4 +1,4 @@
--- Whatever text is read: its model is one that calls may be made on. A refused reading hands back an empty one.
+-- Calls may be made on the model of any text that is read. A refused reading hands back an empty one.
 -- Assumes nothing.
 use Prim.Native.Nat.{ℕ, _≤_}
 use native.Mathlib.Omega.{arith}

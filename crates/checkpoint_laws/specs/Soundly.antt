@@ -249,7 +249,7 @@ none-nobody js f = sum-zero (λ (j : Job). on (ofTenant Nobody j) 1) js (λ j i.
     one A k = refl
     one B k = refl
 
--- what the tests that both kinds share give, where every hold ends by the last minute and now no more nodes are held than there are
+-- what the shared tests give where every hold ends by the last minute and no more nodes are held now than there are
 pub sound-of : (m : Model) → Lined m → ticketsHold m ≡ true → DeskRange m → sharesHold m ≡ true → ((j : Job) → In j (m .jobs) → RecordFacts m j)
     → ((j : Job) → In j (m .jobs) → until (m .settings) j ≤ horizon (m .settings)) → nodesHeld (m .jobs) ≤ m .settings .nodes → Sound m
 sound-of m l t r s f u c =

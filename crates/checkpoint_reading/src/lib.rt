@@ -1,4 +1,4 @@
-// The lines of a scheduler that was written out (document 02, No. 11), read back: a record's line. (The `desk` line is `script_reading::read_first`.)
+// Reads the lines of a scheduler that was written out (document 02, No. 11): a record's line. (`script_reading::read_first` reads the `desk` line.)
 ghost use mathlib.Core.Path.{_≡_};
 ghost use mathlib.Core.List.{[]};
 ghost use Prim.Native.Nat.{_≤_};
@@ -17,7 +17,7 @@ use scheduler::Tenant;
 use text::Numbers;
 use text::Parsed;
 
-// What a line gives: a record; one with numbers that no record in range has, which may not fit its places; or nothing, as it lacks the form.
+// What a line gives: a record; a record with numbers out of range, which may not fit their fields; or nothing, since the line lacks the form.
 pub enum Given {
     Record(Job),
     Beyond,
@@ -136,7 +136,7 @@ pub struct Records {
     pub scheduler: Scheduler,
 }
 
-// The records of a text from a place on, put into the slots of a scheduler that has none.
+// Reads the records of a text from a place on into the slots of a scheduler that has no records.
 pub fn read_records(text: &[u8], from: usize, d: Scheduler) -> Records
     requires { ⌜ (from ≤ length (now text)) × (d ≡ withJobs d (pad 64 unused [])) ⌝ }
     ensures { λ r. ⌜ Told (now (text .entry)) from d (r .lines) (r .scheduler) ⌝ }

@@ -1,5 +1,5 @@
--- How many bytes the lines of a scheduler have at most. Whoever lends so many is never refused by 10 (document 01: "the lent list, page or text is
--- shorter than what goes into it"). The number is that of lines whose numbers have 10 digits each; those of a valid model have 7 at most.
+-- How many bytes the lines of a scheduler have at most. A caller who lends this many is never refused by 10 (document 01: "the lent list, page or
+-- text is shorter than what goes into it"). The number allows 10 digits for each number; the numbers of a valid model have at most 7.
 -- Assumes nothing.
 use mathlib.Core.Path.{_≡_, refl, sym}
 use mathlib.Core.List.{List, [], _∷_, flatMap}
@@ -27,7 +27,7 @@ use Rattle.checkpoint_laws.specs.AcceptedEasy.{ranks-of}
 use Rattle.checkpoint_laws.specs.Restored.{valid-accepted}
 use Rattle.checkpoint_writing.specs.TextParts.{deskLineOf, desk-line, orderText, timesText, keptText, job-text}
 
--- at most so many
+-- at most this many bytes
 abbrev pub textBytes : ℕ
 textBytes = 7375
 

@@ -23,7 +23,7 @@ pub const PAGE: usize = 7375;
 
 const TAB: u8 = 9;
 
-// The writers write at a place, where the page has room for the most that they write, and give back the place after what they wrote.
+// Each writer writes at a place, where the page has room for the most that it writes, and gives back the place after what it wrote.
 fn put_head(page: &mut [u8], at: usize, kind: Kind) -> usize
     requires { ⌜ at + 12 ≤ length (now page) ⌝ }
     ensures { λ r. ⌜ Wrote 12 (now (page .entry)) at (headText kind) (now (page .exit)) r ⌝ }
@@ -89,7 +89,7 @@ fn put_order(page: &mut [u8], at: usize, j: Job) -> usize
     put_state(page, c, state)
 }
 
-// The start, the promise and the end, whose it is, and its least.
+// The start, the promise, the end, the house and the least.
 fn put_times(page: &mut [u8], at: usize, j: Job) -> usize
     requires { ⌜ at + 46 ≤ length (now page) ⌝ }
     ensures { λ r. ⌜ Wrote 46 (now (page .entry)) at (timesText j) (now (page .exit)) r ⌝ }

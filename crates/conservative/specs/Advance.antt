@@ -1,4 +1,4 @@
--- What a call answers after some jobs have left and the others stand anew: an early completion, a withdrawal and a tick end so.
+-- What a call answers once some jobs have left and the others have moved. An early completion, a withdrawal and a tick all end in this way.
 -- Assumes nothing.
 use mathlib.Core.Path.{_≡_, refl, ap}
 use mathlib.Core.Bool.{Bool, true, false, _&&_}

@@ -1,5 +1,5 @@
-// Conservative backfilling (document 01: "Promise Desk"), by value: submission, early completion, withdrawal and tick. Where jobs are
-// placed, and the profile, are in `conservative_plan`.
+// Conservative backfilling (document 01: "Promise Desk"), by value: submission, early completion, withdrawal and tick. `conservative_plan` places
+// the jobs and has the profile.
 ghost use mathlib.Core.Path.{_≡_};
 ghost use Prim.Native.Nat.{_≤_, _<_};
 ghost use Rattle.scheduler.specs.Limits.{maxNodes, longestEstimate, slots, lastTicket};
@@ -61,7 +61,7 @@ fn began(before: Job, after: Job) -> bool
     }
 }
 
-// The answer of a call that has done its part on the table, after which the others stand as in `after`.
+// The answer of a call that has done its part on the table; `after` is the scheduler once the others have moved.
 pub fn advance(left: Part, after: Scheduler) -> Outcome
     ensures { λ r. ⌜ r ≡ advancedBy left after ⌝ }
 {
@@ -84,7 +84,7 @@ pub fn advance(left: Part, after: Scheduler) -> Outcome
     }
 }
 
-// A job leaves, and whoever waits moves up, after an early completion and after a withdrawal alike.
+// A job leaves by an early completion or a withdrawal. Then the waiting jobs move forward.
 pub fn depart(d: Scheduler, how: Departure, ticket: u32) -> Outcome
     requires { ⌜ Holds Valid d ⌝ }
     ensures { λ r. ⌜ r ≡ outcome (call (view d) (calls.depart how ticket)) ⌝ }
@@ -98,8 +98,7 @@ pub fn depart(d: Scheduler, how: Departure, ticket: u32) -> Outcome
     advance(left, after)
 }
 
-// The outcome of a submission that is taken into the slot with the planned start, for which so many points were read: that start is its
-// promise.
+// The outcome of a submission that is accepted into the slot. Its planned start is its promise, and `reads` points were read for it.
 pub fn accept(d: Scheduler, s: Submission, slot: usize, start: u32, reads: u32) -> Outcome
     requires { ⌜ (slot < slots) × (d .next ≤ lastTicket) × (s .nodes ≤ maxNodes) × (s .estimate ≤ longestEstimate) × (s .least ≤ s .estimate) ⌝ }
     ensures { λ r. ⌜ r ≡ accepted d s slot start reads ⌝ }
@@ -160,7 +159,7 @@ fn starts_at(job: Job, now: u32) -> bool
     false
 }
 
-// The waiting jobs whose planned start is now start, and the call answers. None is planned for now where it is refused.
+// The waiting jobs whose planned start is now start, and the call answers. If the tick is refused, no job is planned for now.
 fn start_due(p: Part) -> Outcome
     ensures { λ r. ⌜ r ≡ startedBy p ⌝ }
 {
@@ -207,7 +206,7 @@ pub fn tick(d: Scheduler) -> Outcome
     start_due(job_table::expire(d))
 }
 
-// What is asked, each by its function.
+// The call that the request asks for.
 pub fn call(d: Scheduler, request: Request) -> Outcome
     requires { ⌜ Holds Valid d ⌝ }
     ensures { λ r. ⌜ r ≡ outcome (call (view d) (calls.asked request)) ⌝ }

@@ -1,4 +1,4 @@
-// Corrected orders in place (document 02, No. 13) in conservative backfilling: the record is superseded, and whoever waits moves up.
+// Corrected orders in place (document 02, No. 13) in conservative backfilling: the record is superseded, and the waiting jobs move forward.
 use scheduler::Amendment;
 use scheduler::Outcome;
 use scheduler::Scheduler;
@@ -25,7 +25,7 @@ fn answering(o: Outcome, ticket: u32, promise: u32) -> Outcome
     }
 }
 
-// The job that it names is superseded and keeps its promise, and all that wait move up, this one too.
+// The named job is superseded and keeps its promise. Then all waiting jobs move forward, this one too.
 pub fn amend(d: Scheduler, a: Amendment) -> Outcome
     requires { ⌜ Holds Valid d ⌝ }
     ensures { λ r. ⌜ r ≡ outcome (call (view d) (calls.amend a)) ⌝ }

@@ -1,5 +1,5 @@
-// The index of a profile (document 02: "for each block of 16 points, the fewest and the most free nodes"), and the search for the earliest
-// start that goes through the blocks and counts the points that it reads.
+// The index of a profile (document 02: "for each block of 16 points, the fewest and the most free nodes"), and the search for the earliest start.
+// The search goes through the blocks and counts the points that it reads.
 ghost use mathlib.Core.Path.{_≡_};
 ghost use Prim.Native.Nat.{_+_, _-_, min, _<_, _≤_};
 ghost use lib.ListN.{length};
@@ -19,7 +19,7 @@ pub struct Blocks {
 }
 
 impl Blocks {
-    // The blocks of so many points, copied out of the lists.
+    // The blocks of this number of points, copied out of the lists.
     pub fn copied(low: &[u32; 9], high: &[u32; 9], points: usize) -> Blocks
         requires { ⌜ (length (now low) ≡ 9) × (length (now high) ≡ 9) × (points ≤ rows) ⌝ }
         ensures { λ r. ⌜ r ≡ storedBlocks (held (now (low .entry)) (now (high .entry)) (blocks points)) ⌝ }
@@ -77,7 +77,7 @@ fn end_of(from: usize, count: usize) -> usize
     from + 16
 }
 
-// The index is brought up to date from this block on; those before it are.
+// Brings the index up to date from this block on. The blocks before it are up to date already.
 pub fn build(free: &[u32; 131], count: usize, low: &mut [u32; 9], high: &mut [u32; 9], first: usize)
     requires { ⌜ Built (now free) count (now low) (now high) first × (length (now free) ≡ rows) × (count ≤ rows) × (first ≤ 9) ⌝ }
     ensures { λ _. ⌜ Indexed (now (free .entry)) count (now (low .exit)) (now (high .exit)) ⌝ }
@@ -94,14 +94,14 @@ pub fn build(free: &[u32; 131], count: usize, low: &mut [u32; 9], high: &mut [u3
     }
 }
 
-// Where the search stands: no minute so far will do; or from a minute on the nodes have been free so far; or a minute does.
+// The state of the search: no minute so far will do; or the nodes have been free since a minute; or a minute is found.
 pub enum Anchor {
     Lost,
     From(u32),
     Found(u32),
 }
 
-// Where the search stands after a block, and how many of its points were read.
+// The state of the search after a block, and how many of its points were read.
 pub struct Step {
     pub anchor: Anchor,
     pub reads: usize,
@@ -113,7 +113,7 @@ pub struct Start {
     pub reads: usize,
 }
 
-// The search comes to a minute: by then the hold may be over.
+// The search comes to a minute. The hold may be over by then.
 fn enter(anchor: Anchor, hold: u32, minute: u32) -> Anchor
     ensures { λ r. ⌜ r ≡ enter hold minute anchor ⌝ }
 {
@@ -131,7 +131,7 @@ fn enter(anchor: Anchor, hold: u32, minute: u32) -> Anchor
     }
 }
 
-// From this minute on there are nodes enough, or not.
+// From this minute on there are enough nodes, or there are not.
 fn settle(anchor: Anchor, minute: u32, enough: bool) -> Anchor
     ensures { λ r. ⌜ r ≡ settle minute enough anchor ⌝ }
 {
@@ -174,7 +174,7 @@ fn is_open(anchor: Anchor) -> bool
     }
 }
 
-// The minute from which on they have been, or that was found.
+// The minute since which they have been free, or the minute that was found.
 fn minute_of(anchor: Anchor) -> u32
     ensures { λ r. ⌜ r ≡ minuteOf anchor ⌝ }
 {
@@ -185,7 +185,7 @@ fn minute_of(anchor: Anchor) -> u32
     }
 }
 
-// The free nodes of these points are read, of each once, and it is noted where there are enough. It gives how many points were read.
+// Reads the free nodes of these points, each once, notes where there are enough, and gives how many points were read.
 fn read_points(
     free: &[u32; 131],
     from: usize,
@@ -206,8 +206,8 @@ fn read_points(
     reads
 }
 
-// The search passes so many points, of which it is noted where there are nodes enough. They have been free since a minute, or are not. (In
-// two locals: an enum matched at each point takes three times as long.)
+// The search passes these points; the notes say which of them have enough nodes. Before them the nodes have been free since a minute, or they have
+// not. (The state is in two locals: matching an enum at each point takes three times as long.)
 fn pass_points(
     minutes: &[u32; 131],
     from: usize,

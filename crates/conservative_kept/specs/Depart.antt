@@ -57,7 +57,7 @@ abbrev pub slotAt : Option ℕ → ℕ
 slotAt (some i) = i
 slotAt none = slots
 
--- the nodes that a departure gives back: those of a run that ends once they are cleared, and all that a job that waits was to hold
+-- the nodes that a departure gives back: a run that ends gives them back once cleanup is over; a waiting job gives back all that it was to hold
 abbrev pub freedFrom : Settings → ℕ → Departure → Job → ℕ
 freedFrom S now Complete j = now + cleanup S
 freedFrom S now Cancel j = j .start
@@ -195,7 +195,7 @@ lifted-stored m h u a p =
     let o = own-taken m (departRefusal m h u) (leaving m (m .clock) (select.Departing h u) (withdrawnBy h u)) a .1 in
     rw o (profile-stored (without m (m .clock) (select.Departing h u)) p)
 
--- after the passes they are that of the model handed back
+-- after the passes they are the profile of the model handed back
 pub passed-profile : (d : Scheduler) (m : Model) → d ≡ store m → {n : ℕ} {ms fs : List ℕ} → Tabulated d n ms fs
     → IsProfile (m .settings .nodes) (spans (m .settings) (m .jobs)) (m .clock) n ms fs
 passed-profile d m e {n} {ms} {fs} t = stored-profile m (subst (λ (x : Scheduler). Tabulated x n ms fs) e t)

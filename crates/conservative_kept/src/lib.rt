@@ -1,5 +1,5 @@
-// Conservative backfilling with the profile and its index kept from call to call, in lists that are lent: each call leaves them as they are
-// after it. What a call answers is what it answers by value.
+// Conservative backfilling with the profile and its index kept from call to call, in lists that are lent. Each call brings the lists up to date.
+// Its answer is that of the call by value.
 ghost use mathlib.Core.Path.{_≡_};
 ghost use Prim.Native.Nat.{_≤_};
 ghost use lib.ListN.{length};
@@ -124,7 +124,7 @@ pub fn submit(
     }
 }
 
-// The slot of the job that departs. There is no slot 64.
+// The slot of the job that departs; 64 if there is none.
 fn slot_of(d: Scheduler, how: Departure, ticket: u32) -> usize
     ensures { λ r. ⌜ r ≡ slotAt (position (departsAs how ticket) (d .jobs)) ⌝ }
 {
@@ -139,7 +139,7 @@ fn slot_of(d: Scheduler, how: Departure, ticket: u32) -> usize
     i
 }
 
-// The minute from which on the nodes of a job that departs are free.
+// The minute from which the nodes of a departing job are free.
 fn freed_from(job: Job, how: Departure, settings: Settings, clock: u32) -> u32
     requires { ⌜ clock ≤ horizon ⌝ }
     ensures { λ r. ⌜ r ≡ freedFrom settings clock how job ⌝ }
@@ -150,7 +150,7 @@ fn freed_from(job: Job, how: Departure, settings: Settings, clock: u32) -> u32
     }
 }
 
-// What a job that departs gives back.
+// The span that a departing job gives back.
 fn freed(job: Job, how: Departure, settings: Settings, clock: u32) -> spans::Span
     requires { ⌜ Low job × (clock ≤ horizon) ⌝ }
     ensures { λ r. ⌜ r ≡ freed settings clock how job ⌝ }
@@ -164,7 +164,7 @@ fn freed(job: Job, how: Departure, settings: Settings, clock: u32) -> spans::Spa
     }
 }
 
-// A job leaves: what it gives back is taken out of the points, and whoever waits moves up.
+// A job leaves. What it gives back is taken out of the points, and the waiting jobs move forward.
 pub fn depart(
     d: Scheduler,
     how: Departure,
@@ -202,7 +202,7 @@ pub fn depart(
     }
 }
 
-// What is asked, each by its function.
+// The call that the request asks for.
 pub fn call(
     d: Scheduler,
     request: Request,

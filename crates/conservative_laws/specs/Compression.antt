@@ -1,5 +1,5 @@
--- The pass of an early end or a withdrawal, repeated until it moves nobody (document 02, No. 10): it ends, keeps all that a pass keeps, and
--- another pass after it moves nobody.
+-- The pass after an early end or a withdrawal, repeated until it moves no job (document 02, No. 10). It ends, it keeps all that one pass keeps, and
+-- another pass after it moves no job.
 -- Assumes nothing.
 use Prim.Native.Nat.{ℕ, zero, suc, _≤_, _<_}
 use native.Mathlib.Omega.{arith}
@@ -74,7 +74,7 @@ module _ (S : Settings) (now : ℕ) where
   follows-movable j k (stays e) m = m
   follows-movable j k (moves s e a b) m = record { nodes-to = m .nodes-to; ahead = follows-ahead now j (placed now s j) (moves s e a b); no-end = λ w. refl }
 
-  -- whose start is the same is the same
+  -- a job with the same start is the same job
   pub follows-still : (j k : Job) → Follows now j k → Movable S now j → k .start ≡ j .start → k ≡ j
   follows-still j k (stays e) m q = refl
   follows-still j k (moves s e a b) m q = ap (λ (x : ℕ). placed now x j) q ∙ placed-still now j e (m .ahead e) (m .no-end e)
@@ -95,7 +95,7 @@ module _ (S : Settings) (now : ℕ) where
   zip-twice (i ∷ is) (j ∷ js) [] x y = absurd y
   zip-twice (i ∷ is) (j ∷ js) (k ∷ ks) x y = (follows-twice i j k (x .0) (y .0), zip-twice is js ks (x .1) (y .1))
 
-  -- where nobody has another start nothing has changed
+  -- where no job has another start nothing has changed
   zip-still : (js ks : List Job) → ((j : Job) → In j js → Movable S now j) → Zip (Follows now) js ks → unmoved js ks ≡ true → ks ≡ js
   zip-still [] [] f z u = refl
   zip-still [] (k ∷ ks) f z u = absurd z
@@ -105,7 +105,7 @@ module _ (S : Settings) (now : ℕ) where
       ap₂ (λ (x : Job) (xs : List Job). x ∷ xs) (follows-still j k (z .0) (f j (here refl)) (eqb-true (k .start) (j .start) (b .0)))
       (zip-still js ks (λ x i. f x (there i)) (z .1) (b .1))
 
-  -- no start gets later, so that the sum of starts does not rise, and falls where somebody moves
+  -- no start gets later: the sum of starts does not rise, and falls where a job moves
   zip-starts : (js ks : List Job) → Zip (Follows now) js ks → sum startOf ks ≤ sum startOf js
   zip-starts [] [] z = omega arith
   zip-starts [] (k ∷ ks) z = absurd z
@@ -183,7 +183,7 @@ module _ (S : Settings) (now : ℕ) where
         repeats = λ z. again js ks (subst (λ (xs : List Job). Repeats z xs ks) (as-loop z) (r .repeats z));
       }
 
-  -- so many passes are enough
+  -- this number of passes is enough
   pub compressed-is : (js : List Job) → Compressible S now js → Compressed js (compressed S now js)
   unfolding compressed
   compressed-is js c = passes-is (suc (sum startOf js)) js (omega arith) c
@@ -199,7 +199,7 @@ module _ (S : Settings) (now : ℕ) where
       (λ u. rw u)
       (λ u. let l = passed-falls js c u in rw u (passes-any n k (passed js) (omega arith) (omega arith) (passed-ready js c)))
 
-  -- where a pass moves nobody it is over
+  -- once a pass moves no job it is over
   pub compressed-still : (js : List Job) → pass S now [] js ≡ js → compressed S now js ≡ js
   unfolding compressed passes
   compressed-still js e = rw (e, unmoved-same js)

@@ -1,5 +1,5 @@
--- For the reader: how long a job may be and still start by a wanted minute (document 02, No. 9). Estimates that a submission would take and
--- start by then are 1 to the answer, since longer ones never get earlier starts.
+-- For the reader: how long a job may be and still start by a wanted minute (document 02, No. 9). The estimates that a submission would take and
+-- start by then are 1 to the answer, since longer estimates never get earlier starts.
 -- Assumes nothing.
 use Prim.Native.Nat.{ℕ, _+_, _≤_, _<_}
 use native.Mathlib.Omega.{arith}
@@ -126,7 +126,7 @@ module _ (m : Model) (q : Inquiry) where
   unfolding inquiryRefusal
   refused-as-one l = rw (le-ltb (q .minute) (m .clock) l)
 
-  -- An estimate of 1 is within every longest estimate, so that 2 never does, nor 19: in this order 21, 14, 1, 15, 5, 6
+  -- Every longest estimate is at least 1, so that an estimate of 1 is never refused by 2, nor by 19. In this order: 21, 14, 1, 15, 5, 6
   pub inquiry-refusal : Valid m → inquiryRefusal m q ≡ verdict
       ((ltb (q .minute) (m .clock), refusal.WantedMinutePast)
       ∷ (not (known (q .tenant)), refusal.UnknownTenant)
@@ -190,7 +190,7 @@ module _ (m : Model) (q : Inquiry) where
 
   -- ## By the free nodes
 
-  -- there is room for so many minutes by the minute w
+  -- there is room for this many minutes by the minute w
   abbrev pub RoomBy : (w h : ℕ) → Type 0
   RoomBy w h = Room (free (S .nodes) (spans S (m .jobs))) (m .clock) (q .nodes) (horizon S) w h
 
@@ -212,7 +212,7 @@ module _ (m : Model) (q : Inquiry) where
         let t = fits-taken e (fit-other 1 e f a b) (s .1) in
         (t, omega (arith, promise-is e t, s .0))
 
-    -- without room for the shortest an estimate of 1 is refused by 6
+    -- without room for the shortest hold, an estimate of 1 is refused by 6
     pub room-past : (RoomBy (horizon S) (hold 1) → ⊥) → replyTo m q 1 .refusal ≡ refusal.PastHorizon
     unfolding submitRefusal verdict planned
     room-past n = by (le-or (start 1 + hold 1) (horizon S))

@@ -1,5 +1,5 @@
--- Conservative backfilling owes what `Lawful` asks of each single call: its answer tells what has changed, and a job that waits has a
--- planned start, which only gets earlier, so that it starts as promised unless it is withdrawn before.
+-- Conservative backfilling owes what `Lawful` asks of each single call. Its answer tells what has changed. A waiting job has a planned start that
+-- only gets earlier, so that it starts as promised unless it is withdrawn before.
 -- Assumes nothing.
 use Prim.Native.Nat.{ℕ, suc, min, _≤_, _<_}
 use native.Mathlib.Omega.{arith}
@@ -80,7 +80,7 @@ begun-tells R lo (j ∷ js) (k ∷ ks) a z =
     ))
     (λ e. rw e ((z .0, begun-low (j .ticket) (suc (j .ticket)) js ks (omega arith) (a .1)), rest))
 
--- so whoever starts waited
+-- so a job that starts waited before
 pub begun-waited : (t : ℕ) (js ks : List Job) → elem t (begun js ks) ≡ true → (j : Job) × In j js × (isWaiting j ≡ true) × (j .ticket ≡ t)
 begun-waited t [] ks e = true-false false e refl
 begun-waited t (j ∷ js) [] e = true-false false e refl
@@ -157,7 +157,7 @@ module _ (m : Model) (c : ℕ) (s : Select) (e : News) (v : Valid m) (d : Depart
 not-new : (s c t n : ℕ) → t < n → elem t (cond (eqb s c) (n ∷ []) []) ≡ false
 not-new s c t n l = case (eqb s c) (λ q. rw (q, ne-eqb t n (λ e. omega arith))) (λ q. rw q)
 
--- who lives on does not leave; so does who waits and is not withdrawn
+-- a job that lives on does not leave; a waiting job that is not withdrawn lives on
 pub lives-stays : (m : Model) (e : News) (c : ℕ) (s : Select) → Valid m → Says m e c s → (j : Job) → In j (m .jobs)
     → lives (cleanup (m .settings)) c e j ≡ true → table.leaves (m .settings) s j ≡ false
 lives-stays m e c s v t j i l = not-true (table.leaves (m .settings) s j) (sym (departs-live m c s e (v .sound) (t .departs) j i) ∙ l)
@@ -288,7 +288,7 @@ moved-keeps m ks u b v g o =
           },
         ))
 
--- one that is superseded is on course for what it was on course for
+-- a job that is superseded is still on course for what it was on course for
 inplace-course : (m : Model) (a : Amendment) (u b : ℕ) → OnCourse m u b → OnCourse (inPlace m a) u b
 inplace-course m a u b o = record {
   job = supersede a (o .job);

@@ -1,4 +1,4 @@
--- The ways in which a call of conservative backfilling comes out: from these few all laws of single calls are proved. What a call hands
+-- The ways in which a call of conservative backfilling can come out. All laws of single calls are proved from these few ways. What a call hands
 -- back is valid.
 -- Assumes nothing.
 use Prim.Native.Nat.{ℕ, suc, _+_, _≤_, _<_}

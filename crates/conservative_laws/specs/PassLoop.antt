@@ -1,4 +1,4 @@
--- For code: the pass of an early end or a withdrawal as a loop over the indices of an array, and the others in any order.
+-- For code: the pass after an early end or a withdrawal, as a loop over the indices of an array, with the others in any order.
 -- Assumes nothing.
 use Prim.Native.Nat.{ℕ, zero, suc, _+_, _≤_}
 use native.Mathlib.Omega.{arith}

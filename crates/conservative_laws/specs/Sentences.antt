@@ -1,5 +1,5 @@
--- For the reader: document 01's sentences about the Promise Desk, each as a theorem about what calls give, so that a definition cannot be
--- bent along with the code.
+-- For the reader: document 01's sentences about the Promise Desk, each as a theorem about what calls give. So a definition cannot be bent along
+-- with the code.
 -- Assumes nothing.
 use mathlib.Core.Logic.{_⊎_, inl, inr}
 use Prim.Native.Nat.{ℕ, suc, _+_, _-_, _≤_}
@@ -60,11 +60,11 @@ use Rattle.conservative_laws.specs.Compression.{Repeats, left-compressib
 
 -- ## Free nodes
 
--- the minute from which the nodes of a job with this start are free again: its held time after the start, and its clearing
+-- the minute from which the nodes of a job with this start are free again: its start plus its held time and the cleanup
 abbrev pub freedAt : Settings → Job → ℕ
 freedAt S j = j .start + wallTime (j .estimate) + S .cleanup
 
--- "those of running stacks whose end is after t": with clearing, whose nodes are taken still
+-- "those of running stacks whose end is after t": with cleanup, those whose nodes are still taken
 abbrev pub runningAfter : Settings → ℕ → Job → ℕ
 runningAfter S t j = on (isRunning j && ltb t (freedAt S j)) (j .nodes)
 
@@ -72,7 +72,7 @@ runningAfter S t j = on (isRunning j && ltb t (freedAt S j)) (j .nodes)
 abbrev pub cleaningAfter : Settings → ℕ → Job → ℕ
 cleaningAfter S t j = on (isCleaning j && ltb t (j .end + S .cleanup)) (j .nodes)
 
--- "those of waiting stacks with start ≤ t < start + held": with clearing, start + held + clearing
+-- "those of waiting stacks with start ≤ t < start + held": with cleanup, start + held + cleanup
 abbrev pub waitingOver : Settings → ℕ → Job → ℕ
 waitingOver S t j = on (isWaiting j && (leb (j .start) t && ltb t (freedAt S j))) (j .nodes)
 
@@ -85,7 +85,7 @@ freeNodes m t =
     - sum (cleaningAfter (m .settings) t) (m .jobs)
     - sum (waitingOver (m .settings) t) (m .jobs)
 
--- a clearing that an opening takes is the setting
+-- a cleanup that an opening takes is the setting
 until-freed : (S : Settings) (j : Job) → S .cleanup ≤ limit.longestCleanup → isCleaning j ≡ false → until S j ≡ freedAt S j
 unfolding runTime
 until-freed S j k n = omega (arith, until-is S j n, hold-is S (j .estimate), cleanup-is S k)
@@ -193,10 +193,10 @@ moved-waiting S now others j w l =
 pub moved-running : (S : Settings) (now : ℕ) (others : List Job) (j : Job) → isWaiting j ≡ false → moved S now others j ≡ j
 moved-running S now others j w = rw w
 
--- "Then each waiting stack, once, in ticket order": the jobs that remain have their turns by their indices, each with all others as they are
--- then (`turn` moves the job at an index; z stands for what is past the list). Document 02, No. 10: "Repeat the pass until a whole pass
--- moves nothing." That it ends is that there are so many passes, one after another, of which the last changes nothing (`Repeats`). No. 1:
--- the same after a withdrawal. No. 3: one whose run has ended is in cleanup, and the others are planned around it.
+-- "Then each waiting stack, once, in ticket order": the jobs that remain have their turns by their indices, each with all others as they are then
+-- (`turn` moves the job at an index; z stands for what is past the list). Document 02, No. 10: "Repeat the pass until a whole pass moves nothing."
+-- That it ends means that there is a number of passes, one after another, of which the last changes nothing (`Repeats`). No. 1: the same after a
+-- withdrawal. No. 3: one whose run has ended is in cleanup, and the others are planned around it.
 pub depart-moves : (m : Model) (h : Departure) (t : ℕ) (z : Job) → Valid m → accepts (call m (depart h t) .reply .refusal) ≡ true
     → Repeats (m .settings) (m .clock) z (remaining (m .settings) (m .clock) (select.Departing h t) (m .jobs)) (call m (depart h t) .model .jobs)
 unfolding call departed advanced
@@ -213,11 +213,11 @@ depart-moves m h t z v =
 abbrev pub overAt : ℕ → Job → Bool
 overAt now j = isRunning j && eqb (j .start + wallTime (j .estimate)) now
 
--- document 02, No. 3: those whose nodes have been cleared now; with clearing 0, those whose end is now
+-- document 02, No. 3: those whose cleanup is over now; with a cleanup of 0, those whose end is now
 abbrev pub freeNow : Settings → ℕ → Job → Bool
 freeNow S now j = (isCleaning j && eqb (j .end + S .cleanup) now) || (overAt now j && eqb (S .cleanup) 0)
 
--- and those whose end is now otherwise: their records keep it
+-- otherwise, those whose end is now: their records keep it
 abbrev pub endsNow : ℕ → Job → Job
 endsNow now j = cond (overAt now j) (cleaning now j) j
 
@@ -267,8 +267,8 @@ starts-stay m now =
         waits-stays : isWaiting j ≡ true → table.leaves S u j ≡ false
         waits-stays w = rw (waits-runs (j .state) w, waiting-clean (j .state) w)
 
--- "The clock rises by one, stacks whose end is now leave, waiting stacks whose planned start is now start. Nothing else moves." With
--- clearing, stacks whose end is now are cleared from then on, and stacks that have been cleared leave
+-- "The clock rises by one, stacks whose end is now leave, waiting stacks whose planned start is now start. Nothing else moves." With cleanup, jobs
+-- whose end is now are in cleanup from then on, and jobs whose cleanup is over leave
 pub record Ticked (m : Model) (r : Result) : Type 0 where
   pub clock-is : r .model .clock ≡ suc (m .clock)
   pub ended-is : r .reply .ended ≡ ticketsOf (keep (overAt (suc (m .clock))) (m .jobs))
@@ -315,7 +315,7 @@ pub record Still (j k : Job) : Type 0 where
   pub start : k .start ≤ j .start
   pub promise : k .promise ≡ j .promise
 
--- so is each that the answer does not say to leave
+-- so is each job that the answer does not name as leaving
 outcome-still : (m : Model) {c : Call} {r : Result} (j : Job) → Valid m → CameOut m c r → In j (m .jobs)
     → lives (cleanup (m .settings)) (r .model .clock) (newsOf c (r .reply)) j ≡ true → (k : Job) × In k (r .model .jobs) × Still j k
 unfolding submitted advanced amendedTo
@@ -351,7 +351,7 @@ outcome-still m j v (leaves c clock s after l g t) i w =
     as-was : (f : Job → ℕ) → f (cleaning clock j) ≡ f j → f (ceased clock s j) ≡ f j
     as-was f q = case (ends s j) (λ e. rw e q) (λ e. rw e)
 
--- after every call this holds of each job that waits and that the call does not withdraw
+-- after every call this holds of each waiting job that the call does not withdraw
 pub still-there : (m : Model) (c : Call) (j : Job) → Valid m → In j (m .jobs) → isWaiting j ≡ true → elem (j .ticket) (said call m c .withdrew) ≡ false
     → (k : Job) × In k (call m c .model .jobs) × Still j k
 still-there m c j v i w n =
@@ -422,7 +422,7 @@ outcome-rises m v (leaves c clock s after l g t) = (
 pub answers-rise : (m : Model) (c : Call) → Valid m → Rising 1 (call m c .reply .ended) × Rising 1 (call m c .reply .started)
 answers-rise m c v = outcome-rises m v (outcome m c v)
 
--- a job that starts waits until then: it waited before the call, or is the one that the call took in
+-- a job that starts waits until then: it waited before the call, or the call took it in
 pub record Waited (m : Model) (t : ℕ) : Type 0 where
   pub job : Job
   pub isin : In job (m .jobs)
@@ -466,7 +466,7 @@ next-is m tick = judged-by (Given m tick) m (tickRefusal m) (ticked m) (λ a. re
 next-is m (amend a) = judged-by (Given m (amend a)) m (inPlaceRefusal m a) (amended m a) (λ x. refl) (λ x. rw x)
 next-is m (unchanged w) = case (accepts w) (λ a. rw a) (λ a. rw a)
 
--- whose run ends ran, for its least or longer
+-- a job whose run ends was running, and had run for at least its least
 ended-ran : (m : Model) (c : Call) (u : ℕ) → Sound m → Ended m c u (call m c)
 unfolding call submitted departed ticked advanced amendedTo amended
 ended-ran m (submit o) u s =
@@ -520,9 +520,9 @@ refused-is m tick = judged-refused m (tickRefusal m) (ticked m) refl
 refused-is m (amend a) = judged-refused m (inPlaceRefusal m a) (amended m a) refl
 refused-is m (unchanged w) = λ a. refl
 
--- Each refusal, with its conditions in the documents' order and no others. 14: "a house other than A or B"; 1: "stack nodes 0 or above the
--- rack's"; 2: "estimate .. outside 1 to 10,080", by document 02, No. 6, to the longest; 19: "least above most"; 15: "the house's places are all
--- live"; 5: "ticket 999,999 has been given"; 6: "start + held above 1,000,000", and the clearing
+-- Each refusal, with its conditions in the documents' order and no others. 14: "a house other than A or B"; 1: "stack nodes 0 or above the rack's";
+-- 2: "estimate .. outside 1 to 10,080", by document 02, No. 6, to the longest; 19: "least above most"; 15: "the house's places are all live"; 5:
+-- "ticket 999,999 has been given"; 6: "start + held above 1,000,000", with the cleanup
 pub submit-refusal : (m : Model) (o : Submission) → Valid m → call m (submit o) .reply .refusal ≡ verdict
     ((not (known (o .tenant)), refusal.UnknownTenant)
     ∷ (ltb (o .nodes) 1 || ltb (m .settings .nodes) (o .nodes), refusal.NodesOutOfRange)

@@ -149,7 +149,7 @@ still-fixed S now done (x ∷ xs) all n e u j i w = go (in-cons i)
     go (inl q) f = subst (Fixed S now all) (sym q) (first (subst (λ (y : Job). isWaiting y ≡ true) q w))
     go (inr k) f = f k
 
--- any valid model is so after an early end or a withdrawal that is not refused
+-- after an early end or a withdrawal that is not refused, any valid model is tight
 pub depart-tight : (m : Model) (h : Departure) (t : ℕ) → Valid m → accepts (call m (depart h t) .reply .refusal) ≡ true
     → Tight (call m (depart h t) .model)
 unfolding call departed advanced
@@ -182,7 +182,7 @@ amend-tight m a v x =
 -- ## The other calls
 
 module _ (m : Model) (v : Valid m) (T : Tight m) where
-  -- what comes of a call is tight if it is valid
+  -- the model after a call is tight if it is valid
   abbrev TightAfter : Result → Type 0
   TightAfter r = Valid (r .model) → Tight (r .model)
 
@@ -212,7 +212,7 @@ module _ (m : Model) (v : Valid m) (T : Tight m) where
           one (inl e) = subst (Fixed S (m .clock) (m .jobs ++ (new ∷ []))) (sym e) last
           one (inr u) = in-nil u
 
-  -- a tick: from then on the same is held, and who still waits has not moved
+  -- a tick: the same nodes are held from then on, and the jobs that still wait have not moved
   tick-tight : TightAfter (ticked m)
   unfolding ticked advanced
   tick-tight w = fixed-tight (ticked m .model) w (λ k i q. waits k q (map-in (turned now) js i))
@@ -259,7 +259,7 @@ opening-tight o = case (accepts (openingRefusal o)) (λ e. rw e (λ j i w. in-ni
 
 -- ## For the reader
 
--- so in the minute before its planned start a waiting job and the others that hold nodes then would need more than there are
+-- so in the minute before its planned start, a waiting job and the jobs that hold nodes then would need more nodes than there are
 pub short-before : (m : Model) (j : Job) → Valid m → Tight m → In j (m .jobs) → isWaiting j ≡ true
     → m .settings .nodes < used (j .start - 1) (spans (m .settings) (others (j .ticket) (m .jobs))) + j .nodes
 short-before m j v T i w =

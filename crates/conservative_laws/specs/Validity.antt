@@ -1,5 +1,5 @@
--- What holds of every model that openings and calls of conservative backfilling hand back (document 01: "The one premise"), and what
--- becomes of a job in a call: how calls come out is in Outcomes.antt.
+-- What holds of every model that openings and calls of conservative backfilling hand back (document 01: "The one premise"), and what becomes of a
+-- job in a call. Outcomes.antt has the ways in which calls come out.
 -- Assumes nothing.
 use Prim.Native.Nat.{ℕ, suc, _+_, _≤_, _<_}
 use native.Mathlib.Omega.{arith}
@@ -122,7 +122,7 @@ module _ (S : Settings) (t : ℕ) where
   pub used-append : (xs ys : List Job) → used t (spans S (xs ++ ys)) ≡ used t (spans S xs) + used t (spans S ys)
   used-append xs ys = rw (map-append (span S) xs ys) (sum-append (takes t) (spans S xs) (spans S ys))
 
--- those that remain take no more than all did: a run that ends does so by its time
+-- the jobs that remain take no more than all did: a run that ends does so by its time
 pub used-remaining : (m : Model) (c : ℕ) (s : Select) → Sound m → Leaving m c s → (t : ℕ)
     → used t (spans (m .settings) (remaining (m .settings) c s (m .jobs))) ≤ used t (spans (m .settings) (m .jobs))
 used-remaining m c s v l t =

@@ -1,5 +1,5 @@
--- The passes after an early end or a withdrawal, over the slots of the table: each waiting job has its turn, in ticket order, until a whole
--- pass moves nobody.
+-- The passes after an early end or a withdrawal, over the slots of the table: each waiting job has its turn, in ticket order, until a whole pass
+-- moves no job.
 -- Assumes nothing.
 use mathlib.Core.Path.{_≡_, refl, sym, ap, subst, _∙_}
 use mathlib.Core.Bool.{true, false, cond}
@@ -108,7 +108,7 @@ module _ {S : Settings} {now : ℕ} {js : List Job} (b : Before S now js) where
 
 -- ## Turns
 
--- of so many turns in a row, the last of which finds a job at one start and leaves it at another, those that have moved nobody
+-- turns in a row without a move, after one more turn that finds a job at one start and leaves it at another; 0 if this turn moved the job
 abbrev pub calmTurns : ℕ → ℕ → ℕ → ℕ
 calmTurns n before after = on (eqb after before) n
 
@@ -116,12 +116,12 @@ calmTurns n before after = on (eqb after before) n
 abbrev pub slotAfter : ℕ → ℕ
 slotAfter i = cond (ltb (i + 1) slots) (i + 1) 0
 
--- More turns than these are not to come: the sum of the planned starts falls where somebody moves, and more turns in a row have moved nobody
--- where nobody does.
+-- No more turns than these are left: the sum of the planned starts falls where a turn moves a job, and the number of turns in a row without a move
+-- rises where it does not.
 abbrev pub turnsLeft : List Job → ℕ → ℕ
 turnsLeft js turns = 65 * sum startOf js + (64 - turns)
 
--- js are the slots when it is the turn of i, and the lists are their profile; so many turns in a row have moved nobody
+-- js are the slots when it is the turn of i, and the lists are their profile; this many turns in a row were without a move
 pub record Turning (S : Settings) (now : ℕ) (js₀ js : List Job) (i turns n : ℕ) (ms fs : List ℕ) : Type 0 where
   pub low : i < slots
   pub few : turns ≤ slots
@@ -187,7 +187,7 @@ module _ {S : Settings} {now : ℕ} {js₀ js : List Job} {i turns n : ℕ} {ms 
   unfolding loop
   loop-turn = let more : slots - i ≡ suc (slots - (i + 1)) = omega (arith, v .low) in rw more
 
-  -- what the next turn finds: nobody has moved, or the count begins anew
+  -- what the next turn finds: no job has moved, or the count begins anew
   module _ {ks : List Job} {k n′ : ℕ} {ms′ fs′ : List ℕ} (e : ks ≡ turn S now unused i js) (b : Before S now ks)
       (p : IsProfile (S .nodes) (spans S ks) now n′ ms′ fs′) (c : ((k ≡ turns + 1) × (ks ≡ js)) ⊎ (k ≡ 0)) where
     few-turns : k ≤ slots
@@ -196,7 +196,7 @@ module _ {S : Settings} {now : ℕ} {js₀ js : List Job} {i turns n : ℕ} {ms 
     rest-is : compressed S now (loop S now unused (slots - (i + 1)) (i + 1) ks) ≡ compressed S now js₀
     rest-is = ap (λ (l : List Job). compressed S now (loop S now unused (slots - (i + 1)) (i + 1) l)) e ∙ sym (ap (compressed S now) loop-turn) ∙ v .rest
 
-    -- those that have moved nobody, up to this turn
+    -- the turns in a row without a move, up to this turn
     calm-now : (x : ℕ) → x < i + 1 → i + 1 ≤ x + k → turn S now unused x ks ≡ ks
     calm-now x a g = ⊎-elim (λ y. same (y .0) (y .1)) (λ y. absurd (omega arith)) c
       where
@@ -281,7 +281,7 @@ module _ {S : Settings} {now : ℕ} {js₀ js : List Job} {i turns n : ℕ} {ms 
       let still : moved S now (take i js ++ drop (i + 1) js) j ≡ j = rw w in
       next (sym (ap (set js i) still ∙ set-getD js i unused)) (v .before) (v .profile) (inl (refl, refl))
 
--- as many turns in a row as there are slots have moved nobody: no pass would
+-- as many turns in a row as there are slots were without a move: no pass would move a job
 pub turns-end : {S : Settings} {now : ℕ} {js₀ js : List Job} {i turns n : ℕ} {ms fs : List ℕ} → Turning S now js₀ js i turns n ms fs
     → slots ≤ turns → js ≡ compressed S now js₀
 unfolding loop

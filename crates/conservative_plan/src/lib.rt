@@ -1,5 +1,5 @@
-// Where conservative backfilling places jobs: the profile of a scheduler's plan, the earliest start of a job in it, and the passes in which
-// waiting jobs move forward after an early completion or a withdrawal. The calls are in `conservative`.
+// Where conservative backfilling places jobs: the profile of a scheduler's plan, the earliest start of a job in it, and the passes in which waiting
+// jobs move forward after an early completion or a withdrawal. `conservative` has the calls.
 ghost use mathlib.Core.Path.{_≡_};
 ghost use Prim.Native.Nat.{_≤_, _<_};
 ghost use lib.ListN.{length};
@@ -123,13 +123,13 @@ pub fn place(job: Job, now: u32, s: u32) -> Job
     job.at(State::Waiting, s)
 }
 
-// A job at its place, and how many points the profile with it there has.
+// A job where it is planned, and how many points the profile then has.
 pub struct Replanned {
     pub job: Job,
     pub count: usize,
 }
 
-// A waiting job is taken out of the plan and put in again at its smallest minute, if that is another.
+// Takes a waiting job out of the plan and puts it in again at its smallest minute, if that is another.
 fn replan(
     job: Job,
     hold: u32,
@@ -162,7 +162,7 @@ fn replan(
     }
 }
 
-// Of so many turns in a row the last found a job at one start and left it at another: those in a row that have moved nobody.
+// Turns in a row without a move; 0 if this turn moved the job.
 fn calm(turns: usize, before: u32, after: u32) -> usize
     ensures { λ r. ⌜ r ≡ calmTurns turns before after ⌝ }
 {
@@ -189,9 +189,9 @@ pub struct Passed {
     pub count: usize,
 }
 
-// Each waiting job, in ticket order, is taken out of the plan and put in again, the others staying at their places, and again from the
-// first on until a whole pass moves nobody. That is so once as many turns in a row as there are slots have moved nobody. The lists are the
-// scheduler's profile, before and after.
+// Takes each waiting job out of the plan, in ticket order, and puts it in again while the others stay where they are. It begins again with the
+// first until a whole pass moves no job: until as many turns in a row as there are slots were without a move. The lists are the scheduler's
+// profile, before and after.
 pub fn replan_kept(
     d: Scheduler,
     minutes: &mut [u32; 131],
@@ -228,7 +228,7 @@ pub fn replan_kept(
     }
 }
 
-// The passes over the profile of the scheduler, which is not kept.
+// The passes over the scheduler's profile, which is not kept.
 pub fn replan_all(d: Scheduler) -> Scheduler
     requires { ⌜ Holds Replannable d ⌝ }
     ensures { λ r. ⌜ r ≡ withJobs d (compressed (view d .settings) (d .clock) (d .jobs)) ⌝ }

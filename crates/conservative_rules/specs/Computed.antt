@@ -37,7 +37,7 @@ stateOf j = j .state
 abbrev endOf : Job → ℕ
 endOf j = j .end
 
--- a machine of 2 nodes, whose nodes are cleared for so many minutes, with a longest estimate
+-- a machine of 2 nodes, with this cleanup and this longest estimate
 abbrev pub limited : (longest cleanup : ℕ) → Settings
 limited l k = record { kind = Conservative; nodes = 2; cleanup = k; «quota_a» = 63; «quota_b» = 1; longest = l }
 
@@ -75,8 +75,8 @@ alone-cleared minute n e = call (cleared 30 minute) (submit (order n e)) .reply 
 abbrev alone-limited : (longest estimate : ℕ) → Refusal
 alone-limited l e = call (opening (record { settings = limited l 0; minute = 0; ticket = 1 })) (submit (order 1 e)) .reply .refusal
 
--- two jobs on both nodes, one after another, with 7 minutes of clearing: at 0, at 5 and at 12, where the second starts; and the first ended
--- in the minute of its start
+-- two jobs on both nodes, one after another, with 7 minutes of cleanup: at 0, at 5 and at 12, where the second starts; and the first ended in the
+-- minute of its start
 abbrev pair : Model
 pair = after call (cleared 7 0) (submit (order 2 5) ∷ submit (order 2 10) ∷ [])
 
@@ -99,7 +99,7 @@ early = call figure2 (complete 2) .model
 abbrev once : Model → Departure → ℕ → List Job
 once m h t = pass (m .settings) (m .clock) [] (remaining (m .settings) (m .clock) (select.Departing h t) (m .jobs))
 
--- which is this of figure 2: job 3 is planned for 15, and could begin at 10
+-- for figure 2 it leaves this: job 3 is planned for 15, and could begin at 10
 abbrev pub gapped : List Job
 gapped = jobs.fresh 1 (order 1 5) Running 0 0 ∷ jobs.fresh 3 (order 2 5) Waiting 15 15 ∷ jobs.fresh 4 (order 1 10) Running 0 5 ∷ []
 
@@ -154,8 +154,8 @@ pub examples : (ticketsOf (figure2 .jobs) ≡ 1 ∷ 2 ∷ 3 ∷ 4 ∷ [])
     × (call queued (cancel 2) .reply .ended ≡ [])
     × (call queued (cancel 1) .reply .refusal ≡ refusal.NotWaiting)
     × (call withdrawn (cancel 2) .reply .refusal ≡ refusal.NotWaiting)
-    -- document 02, No. 3: what must fit the plan and the last minute is the held time and the clearing; the end is kept, nodes are taken
-    -- until the clearing ends, and serve a start in that same minute; "An end of a clearing stack is refused by 7"
+    -- document 02, No. 3: held time and cleanup together must fit the plan and the last minute. The record keeps its end; nodes are taken until
+    -- cleanup ends, and serve a start in that same minute; "An end of a clearing stack is refused by 7"
     × (alone-cleared 999960 1 10 ≡ refusal.None)
     × (alone-cleared 999960 1 11 ≡ refusal.PastHorizon)
     × (map startOf (pair .jobs) ≡ 0 ∷ 12 ∷ [])

@@ -30,7 +30,7 @@ use Rattle.scheduler.specs.declared.Amendment.{Amendment}
 use Rattle.scheduler.specs.Amending.{named, keptPromise, inPlaceRefusal, inPlace}
 use Rattle.history.specs.Calls.{Rules, submit, depart, tick, amend, unchanged}
 
--- a job holds its nodes from its start, or planned start, on, until they are free again
+-- a job holds its nodes from its start or planned start on, until they are free again
 abbrev pub span : Settings → Job → Span
 span S j = record { from = j .start; until = until S j; nodes = j .nodes }
 
@@ -97,7 +97,7 @@ begun [] ks = []
 begun (j ∷ js) [] = []
 begun (j ∷ js) (k ∷ ks) = cond (isWaiting j && isRunning k) (j .ticket ∷ begun js ks) (begun js ks)
 
--- where those that a test picks leave: who remains becomes `after`
+-- those that a test picks leave, and those that remain become `after`
 unfoldable pub advanced : Model → ℕ → Select → List Job → Result
 advanced m clock s after = record {
   reply = record {
@@ -128,7 +128,7 @@ pass S now done (j ∷ js) = let k : Job = moved S now (done ++ js) j in k ∷ p
 abbrev pub startOf : Job → ℕ
 startOf j = j .start
 
--- whether nobody has come to another start
+-- whether no job has come to another start
 abbrev pub unmoved : List Job → List Job → Bool
 unmoved [] ks = true
 unmoved (j ∷ js) [] = true
@@ -142,7 +142,7 @@ passes S now (suc n) js =
     let more = passes S now n ks in
     cond (unmoved js ks) ks more
 
--- The sum of the planned starts falls with each pass that moves somebody, so that these are enough: the last one moves nothing
+-- The sum of the planned starts falls with each pass that moves a job, so that this number of passes is enough: the last one moves nothing
 -- (`compressed-is`).
 unfoldable pub compressed : Settings → ℕ → List Job → List Job
 compressed S now js = passes S now (suc (sum startOf js)) js

@@ -21,7 +21,7 @@ use Rattle.conservative_rules.specs.Conservative.{planned, submitRefusal
 use Rattle.conservative_rules.specs.Computed.{limited, machine}
 use Rattle.conservative_rules.specs.LongestEstimate.{inTime, longestFor, inquiryRefusal}
 
--- two nodes, cleared for so many minutes; one runs until 10, and both are promised from then on, or once they are cleared
+-- two nodes, with this cleanup; one runs until 10, and both are promised from then on, or once its cleanup is over
 abbrev two : (cleanup minute : ℕ) → Model
 two k minute = opening (record { settings = machine k; minute = minute; ticket = 1 })
 
@@ -48,7 +48,7 @@ pub examples : (upTo40 (busy 0) 1 0 ≡ 10)
     × (upTo40 later 1 3 ≡ 5)
     -- 17 minutes are free, and 7 of them are for the cleanup
     × (upTo40 (busy 7) 1 0 ≡ 10)
-    -- by minute 19 no longer one starts, and none of two nodes; from 20 on any is in time
+    -- by minute 19 no longer one starts, and none of two nodes; from 20 on every estimate is in time
     × (upTo40 (busy 0) 1 19 ≡ 10)
     × (upTo40 (busy 0) 2 19 ≡ 0)
     × (upTo40 (busy 0) 1 20 ≡ 40)

@@ -1,4 +1,4 @@
--- How long may a job be and still start by a wanted minute? (Document 02, No. 9.) Of conservative backfilling alone.
+-- How long may a job be and still start by a wanted minute? (Document 02, No. 9.) Only conservative backfilling answers this.
 -- Assumes nothing.
 use mathlib.Core.Bool.{Bool, _&&_, cond}
 use Prim.Native.Nat.{ℕ}

@@ -21,7 +21,7 @@ use Rattle.conservative_rules.specs.Conservative.{planned, points, submi
 abbrev waits : (ticket nodes start : ℕ) → Job
 waits t n s = fresh t (order n 5) Waiting s s
 
--- a machine of 6 nodes that are cleared for 3 minutes, with these jobs
+-- a machine of 6 nodes with 3 minutes of cleanup, and these jobs
 abbrev machine : List Job → Model
 machine js = record {
   settings = record { kind = Conservative; nodes = 6; cleanup = 3; «quota_a» = 63; «quota_b» = 1; longest = 10080 };

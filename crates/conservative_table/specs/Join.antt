@@ -1,4 +1,5 @@
--- A place that says the same as the one before it leaves the table: the table says what it said, and of that place's minute no more is asked.
+-- A place that says the same as the one before it leaves the table. The table still says the same, and nothing more is asked of that place's
+-- minute.
 -- Assumes nothing.
 use Prim.Native.Nat.{ℕ, _+_, _-_, _≤_, _<_}
 use native.Mathlib.Omega.{arith}
@@ -19,7 +20,7 @@ pub record Inside (ms fs : List ℕ) (n k : ℕ) : Type 0 where
   pub inside : k < n
   pub fit : n ≤ rows
 
--- Place k has left, or differs from the one before it; the table says what it said.
+-- Place k has left, or differs from the one before it; the table still says the same.
 pub record Joined (ms fs : List ℕ) (n k r : ℕ) (ms′ fs′ : List ℕ) : Type 0 where
   pub most : r ≤ n
   pub least : k ≤ r

@@ -1,5 +1,5 @@
--- A span laid over the points, or taken out of them: its begin and its end get a place, what lies between is changed, and a place at
--- which nothing changes leaves.
+-- A span laid over the points, or taken out of them: its beginning and its end get a place, the places between change, and a place at which nothing
+-- changes leaves.
 -- Assumes nothing.
 use Prim.Native.Nat.{ℕ, _+_, _-_, max, _≤_, _<_}
 use native.Mathlib.Omega.{arith}

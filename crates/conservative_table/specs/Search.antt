@@ -1,5 +1,5 @@
--- The earliest start of a job that stands in the plan, sought in the table with the job in it: before its start the others leave as much,
--- and from its start on its own nodes are there for it. So the search ends with the first place that is not before its start.
+-- The earliest start of a job that stands in the plan, sought in the table with the job in it. Before its start the others leave as many nodes
+-- free; from its start on its own nodes are there for it. So the search ends with the first place that is not before its start.
 -- Assumes nothing.
 use Prim.Native.Nat.{ℕ, zero, suc, _+_, _-_, min, _≤_, _<_}
 use native.Mathlib.Omega.{arith}

@@ -1,5 +1,5 @@
-// The profile of a machine in two lent lists that are changed in place: the minutes of its points, and in the same places how many nodes
-// are free from each on. While a span is laid over it or taken out there may be two places more, at which nothing changes.
+// The profile of a machine in two lent lists that are changed in place: the minutes of its points, and in the same places how many nodes are free
+// from each minute on. While a span is laid over it or taken out, there may be two more places, at which nothing changes.
 ghost use mathlib.Core.Path.{_≡_};
 ghost use mathlib.Core.List.{[], _∷_};
 ghost use Prim.Native.Nat.{_+_, min, _<_, _≤_};
@@ -23,7 +23,7 @@ pub struct Found {
     pub near: usize,
 }
 
-// The place after the last minute that is not later than t, by halves: that of the near place is not.
+// The place after the last minute that is not later than t, found by halving. The minute of the near place is not later.
 fn place_after(minutes: &[u32; 131], near: usize, count: usize, t: u32) -> usize
     requires { ⌜ Ascends (now minutes) near count t ⌝ }
     ensures { λ r. ⌜ Place (now (minutes .entry)) count t r ⌝ }
@@ -41,7 +41,7 @@ fn place_after(minutes: &[u32; 131], near: usize, count: usize, t: u32) -> usize
     low
 }
 
-// The same, place after place from the near one on: quicker where few places lie between.
+// The same, place after place from the near one on. This is quicker where few places lie between.
 fn place_by_steps(minutes: &[u32; 131], near: usize, count: usize, t: u32) -> usize
     requires { ⌜ Ascends (now minutes) near count t ⌝ }
     ensures { λ r. ⌜ Place (now (minutes .entry)) count t r ⌝ }
@@ -69,7 +69,7 @@ fn insert(list: &mut [u32; 131], count: usize, at: usize, value: u32)
     list[at] = value;
 }
 
-// There is a place for minute t, and the lists say the same as before. Place k is the one after the last minute that is not later.
+// There is a place for minute t, and the lists still say the same. Place k is the one after the last minute that is not later.
 fn split_at(minutes: &mut [u32; 131], free: &mut [u32; 131], count: usize, k: usize, t: u32) -> Row
     requires { ⌜ Place (now minutes) count t k × (length (now minutes) ≡ rows) × (length (now free) ≡ rows) × (count < rows) ⌝ }
     ensures { λ r. ⌜ Split (now (minutes .entry)) (now (free .entry)) count t r (now (minutes .exit)) (now (free .exit)) ⌝ }
@@ -90,7 +90,7 @@ fn split_at(minutes: &mut [u32; 131], free: &mut [u32; 131], count: usize, k: us
     }
 }
 
-// The same, with that place sought by halves. The minute of the near place is not later.
+// The same, with that place found by halving. The minute of the near place is not later.
 fn split(minutes: &mut [u32; 131], free: &mut [u32; 131], near: usize, count: usize, t: u32) -> Row
     requires { ⌜ Ascends (now minutes) near count t × (length (now free) ≡ rows) × (count < rows) ⌝ }
     ensures { λ r. ⌜ Split (now (minutes .entry)) (now (free .entry)) count t r (now (minutes .exit)) (now (free .exit)) ⌝ }
@@ -229,7 +229,7 @@ pub fn lift(
     change(minutes, free, near, count, x, true)
 }
 
-// No span: one point, from which on all nodes are free.
+// With no span there is one point, from which on all nodes are free.
 pub fn idle(minutes: &mut [u32; 131], free: &mut [u32; 131], nodes: u32, minute: u32) -> usize
     requires { ⌜ (length (now minutes) ≡ rows) × (length (now free) ≡ rows) ⌝ }
     ensures { λ r. ⌜ IsProfile nodes [] minute r (now (minutes .exit)) (now (free .exit)) ⌝ }
@@ -239,7 +239,7 @@ pub fn idle(minutes: &mut [u32; 131], free: &mut [u32; 131], nodes: u32, minute:
     1
 }
 
-// The clock moves on to this minute: the points before it leave. Where none does, the free nodes stay as they are.
+// The clock moves on to this minute: the points before it leave. If none leaves, the free nodes stay as they are.
 pub fn advance(minutes: &mut [u32; 131], free: &mut [u32; 131], count: usize, t: u32) -> usize
     requires { ⌜ Advancing (now minutes) (now free) count t ⌝ }
     ensures { λ r.
@@ -273,7 +273,7 @@ fn reach(minutes: &[u32; 131], free: &[u32; 131], from: usize, nodes: u32, until
     k
 }
 
-// The first place from this one on at which nodes enough are free. At the last point all are, so that no minute is looked at.
+// The first place from this one on at which enough nodes are free. At the last point all are free, so that no minute is looked at.
 fn skip(free: &[u32; 131], from: usize, nodes: u32) -> usize
     requires { ⌜ Ending (now free) from nodes ⌝ }
     ensures { λ r. ⌜ Skipped (now (free .entry)) from nodes r ⌝ }
@@ -294,8 +294,8 @@ fn sooner(a: u32, b: u32) -> u32
     b
 }
 
-// The earliest minute for a job that stands in the plan from this start on: there its own nodes are there for it, so the search ends with
-// the first place that is not before it. No minute before that of place i will do.
+// The earliest minute for a job that stands in the plan from this start on. From its start on its own nodes are there for it, so the search ends
+// with the first place that is not before it. No minute before that of place i will do.
 pub fn search_before(
     minutes: &[u32; 131],
     free: &[u32; 131],

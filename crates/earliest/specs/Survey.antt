@@ -42,7 +42,7 @@ abbrev pub nodesIn : Option Job → ℕ
 nodesIn none = 0
 nodesIn (some j) = j .nodes
 
--- those of some jobs that hold nodes, each over at its least
+-- the nodes of some jobs that hold nodes, each over at its least
 abbrev pub overs : Scheduler → List Job → List Job
 overs d js = map (overAtLeast (d .clock)) (running js)
 
@@ -162,7 +162,7 @@ module _ (d : Scheduler) {heldₗ ends : List ℕ} {r spare : ℕ} (v : Surveyed
   abbrev pub held-by : Held heldₗ ends r spare
   held-by = record { model = atLeast (view d); jobs = overs d (view d .jobs); holding = v }
 
-  -- so many nodes are not there now
+  -- this many nodes are not there now
   pub record Short (n latest : ℕ) : Type 0 where
     pub more : avail (atLeast (view d)) (view d .clock) < n
     pub within : n ≤ view d .settings .nodes

@@ -1,5 +1,5 @@
-// The earliest possible start of a waiting job, of either kind (document 02, No. 7: "soonest minute"): EASY's search for the shadow, over the
-// minutes in which nodes are given back at the earliest. Minutes between these are not looked at.
+// The earliest possible start of a waiting job, for either kind (document 02, No. 7: "soonest minute"). It is EASY's search for the shadow, over
+// the minutes in which nodes are given back at the earliest. It looks at no minute between these.
 use scheduler::Departure;
 use scheduler::Earliest;
 use scheduler::Job;
@@ -42,7 +42,7 @@ struct Taken {
     spare: u32,
 }
 
-// Of the jobs that hold nodes, these and the minutes in which they are given back at the earliest.
+// Lists the nodes of the jobs that hold some, and the minutes in which they are given back at the earliest.
 fn survey(d: Scheduler, held: &mut [u32; 64], ends: &mut [u32; 64]) -> Taken
     requires { ⌜ Holds Sound d × Blank (now held) × Blank (now ends) ⌝ }
     ensures { λ r. ⌜ Surveyed d (now (held .exit)) (now (ends .exit)) (r .running) (r .spare) ⌝ }
@@ -69,7 +69,7 @@ fn survey(d: Scheduler, held: &mut [u32; 64], ends: &mut [u32; 64]) -> Taken
     }
 }
 
-// The smallest minute, now or later, at which so many nodes would be free.
+// The smallest minute, now or later, at which this many nodes would be free.
 fn earliest(d: Scheduler, nodes: u32) -> u32
     requires { ⌜ Holds Sound d × (nodes ≤ d .settings .nodes) ⌝ }
     ensures { λ r. ⌜ r ≡ earliestFor (view d) nodes ⌝ }
@@ -86,7 +86,7 @@ fn earliest(d: Scheduler, nodes: u32) -> u32
     easy_engine::shadow(&held, &ends, taken.running, taken.spare, nodes, latest)
 }
 
-// The nodes that the waiting job with this ticket asks for; 0 where none waits with it.
+// The nodes that the waiting job with this ticket asks for; 0 if no such job waits.
 fn asked_by(d: Scheduler, ticket: u32) -> u32
     ensures { λ r. ⌜ r ≡ nodesIn (first (departsAs Departure.Cancel ticket) (d .jobs)) ⌝ }
 {

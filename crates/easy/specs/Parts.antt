@@ -47,7 +47,7 @@ answering b o =
       model = r .model;
     }
 
--- r is the outcome of a call whose own part is p, whatever the model before it was: p tells the head of before
+-- r is the outcome of a call whose own part is p, whatever the model before it was: p tells who was head before
 abbrev pub Finishes : Part → Outcome → Type 0
 Finishes p r =
     (b : Model) (ts : List ℕ) → p .ended ≡ tickets ts

@@ -1,5 +1,5 @@
--- An order corrected in place is its own part and a settling, like every call of EASY backfilling, and its answer then gets the ticket that it
--- named. The part itself gives no ticket: nobody has come, and the corrected job may be the head.
+-- An order corrected in place is its own part and a settling, like every call of EASY backfilling. Its answer then gets the ticket that the order
+-- named. The part itself gives no ticket: no job has come, and the corrected job may be the head.
 -- Assumes nothing.
 use Prim.Native.Nat.{ℕ}
 use mathlib.Core.Path.{_≡_, refl, sym, ap, _∙_}

@@ -270,7 +270,7 @@ module _ (d : Scheduler) (h : Holds Ready d) {r w spare : ℕ} {heldₗ starts t
 
 -- ## From when nodes are held, until when
 
--- an estimate of 0 has no wall time, so that its hold is the clearing alone
+-- an estimate of 0 has no wall time, so that its hold is the cleanup alone
 none-runs : (S : Settings) → runTime S 0 ≡ 0
 unfolding runTime
 none-runs S = refl

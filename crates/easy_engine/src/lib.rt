@@ -1,5 +1,5 @@
-// EASY backfilling (document 01: "Loose Desk") over lent lists of numbers: which of the waiting jobs start, one after another. Of the jobs
-// that hold nodes the lists have these and the minutes in which they are free again, in any order; of the jobs that wait, in ticket order,
+// EASY backfilling (document 01: "Loose Desk") over lent lists of numbers: which of the waiting jobs start, one after another. For the jobs that
+// hold nodes the lists have the nodes and the minutes in which they are free again, in any order. For the waiting jobs, in ticket order, they have
 // nodes and estimates.
 use scheduler::Scheduler;
 use scheduler::Settings;
@@ -48,7 +48,7 @@ pub fn avail_at(held: &[u32; 64], ends: &[u32; 64], running: usize, spare: u32, 
     sum
 }
 
-// This end, if it is before the best minute so far and the nodes suffice then; else that minute.
+// This end, if it is before the best minute so far and the nodes suffice then; otherwise that minute.
 fn sooner(
     held: &[u32; 64],
     ends: &[u32; 64],
@@ -91,7 +91,7 @@ pub fn shadow(
     best
 }
 
-// The place of the first that asks for no more than these nodes; the count where none does.
+// The place of the first job that asks for no more than these nodes; the count if none does.
 fn first_within(asked: &[u32; 64], waiting: usize, most: u32) -> usize
     requires { ⌜ waiting ≤ slots ⌝ }
     ensures { λ r. ⌜ ((ws : List Job) → Column asks ws (now (asked .entry)) → length ws ≡ waiting → r ≡ placeOf (position (asksTo most) ws) waiting) ⌝ }
@@ -126,7 +126,7 @@ pub fn may_pass(
     settings.hold_time(estimate) <= room
 }
 
-// The place of the first that may pass the head; the count where none may.
+// The place of the first job that may pass the head; the count if none may.
 fn forward(
     asked: &[u32; 64],
     estimates: &[u32; 64],
@@ -151,8 +151,8 @@ fn forward(
     waiting
 }
 
-// The place, among the waiting jobs, of the one that starts next: the head if its nodes are free now, else the first that may pass it; the
-// count where nobody can start. Where nobody fits, no shadow is sought.
+// The place of the waiting job that starts next: the head if its nodes are free now, otherwise the first that may pass it; the count if no job can
+// start. If no job fits, no shadow is sought.
 fn choose(
     held: &[u32; 64],
     ends: &[u32; 64],
@@ -188,8 +188,7 @@ fn choose(
     forward(asked, estimates, waiting, spare, extra, room, settings)
 }
 
-// The job in this place starts now: it is added to those that run, asks for no nodes any more, and its place is noted. Its nodes are
-// returned.
+// The job in this place starts now. It is added to those that run, asks for no more nodes, and its place is noted. Its nodes are returned.
 fn start(
     held: &mut [u32; 64],
     ends: &mut [u32; 64],
@@ -221,7 +220,7 @@ struct Settled {
     spare: u32,
 }
 
-// Starts jobs one after another until nobody can start. Their places are noted in order, from `count` on.
+// Starts jobs one after another until no job can start. Their places are noted in order, from `count` on.
 fn settle(
     held: &mut [u32; 64],
     ends: &mut [u32; 64],
@@ -286,7 +285,8 @@ fn settle(
     )
 }
 
-// From each minute from which nodes are held, the minute until which they are. (The hold time of 0, for a job in cleanup, is the clearing alone.)
+// Turns each minute from which nodes are held into the minute until which they are held. (For a job in cleanup the estimate is 0, and its hold time
+// is the cleanup alone.)
 fn fill_ends(ends: &mut [u32; 64], terms: &[u32; 64], running: usize, settings: Settings)
     requires { ⌜ StartsInTime (now ends) (now terms) running ⌝ }
     ensures { λ _. ⌜ ((s : StartsInTime (now (ends .entry)) (now (terms .entry)) running) → Column (until settings) (s .jobs) (now (ends .exit))) ⌝ }
@@ -298,7 +298,7 @@ fn fill_ends(ends: &mut [u32; 64], terms: &[u32; 64], running: usize, settings: 
     }
 }
 
-// Whether nobody fits, and the first that waits is the head of before: then nobody starts and nobody is announced.
+// Whether no job fits and the first that waits was head before: then no job starts and none is announced.
 fn rests(before: u32, asked: &[u32; 64], tickets: &[u32; 64], waiting: usize, spare: u32) -> bool
     requires { ⌜ waiting ≤ slots ⌝ }
     ensures { λ r.
@@ -314,7 +314,7 @@ fn rests(before: u32, asked: &[u32; 64], tickets: &[u32; 64], waiting: usize, sp
     tickets[0] == before
 }
 
-// A job that is head now and was not before, with its forecast; 0 where there is none.
+// A job that is head now and was not before, with its forecast; 0 if there is none.
 pub struct Announced {
     pub ticket: u32,
     pub minute: u32,
@@ -361,7 +361,7 @@ fn announce(
     }
 }
 
-// The head before a call that gave this ticket or withdrew that one (0 for neither), by the first that waits now.
+// Who was head before a call that gave or withdrew a ticket (0 for neither), by the first job that waits now.
 pub fn head_before(first: u32, ticket: u32, withdrawn: u32) -> u32
     ensures { λ r. ⌜ r ≡ headBefore ticket withdrawn first ⌝ }
 {
@@ -384,8 +384,8 @@ pub struct Answered {
     pub forecast: u32,
 }
 
-// Settles after a call that found this head. The lists are filled by the survey, `ends` with the minutes from which nodes are held, `terms`
-// with the estimates for which they are; the places of those who start are noted in order.
+// Settles after a call, given the head before it. The survey has filled the lists: `ends` has the minutes from which nodes are held, `terms` the
+// estimates for which they are. The places of the jobs that start are noted in order.
 pub fn settle_all(
     before: u32,
     held: &mut [u32; 64],

@@ -1,5 +1,5 @@
--- Corrected orders in place: where a waiting job has shrunk no shadow comes later, and every job is on course for what it was on course for (its
--- bound, its forecast, the last minute).
+-- Corrected orders in place: where a waiting job has shrunk, no shadow comes later, and every job is still on course for its bound, its forecast
+-- and the last minute.
 -- Assumes nothing.
 use Prim.Native.Nat.{ℕ, _-_, _*_, _≤_}
 use native.Mathlib.Omega.{arith}
@@ -76,7 +76,7 @@ module _ (m : Model) (a : Amendment) (r : InRange (m .settings) a) (g : Shrinks 
         shadow-fewer m (supersede a h .nodes) (h .nodes) s (fewer-nodes (m .settings) a h (g h i)) (s .each h i .nodes-to),
       )
 
-  -- who is on course for b is so still: "keeps .. its intake minute, r and forecast", and all of these are kept
+  -- a job on course for b is still so: "keeps .. its intake minute, r and forecast", and all of these are kept
   pub inplace-course : (u b : ℕ) → Sound m → OnCourse m u b → OnCourse (inPlace m a) u b
   inplace-course u b s o =
       let w = o .waits in

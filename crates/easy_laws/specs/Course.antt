@@ -1,5 +1,5 @@
--- The one invariant of a waiting job, and what keeps it: the head's shadow, and a unit for each job that waits before it, end by b.
--- b is any number: document 01's bound, a forecast, or the last start that leaves room before the last minute.
+-- The one invariant of a waiting job, and what keeps it: the head's shadow plus a unit for each job that waits before this one is at most b. b is
+-- any number: document 01's bound, a forecast, or the last start that leaves room before the last minute.
 -- Assumes nothing.
 use Prim.Native.Nat.{ℕ, suc, _+_, _-_, _*_, _≤_, _<_}
 use native.Mathlib.Omega.{arith}
@@ -413,7 +413,7 @@ module _ (m : Model) (t : ℕ) (s : Sound m) where
             o .by k later f,
           )))
 
--- runs end and jobs leave, and one that waits and is not withdrawn is on course still
+-- runs end and jobs leave: a waiting job that is not withdrawn is still on course
 pub leave-keeps : (m : Model) (c : ℕ) (p : Select) → Sound m → choice m ≡ none → Leaving m c p → (u b : ℕ)
     → ((j : Job) → In j (m .jobs) → isWaiting j ≡ true → j .ticket ≡ u → withdraws p j ≡ false) → OnCourse m u b → OnCourse (without m c p) u b
 leave-keeps m c p s r (early Complete t) u b n o = eased m _ u b s r (leave-eases m _ _ s (early Complete t) (λ j. refl)) o

@@ -1,4 +1,4 @@
--- The machine in which each run is over at its least, or now if that is past: what it holds, and when that is free.
+-- The machine in which each run is over at its least, or now if that is past: which nodes it holds, and when they are free.
 -- Assumes nothing.
 use Prim.Native.Nat.{ℕ, _+_, _≤_, max}
 use native.Mathlib.Omega.{arith}
@@ -91,7 +91,7 @@ module _ (m : Model) (s : Sound m) where
 -- ## For the reader
 
 -- Document 02, No. 7: nodes come free "if every running stack ended at its least, or now if that is past, followed by clearing, and no waiting one
--- were there", those of one in cleanup as they do anyway.
+-- were there". The nodes of a job in cleanup come free as they do anyway.
 module _ (S : Settings) (now t : ℕ) (j : Job) where
   pub running-frees-least : isRunning j ≡ true → freed S t (overAtLeast now j) ≡ on (leb (max now (j .start + j .least) + cleanup S) t) (j .nodes)
   running-frees-least r = rw (over-holding now j, running-holds (j .state) r, until-over S now j r, over-nodes now j)

@@ -1,6 +1,6 @@
--- Document 02, No. 11: "Loose records now keep intake minute, .. r at intake .. and any forecast, until they leave." After every call each record is
--- that of the job that the call took in, with the minute and the rank that it then had, or one that was there before, with the same; and its
--- forecast is the one that the call gave it, or else the one that it had.
+-- Document 02, No. 11: "Loose records now keep intake minute, .. r at intake .. and any forecast, until they leave." After every call each record
+-- is one of two. The call took its job in, and the record has the minute and the rank of that intake; or it was there before, with the same minute
+-- and rank. Its forecast is the one that the call gave it, or otherwise the one that it had.
 -- Assumes nothing.
 use Prim.Native.Nat.{ℕ, suc, _+_, _*_}
 use mathlib.Core.Path.{_≡_, refl, sym, ap, ap₂, subst, _∙_}
@@ -28,7 +28,7 @@ use Rattle.easy_laws.specs.Settling.{each-begin, Settles, rest, start}
 use Rattle.easy_laws.specs.Noted.{notes, notes-by, each-noted}
 use Rattle.easy_laws.specs.Validity.{Valid, OwnPart, submits, departs, amends, ticks, joiner, in-one, CallAccepted, Unchanged, taken-came, called}
 
--- the forecast that a job has then: the one given now, if it is this job's, or else the old one
+-- the forecast that a job has then: the one given now, if it is this job's, otherwise the old one
 abbrev pub heardBy : Option Forecast → (ticket old : ℕ) → ℕ
 heardBy none t old = old
 heardBy (some f) t old = cond (eqb t (f .ticket)) (f .minute) old

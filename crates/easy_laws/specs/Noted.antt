@@ -1,5 +1,5 @@
--- A forecast that is kept in the record of the job that it was given to (document 02, No. 11) changes nothing else: who waits, the nodes, the
--- shadow, who may start and what is on course stay as they were.
+-- A forecast that is kept in the record of its job (document 02, No. 11) changes nothing else: who waits, the nodes, the shadow, who may start and
+-- what is on course stay as they were.
 -- Assumes nothing.
 use Prim.Native.Nat.{ℕ, suc, _+_, _-_, _*_, _≤_, _<_}
 use native.Mathlib.Omega.{arith}

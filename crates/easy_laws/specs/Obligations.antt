@@ -69,7 +69,7 @@ fate-waits Running b n e = true-false false e refl
 fate-waits Cleanup b n e = true-false false e refl
 
 module _ (k now : ℕ) (e : News) where
-  -- what a call's own part leaves of a job that lives on: started by the settling, or not, it is as the answer says
+  -- what a call's own part leaves of a job that lives on is as the answer says, whether the settling starts it or not
   record Left (j r : Job) : Type 0 where
     pub ticket : r .ticket ≡ j .ticket
     pub begins : isWaiting r ≡ true → elem (j .ticket) (e .started) ≡ true → shown (begun now r) ≡ remark k now e (shown j)

@@ -1,5 +1,5 @@
--- A submission starts nobody but its own job, and those that waited before it wait on. So of a corrected order that grows (document 02, No. 13), whose
--- one answer has the starts of a withdrawal and then those of a submission, the tickets tell which are which.
+-- A submission starts no job but its own, and the jobs that waited before it wait on. A corrected order that grows (document 02, No. 13) has one
+-- answer, with the starts of a withdrawal and then those of a submission: so the tickets tell which are which.
 -- Assumes nothing.
 use Prim.Native.Nat.{ℕ, _+_, _-_, _≤_, _<_}
 use native.Mathlib.Omega.{arith}
@@ -138,7 +138,7 @@ module _ (m : Model) (o : Submission) (v : Valid m) (f : Fit m o) (room : latest
     fewer =
         omega (arith, free-join, sum-mark held (m .clock) 1 (J .jobs) (s .asc) (c .isin))
 
-    -- whom the head let pass leaves its shadow where it was
+    -- a job that the head let pass leaves the head's shadow where it was
     shadow-stays : (h : Job) (later : List Job) → queue (m .jobs) ≡ h ∷ later → shadow B (h .nodes) ≡ shadow m (h .nodes)
     shadow-stays h later p =
         let n = h .nodes in

@@ -25,7 +25,7 @@ waits-leaves S p j w = rw (on, held) (case (withdraws p j) (λ e. rw e) (λ e. r
     held : releases p j ≡ false
     held = case (releases p j) (λ e. true-false (isCleaning j) (releases-cleaned p j e) (waiting-clean (j .state) w)) (λ e. e)
 
--- whoever waits after it waited before it
+-- a job that waits after it waited before it
 waits-still : (c : ℕ) (p : Select) (j : Job) → isWaiting (ceased c p j) ≡ isWaiting j
 waits-still c p j =
     case (isWaiting (ceased c p j))

@@ -1,5 +1,5 @@
--- For the reader: what the definitions of this kind mean, in document 01's words, so that no definition can be bent along with
--- the code that is equated with it.
+-- For the reader: what the definitions of this kind mean, in document 01's words. So no definition can be bent along with the code that is equated
+-- with it.
 -- Assumes nothing.
 use Prim.Native.Nat.{ℕ, zero, suc, _+_, _*_, _≤_, _<_}
 use native.Mathlib.Omega.{arith}
@@ -52,8 +52,8 @@ use Rattle.easy_laws.specs.Validity.{Unchanged, quiet-news, called, call
 -- ## The shadow
 
 -- Document 02, No. 3: "nodes stay taken for clearing minutes", "and for those minutes shadow, extra and demand 3 count them as held by a stack
--- running until these end": those of a job that runs come free its held time and the clearing after its start, those of one whose run has
--- ended the clearing after its end.
+-- running until these end". The nodes of a running job come free at its start plus its held time and the cleanup. The nodes of a job whose run has
+-- ended come free at its end plus the cleanup.
 module _ (S : Settings) (t : ℕ) (j : Job) where
   pub running-frees : isRunning j ≡ true → freed S t j ≡ on (leb (j .start + (wallTime (j .estimate) + cleanup S)) t) (j .nodes)
   unfolding holdTime runTime
@@ -146,7 +146,7 @@ later-pick m [] e = refl
 later-pick m (h ∷ later) e = case (leb (h .nodes) (free m))
     (λ l. absurd (let w : some h ≡ none = rw l at e in let z : _≡_ {A = ℕ} 0 1 = cc in omega arith)) (λ l. rw l)
 
--- a job passed forward leaves the head without its nodes
+-- passing a job forward leaves the head still without its nodes
 still-lacks : (m : Model) (j : Job) → Asc 1 (m .jobs) → headFits m (queue (m .jobs)) ≡ none → laterOne m (queue (m .jobs)) ≡ some j
     → headFits (begin (j .ticket) m) (queue (begin (j .ticket) m .jobs)) ≡ none
 still-lacks m j a e f = by (queue (m .jobs)) refl (later-pick m (queue (m .jobs)) e ∙ f)
@@ -260,10 +260,10 @@ refused-same m tick a = judged-refused m (tickRefusal m) (advanced m (suc (m .cl
 refused-same m (amend c) a = judged-refused m (inPlaceRefusal m c) (finished m (inPlace m c) (c .ticket) []) (finished-none m _ _ _) a
 refused-same m (unchanged r) a = refl
 
--- Each refusal of a submission, with its conditions in the documents' order and no others. 14: "a house other than A or B"; 1: "stack nodes
--- 0 or above the rack's"; 2: "estimate .. outside 1 to 10,080", by document 02, No. 6, to the longest; 19: "least above most"; 15: "the house's
--- places are all live"; 5: "ticket 999,999 has been given"; 6: "now + r × 10,080 + held above it, r being the number waiting before plus one",
--- by document 02, No. 3, with the clearing in both, and by No. 6 with the longest estimate's held time
+-- Each refusal of a submission, with its conditions in the documents' order and no others. 14: "a house other than A or B"; 1: "stack nodes 0 or
+-- above the rack's"; 2: "estimate .. outside 1 to 10,080", by document 02, No. 6, to the longest; 19: "least above most"; 15: "the house's places
+-- are all live"; 5: "ticket 999,999 has been given"; 6: "now + r × 10,080 + held above it, r being the number waiting before plus one", by document
+-- 02, No. 3, with the cleanup in both, and by No. 6 with the longest estimate's held time
 pub submit-refusal : (m : Model) (o : Submission) → call m (submit o) .reply .refusal ≡ verdict
     ((not (known (o .tenant)), refusal.UnknownTenant)
     ∷ (ltb (o .nodes) 1 || ltb (m .settings .nodes) (o .nodes), refusal.NodesOutOfRange)
@@ -281,7 +281,7 @@ pub submit-refusal : (m : Model) (o : Submission) → call m (submit o) .reply .
 unfolding submitRefusal runTime holdTime unit
 submit-refusal m o = refusal-is m (submit o)
 
--- Nothing is refused but on its condition, and what no condition holds of is accepted.
+-- Nothing is refused except on its condition. A submission of which no condition holds is accepted.
 abbrev pub Because : Model → Submission → Refusal → Type 0
 Because m o refusal.None = Fit m o × (latestEnd m (o .estimate) ≤ horizon (m .settings))
 Because m o refusal.NodesOutOfRange = (o .nodes < 1) ⊎ (m .settings .nodes < o .nodes)
@@ -373,7 +373,7 @@ cleaning-refused m j s i c = refusal-is m (complete t) ∙ complete-because m t 
     p : Job → Bool
     p = departsAs Complete t
 
-    -- whoever ended would be the one job with this ticket, and would run
+    -- a job that ended would be the one job with this ticket, and would be running
     ran : any p (m .jobs) ≡ true → ⊥
     ran a =
         let k = elem-job t (keep p (m .jobs)) (ap (elem t) (departs-alone Complete t 1 (m .jobs) (s .asc) a) ∙ rw (eq-eqb t t refl)) in
@@ -452,7 +452,7 @@ advanced-ended : (m : Model) (c : ℕ) (s : Select) → advanced m c s .reply .e
 unfolding advanced finished
 advanced-ended m c s = refl
 
--- A tick ends the jobs whose end, "s + held", is the minute that it comes to, and no others: none whose nodes are released then.
+-- A tick ends the jobs whose end, "s + held", is the minute that it comes to, and no others. A job whose nodes are released then does not end.
 pub tick-ends : (m : Model) → accepts (call m tick .reply .refusal) ≡ true
     → call m tick .reply .ended ≡ ticketsOf (keep (λ (j : Job). isRunning j && eqb (j .start + wallTime (j .estimate)) (suc (m .clock))) (m .jobs))
 unfolding call runTime endOf
@@ -507,8 +507,8 @@ settles-distinct (start {m = m} {ts = ts} j e s) =
         (λ k i n x y. true-false false x refl)
         (w .job) (w .isin) (w .waits) (w .named)
 
--- A job starts only while it waits: a ticket started was waiting before the call, or is the one that the call took in; it does
--- not wait afterwards, so that no later call starts it again; and no call starts a ticket twice.
+-- A job starts only while it waits. A ticket started was waiting before the call, or the call took it in. It does not wait afterwards, so that no
+-- later call starts it again. No call starts a ticket twice.
 pub record Starts (m : Model) (c : Call) (o : Result) : Type 0 where
   pub waited : (t : ℕ) → elem t (o .reply .started) ≡ true → Waits m t ⊎ (t ≡ o .reply .ticket)
   pub runs : (t : ℕ) → elem t (o .reply .started) ≡ true → Waits (o .model) t → ⊥

@@ -50,7 +50,7 @@ ended-by S t j r l = rw r (le-leb _ t (omega arith))
 pub not-ended : (S : Settings) (t : ℕ) (j : Job) → (isHolding j ≡ true → t < until S j) → overBy S t j ≡ false
 not-ended S t j l = case (isHolding j) (λ r. rw r (lt-leb _ t (omega (arith, l r)))) (λ r. rw r)
 
--- What the shadow needs of a model: no more nodes are held than it has, and who holds some gives them back now or later, within a unit.
+-- What the shadow needs of a model: no more nodes are held than it has, and each job that holds some gives them back now or later, within a unit.
 pub record Releasing (m : Model) : Type 0 where
   pub few : length (m .jobs) ≤ slots (m .settings)
   pub nodes-to : m .settings .nodes ≤ maxNodes
@@ -115,7 +115,7 @@ none-starts m h later e =
     (λ l. absurd (let w : some h ≡ none = rw l at e in let z : _≡_ {A = ℕ} 0 1 = cc in omega arith))
     (λ l. (leb-false (h .nodes) (free m) l, first-none (qualifies m h) later (rw l at e)))
 
--- as document 01's steps 1 and 3 say it: the head, which fits; or, where the head does not, the first later job that qualifies
+-- as document 01's steps 1 and 3 say it: the head, if it fits; otherwise the first later job that qualifies
 pub data How (m : Model) (j : Job) : List Job → Type 0 where
   as-head : (later : List Job) → j .nodes ≤ free m → How m j (j ∷ later)
   passing : (h : Job) (later : List Job) → free m < h .nodes → first (qualifies m h) later ≡ some j → How m j (h ∷ later)

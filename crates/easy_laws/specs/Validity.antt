@@ -1,4 +1,4 @@
--- What every model of this kind is, that an opening or a call hands back; and what each call does.
+-- What holds of every model of this kind that an opening or a call hands back; and what each call does.
 -- Assumes nothing.
 use Prim.Native.Nat.{ℕ, suc, _+_, _*_, _≤_}
 use native.Mathlib.Omega.{arith}
@@ -77,7 +77,7 @@ pub record Ready (m : Model) : Type 0 where
   pub submitted : (j : Job) → In j (m .jobs) → j .submitted ≤ m .clock
   pub ranked : (j : Job) → In j (m .jobs) → (1 ≤ j .rank) × (j .rank ≤ slots (m .settings))
   pub room : (j : Job) → In j (m .jobs) → isWaiting j ≡ true → Room m j
-  -- a forecast is a minute of the clock, and whoever waits with one is on course for it
+  -- a forecast is a minute of the clock, and a waiting job with one is on course for it
   pub forecast-to : (j : Job) → In j (m .jobs) → j .forecast ≤ horizon (m .settings)
   pub kept : (j : Job) → In j (m .jobs) → isWaiting j ≡ true → 1 ≤ j .forecast → OnCourse m (j .ticket) (j .forecast)
   -- nobody behind the head has one: "no other waiting one having any"

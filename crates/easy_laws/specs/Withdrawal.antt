@@ -1,5 +1,5 @@
--- For the reader: a job behind the head is withdrawn, and nothing else changes: nobody starts, the head hears nothing new, and its shadow
--- stays. And what this kind owes of tickets, from which it follows that one withdrawn is in no later answer.
+-- For the reader: if a job behind the head is withdrawn, nothing else changes. No job starts, the head hears nothing new, and its shadow stays.
+-- Also what this kind owes of tickets, from which it follows that a withdrawn ticket is in no later answer.
 -- Assumes nothing.
 use Prim.Native.Nat.{ℕ, suc, _+_, _-_}
 use native.Mathlib.Omega.{arith}
@@ -98,7 +98,7 @@ module _ (m : Model) (t : ℕ) (v : Valid m) (h : Job) (later : List Job) (e : q
 
 -- ## Tickets
 
--- whose run ends ran, for its least or longer
+-- a job whose run ends was running, and had run for at least its least
 ended-ran : (m : Model) (c : Call) (u : ℕ) → Sound m → Ended m c u (call m c)
 unfolding call advanced finished
 ended-ran m (submit o) u s =

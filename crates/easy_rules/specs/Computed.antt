@@ -1,5 +1,5 @@
--- Document 01's slips of the Loose Desk, one where two jobs might pass the head in one call, and document 02's clearing, houses, longest
--- estimate and soonest minute, computed from the definitions.
+-- Document 01's slips of the Loose Desk, one where two jobs might pass the head in one call, and document 02's cleanup, houses, longest estimate
+-- and soonest minute, computed from the definitions.
 -- Assumes nothing.
 use mathlib.Core.Path.{_≡_, refl}
 use mathlib.Core.List.{List, [], _∷_, map}
@@ -63,8 +63,8 @@ queued = after call waited-for (submit (order 3 21) ∷ submit (order 5 20) ∷ 
 abbrev alone : ℕ → ℕ → Refusal
 alone minute e = call (fresh 4 minute) (submit (order 1 e)) .reply .refusal
 
--- document 02, No. 3: the same two jobs as in `waited-for`, for 5 and 10 minutes, where nodes are cleared for 2. The first ends at 5, in
--- cleanup until 7
+-- document 02, No. 3: the same two jobs as in `waited-for`, for 5 and 10 minutes, with 2 minutes of cleanup. The first ends at 5, in cleanup until
+-- 7
 abbrev short : Model
 short = after call (cleared 2 10 0) (submit (order 6 5) ∷ submit (order 8 10) ∷ [])
 
@@ -75,7 +75,7 @@ over-at-5 = after call short (tick ∷ tick ∷ tick ∷ tick ∷ tick ∷ [])
 abbrev over-at-1 : Model
 over-at-1 = after call short (tick ∷ complete 1 ∷ [])
 
--- the answer to a job of the longest estimate on a machine of 1 node that is cleared for 30 minutes
+-- the answer to a job of the longest estimate on a machine of 1 node with 30 minutes of cleanup
 abbrev longest : ℕ → Refusal
 longest minute = call (cleared 30 1 minute) (submit (order 1 10080)) .reply .refusal
 
@@ -101,8 +101,8 @@ b-running = after call (cleared 2 10 0) (submit (orderOf B 1 5) ∷ [])
 abbrev b-over : Model
 b-over = after call b-running (complete 1 ∷ tick ∷ [])
 
--- document 02, No. 7: "A faded hand takes anything from 20 to 90 minutes": on a machine of 4 nodes that are cleared for 2, behind such a job
--- wait one of 4 nodes and one of 3, and a second runs beside it for 5 to 10 minutes
+-- document 02, No. 7: "A faded hand takes anything from 20 to 90 minutes": a machine of 4 nodes has 2 minutes of cleanup. Behind such a job wait
+-- one of 4 nodes and one of 3, and a second runs beside it for 5 to 10 minutes
 abbrev faded : Model
 faded = after call (cleared 2 4 0)
     (submit (orderBetween A 3 20 90) ∷ submit (orderBetween A 1 5 10) ∷ submit (order 4 5) ∷ submit (order 3 120) ∷ submit (order 1 120) ∷ [])
@@ -143,7 +143,7 @@ pub examples : (call (call (fresh 10 0) (submit (order 6 20)) .model) (submit (o
     -- a later one is withdrawn, and the head stays; one that runs cannot be
     × (call queued (cancel 4) .reply .head ≡ none)
     × (call queued (cancel 1) .reply .refusal ≡ refusal.NotWaiting)
-    -- document 02, No. 3: the shadow counts nodes that are cleared as held, and rule (i) asks for held time plus clearing
+    -- document 02, No. 3: the shadow counts nodes in cleanup as held, and rule (i) asks for held time plus cleanup
     × (shadow short 8 ≡ 7)
     × (extra short 8 ≡ 2)
     × (started short (submit (order 4 5)) ≡ 3 ∷ [])
@@ -160,7 +160,7 @@ pub examples : (call (call (fresh 10 0) (submit (order 6 20)) .model) (submit (o
     × (started (after call over-at-1 (tick ∷ [])) tick ≡ 2 ∷ [])
     × (call (after call over-at-1 (tick ∷ [])) tick .reply .ended ≡ [])
     × (stored (after call over-at-1 (tick ∷ tick ∷ [])) ≡ (3, 0, 0) ∷ [])
-    -- the last minute: now + r × (10,080 + clearing) + held + clearing. At 979,810 the sum without the last summand is 1,000,000
+    -- the last minute: now + r × (10,080 + cleanup) + held + cleanup. At 979,810 the sum without the last summand is 1,000,000
     × (longest 979780 ≡ refusal.None)
     × (longest 979810 ≡ refusal.PastHorizon)
     -- document 02, No. 6: "the bound and last-minute rule of the Loose Desk read its held time, which may be greater"; 2 reads the setting, and
@@ -181,11 +181,11 @@ pub examples : (call (call (fresh 10 0) (submit (order 6 20)) .model) (submit (o
     -- 14 comes first, and 2 before 15
     × (asking crowded (orderOf Nobody 0 0) ≡ refusal.UnknownTenant)
     × (asking crowded (order 1 0) ≡ refusal.MinutesOutOfRange)
-    -- document 02, No. 7: for all 4 nodes and for 3 the first must be over, and 1 is free once the second is, whoever waits
+    -- document 02, No. 7: for all 4 nodes and for 3 the first must be over; 1 node is free once the second is over, whichever jobs wait
     × (soonest faded 3 ≡ (refusal.None, 22))
     × (soonest faded 4 ≡ (refusal.None, 22))
     × (soonest faded 5 ≡ (refusal.None, 7))
-    -- "or now if that is past, followed by clearing", and what is cleared at its release
+    -- "or now if that is past, followed by clearing"; nodes in cleanup come free at their release
     × (soonest faded-later 3 ≡ (refusal.None, 32))
     × (soonest faded-later 5 ≡ (refusal.None, 30))
     × (soonest faded-over 3 ≡ (refusal.None, 32))

@@ -1,4 +1,4 @@
--- The earliest possible start of a waiting job, of either kind (document 02, No. 7: "soonest minute").
+-- The earliest possible start of a waiting job, for either kind (document 02, No. 7: "soonest minute").
 -- Assumes nothing.
 use mathlib.Core.Bool.{cond}
 use mathlib.Core.List.{map}

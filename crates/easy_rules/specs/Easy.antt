@@ -39,8 +39,8 @@ head m = head? (queue (m .jobs))
 abbrev pub free : Model → ℕ
 free m = m .settings .nodes - nodesHeld (m .jobs)
 
--- "running stacks with end ≤ that minute": those whose nodes are free again by then. Document 02, No. 3: while nodes are cleared, "shadow,
--- extra and demand 3 count them as held by a stack running until these end"
+-- "running stacks with end ≤ that minute": those whose nodes are free again by then. Document 02, No. 3: during cleanup, "shadow, extra and demand
+-- 3 count them as held by a stack running until these end"
 abbrev pub overBy : Settings → ℕ → Job → Bool
 overBy S t j = isHolding j && leb (until S j) t
 
@@ -68,7 +68,7 @@ qualifies m h j =
     leb (j .nodes) (free m)
     && (leb (m .clock + holdTime (m .settings) (j .estimate)) (shadow m (h .nodes)) || leb (j .nodes) (extra m (h .nodes)))
 
--- the job that starts next: the head "while the head's nodes are free now", else "the first later stack" that qualifies
+-- the job that starts next: the head "while the head's nodes are free now", otherwise "the first later stack" that qualifies
 unfoldable pub pick : Model → List Job → Option Job
 pick m [] = none
 pick m (h ∷ later) = cond (leb (h .nodes) (free m)) (some h) (first (qualifies m h) later)
@@ -127,7 +127,7 @@ abbrev pub noted : Option Forecast → Model → Model
 noted none m = m
 noted (some f) m = withModelJobs m (map (noting f) (m .jobs))
 
--- a call that found the scheduler as `before` and has done its own part: it settles, and answers
+-- a call that found the scheduler as `before` and has done its own part: it settles and answers
 unfoldable pub finished : Model → Model → ℕ → List ℕ → Result
 finished before m ticket ended =
     let s = settled m in

@@ -1,4 +1,4 @@
--- Whoever waits by the book has a bound: from the beginning, where the record of a waiting job has one, and from its intake.
+-- Every job that waits by the book has a bound. It has it from the beginning, where the record of a waiting job has one, or from its intake.
 -- Assumes nothing.
 use Prim.Native.Nat.{ℕ, _+_, _*_}
 use mathlib.Core.Path.{_≡_, refl, sym, ap, _∙_}

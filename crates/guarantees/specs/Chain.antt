@@ -1,6 +1,6 @@
--- Calls of the code, one after another, are a list of calls of the definitions: so what is proved of lists holds of the code, by the
--- answers that the caller received. Document 01: "Each call, taken or refused, gets the desk that the last one handed back, or left where
--- it was lent"; "The words go by the calls and their answers".
+-- Calls of the code, one after another, are a list of calls of the definitions. So what is proved of lists holds of the code, by the answers that
+-- the caller received. Document 01: "Each call, taken or refused, gets the desk that the last one handed back, or left where it was lent"; "The
+-- words go by the calls and their answers".
 -- Assumes nothing.
 use mathlib.Core.Path.{_≡_, refl, sym, ap, subst, _∙_}
 use mathlib.Core.List.{List, [], _∷_, map}
@@ -61,8 +61,8 @@ unchanged-refuses m r = by (m .settings .kind)
     by Conservative = refl
     by Easy = refl
 
--- A way to make calls: `desk m` stands there for a model m with such settings (`fit`), `answered r` for a reply r, and an answer says the reply
--- `said`. Each call on a valid model leaves and answers what its definition gives (`is`), and what is said is that reply (`back`).
+-- A way to make calls. `desk m` stands for a model m with settings that fit (`fit`), `answered r` for a reply r, and `said` is the reply that an
+-- answer says. Each call on a valid model leaves and answers what its definition gives (`is`), and what is said is that reply (`back`).
 module _ {D A : Type 0} (Made : D → Call → A → D → Type 0) (desk : Model → D) (answered : Reply → A) (said : A → Reply) (fit : Settings → Type 0)
     (is : (m : Model) (c : Call) (a : A) (e : D) → Valid m → fit (m .settings) → Made (desk m) c a e
     → (e ≡ desk (call m c .model)) × (a ≡ answered (call m c .reply)))

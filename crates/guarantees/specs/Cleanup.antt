@@ -1,5 +1,5 @@
--- Of both kinds, document 02, No. 3: the nodes of a job in cleanup are given to no other before they are free, whatever calls come; and with a
--- cleanup of 0 no job is ever in cleanup.
+-- For both kinds, document 02, No. 3: the nodes of a job in cleanup go to no other job before they are free, whatever calls come. With a cleanup of
+-- 0 no job is ever in cleanup.
 -- Assumes nothing.
 use Prim.Native.Nat.{ℕ, _+_, _≤_, _<_}
 use native.Mathlib.Omega.{arith}

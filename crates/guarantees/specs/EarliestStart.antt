@@ -1,4 +1,4 @@
--- Of both kinds, document 02, No. 7: a job never starts before the earliest start given of it, whatever calls come.
+-- For both kinds, document 02, No. 7: a job never starts before the earliest start given for it, whatever calls come.
 -- Assumes nothing.
 use Prim.Native.Nat.{ℕ, _+_, _≤_, _<_, max}
 use native.Mathlib.Omega.{arith}
@@ -219,7 +219,7 @@ module _ {κ : Kind} {Fit : Model → Type 0} {OnCourse : Model → ℕ → ℕ 
             fate-is = sym (ap (λ (x : JobShown). x .fate) (j .2)) ∙ q;
           }
 
-      -- it starts: then its nodes were there, beside those that others hold still
+      -- it starts: then its nodes were there, beside those that others still hold
       starts-later : fate ≡ running (m′ .clock) → earliestFor m n ≤ m′ .clock
       starts-later e =
           let f = found (running (m′ .clock)) e refl in
@@ -323,7 +323,7 @@ module _ {κ : Kind} {Fit : Model → Type 0} {OnCourse : Model → ℕ → ℕ 
 
 -- ## For the reader
 
--- whom the question is answered: a job that waits, with the earliest start for its nodes
+-- who gets an answer: a job that waits, with the earliest start for its nodes
 pub answered : (m : Model) (t : ℕ) → accepts (earliestStart m t .refusal) ≡ true → (n : ℕ) × WaitsFor m t n × (earliestStart m t .minute ≡ earliestFor m n)
 unfolding earliestStart
 answered m t a = by (first (departsAs Cancel t) (m .jobs)) refl

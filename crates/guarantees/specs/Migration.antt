@@ -184,9 +184,8 @@ waits-over m v t n w =
       asks = ap (λ (j : Job). j .nodes) (p .1 .job-is) ∙ w .asks;
     }
 
--- It holds over the change: where the job waits still when the change comes, it starts by no later call before the minute that was given of it,
--- as long as its order is not amended.
--- (Before the change: `starts-no-sooner`.)
+-- The minute holds over the change. If the job still waits when the change comes, no later call starts it before the minute that was given for it,
+-- as long as its order is not amended. (Before the change: `starts-no-sooner`.)
 module _ (m : Model) (v : Valid m) (t : ℕ) (a : accepts (earliestStart m t .refusal) ≡ true) (cs : List Call)
     (f : fateFrom (cleanup (m .settings)) (m .clock) t waiting (events call m cs) ≡ waiting) (u : NoneAmends t (events call m cs)) where
   abbrev old : Model

@@ -33,7 +33,7 @@ stays-tight m (c ∷ cs) v T =
 pub no-gaps : (o : Opening) (cs : List Call) → o .settings .kind ≡ Conservative → Tight (after call (opening o) cs)
 no-gaps o cs k = stays-tight (opening o) cs (conservative.opening-valid o k) (opening-tight o)
 
--- From any valid model, which may have gaps, on: after a call that leaves none, and every list of calls that follows.
+-- From any valid model, which may have gaps: after a call that leaves none, and every list of calls that follows.
 closed-from : (m : Model) (c : Call) (cs : List Call) → Valid m → m .settings .kind ≡ Conservative
     → (conservative.Valid m → accepts (rulesOf Conservative m c .reply .refusal) ≡ true → Tight (rulesOf Conservative m c .model))
     → accepts (call m c .reply .refusal) ≡ true → Tight (after call (call m c .model) cs)

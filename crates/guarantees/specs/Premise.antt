@@ -1,5 +1,5 @@
--- The one premise of every call, "a desk came from an opening or from a call here": openings and calls, refused ones too, hand back a
--- scheduler that meets it.
+-- The one premise of every call, "a desk came from an opening or from a call here". Openings and calls, refused ones too, hand back a scheduler
+-- that meets it.
 -- Assumes nothing.
 use mathlib.Core.Path.{_≡_, refl, sym, ap, subst}
 use mathlib.Core.List.{List, [], _∷_}

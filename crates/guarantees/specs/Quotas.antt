@@ -1,6 +1,6 @@
--- Document 02, No. 4: "past the checks before 15, only its share and its live stacks' number decide a lack of places". Two schedulers, of
--- either kind and whatever else they hold, that agree on a tenant's quota and on how many live jobs it has, refuse its submission by 15 both
--- or neither.
+-- Document 02, No. 4: "past the checks before 15, only its share and its live stacks' number decide a lack of places". Take two schedulers, of
+-- either kind and whatever else they hold, that agree on a tenant's quota and on how many live jobs it has. Both refuse its submission by 15, or
+-- neither does.
 -- Assumes nothing.
 use mathlib.Core.Path.{_≡_, sym, ap, _∙_}
 use mathlib.Core.Bool.{Bool, true, false, not, _||_}

@@ -1,6 +1,6 @@
 -- On the Loose Desk the bound of a waiting job, by the calls and their answers, is the one that its record keeps: intake minute + r × (10,080 +
--- clearing). From every start, an opening or a reading, and after every list of calls. So whoever writes a scheduler out and reads it back goes on
--- with the bounds that were given before.
+-- cleanup). This holds from every start, an opening or a reading, and after every list of calls. So whoever writes a scheduler out and reads it
+-- back goes on with the bounds that were given before.
 -- Assumes nothing.
 use mathlib.Core.Path.{_≡_, sym, subst}
 use mathlib.Core.List.{List}

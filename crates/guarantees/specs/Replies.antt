@@ -1,5 +1,5 @@
--- An answer of the code loses nothing: of every call on a valid model, what it says is the call's reply. Places past a count say nothing,
--- and a head of 0 is none, as no ticket is 0. (That the lists have room for all tickets is `call-fits` in TicketCounts.antt.)
+-- An answer of the code loses nothing: for every call on a valid model, the answer says the call's reply. Places past a count say nothing, and a
+-- head of 0 means none, since no ticket is 0. (`call-fits` in TicketCounts.antt says that the lists have room for all tickets.)
 -- Assumes nothing.
 use mathlib.Core.Path.{_≡_, refl}
 use mathlib.Core.List.{List}

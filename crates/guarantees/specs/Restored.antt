@@ -37,8 +37,8 @@ made-comes-back s cs e =
     valid-comes-back (after call (startOf s) cs) (after-valid (startOf s) cs (start-valid s))
     (ap (λ (S : Settings). S .longest) (settings-stay (startOf s) cs (start-valid s)) ∙ e)
 
--- From every start on: once an early end or a withdrawal was not refused, whatever calls came before it and follow, no waiting job could begin
--- earlier with all others where they are.
+-- From every start on: once an early end or a withdrawal was not refused, no waiting job could begin earlier with all others where they are,
+-- whatever calls came before and follow.
 pub no-gaps-once : (s : Start) (before : List Call) (h : Departure) (t : ℕ) (cs : List Call) → startOf s .settings .kind ≡ Conservative
     → let m = after call (startOf s) before in accepts (call m (depart h t) .reply .refusal) ≡ true → Tight (after call (call m (depart h t) .model) cs)
 no-gaps-once s before h t cs k a =

@@ -1,5 +1,5 @@
--- The guarantees of both kinds of scheduler (document 01: "demand 3", "a single claim about the whole list"): the statement, and
--- from what a kind owes of each call, its proof.
+-- The guarantees of both kinds of scheduler (document 01: "demand 3", "a single claim about the whole list"): the statement, and its proof from
+-- what a kind owes of each call.
 -- Assumes nothing.
 use mathlib.Core.Path.{_≡_, refl, ap, subst, _∙_}
 use mathlib.Core.List.{List, [], _∷_, _++_}
@@ -26,16 +26,16 @@ use Rattle.history_proof.specs.Beginnings.{beginning-agrees}
 use Rattle.history_proof.specs.Proof.{Agrees, InStep, follows, guaranteed, settings-after}
 use Rattle.guarantees.specs.Rules.{rulesOf, call}
 
--- what calls and their answers say: from a model and a book on, and from a model on, whose jobs count as it has them
+-- what calls and their answers say: from a model and a book on; and from a model alone, whose jobs count as it has them
 abbrev pub bookFrom : Model → Book → List Event → Book
 bookFrom m b es = enterAll (unit (m .settings)) (cleanup (m .settings)) b es
 
 abbrev pub bookOf : Model → List Event → Book
 bookOf m es = bookFrom m (beginning m) es
 
--- "Its bound is the clock at intake + r × 10,080": with clearing, "r × (10,080 + clearing)"; and by document 02, No. 6, "the bound and
--- last-minute rule of the Loose Desk read its held time", that of the longest estimate. Of every opening, since one with more than 30 minutes of
--- clearing is refused, and one with a longest estimate above 10,080
+-- "Its bound is the clock at intake + r × 10,080": with cleanup, "r × (10,080 + clearing)"; and by document 02, No. 6, "the bound and last-minute
+-- rule of the Loose Desk read its held time", that of the longest estimate. This holds of every opening, since more than 30 minutes of cleanup and
+-- a longest estimate above 10,080 are refused
 pub unit-is : (o : Opening) → unit (opening o .settings) ≡ wallTime (opening o .settings .longest) + opening o .settings .cleanup
 unfolding unit runTime
 unit-is o =
@@ -53,7 +53,7 @@ unit-elsewhere o e = unit-is o ∙ ap (λ (l : ℕ). wallTime l + opening o .set
 pub longest-is-set : (o : Opening) → longest (opening o .settings) ≡ opening o .settings .longest
 longest-is-set o = longest-is (opening o .settings) (opening-sound o .longest-to)
 
--- nodes stay taken for clearing minutes after the end of a run
+-- nodes stay taken for the minutes of cleanup after the end of a run
 pub cleanup-is-set : (o : Opening) → cleanup (opening o .settings) ≡ opening o .settings .cleanup
 cleanup-is-set o = cleanup-is (opening o .settings) (opening-sound o .cleanup-to)
 
@@ -71,8 +71,8 @@ startOf (reads t) = restored t .model
 startOf (changes s cs) = changed (after call (startOf s) cs)
 
 -- For every start and every list of calls: with the words by the calls and their answers, promises are kept, bounds and forecasts are kept, every
--- head hears one, and running jobs never hold more nodes than the machine has. ("After every call": every front of a list is a list.) Of a job
--- that waits in the lines that a list starts from, the promise, the bound and the forecast that they give it are kept (`beginning`).
+-- head hears one, and running jobs never hold more nodes than the machine has. ("After every call": every front of a list is a list.) A list may
+-- start from lines: a job that waits in them keeps the promise, the bound and the forecast that they give it (`beginning`).
 abbrev pub Demand3 : Type 0
 Demand3 =
     (s : Start) (cs : List Call)

@@ -1,5 +1,5 @@
--- Of both kinds: one that is withdrawn does not start by that call, and no later answer says its ticket: it neither starts nor ends, is not
--- withdrawn again, hears no forecast, and its ticket is not given a second time.
+-- For both kinds: a withdrawn job does not start by that call, and no later answer names its ticket. It neither starts nor ends, is not withdrawn
+-- again, and hears no forecast, and its ticket is not given a second time.
 -- Assumes nothing.
 use mathlib.Core.Path.{_≡_, refl, sym, ap, subst, _∙_}
 use mathlib.Core.Bool.{true, false}

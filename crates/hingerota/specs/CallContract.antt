@@ -13,8 +13,7 @@ use Rattle.hingerota.specs.declared.Outcome.{Outcome}
 use Rattle.hingerota.specs.Mirror.{mirror, read}
 use Rattle.hingerota.specs.DeskPremise.{Handed, gives, call-handed, amendmentOf, amendsOn, amended-handed}
 
--- of a call that by value gives the outcome o: the answer a, and the desk e where d was lent, are those of o; and e is as d was where the call is
--- refused
+-- for a call that by value gives the outcome o: the answer a, and the desk e where d was lent, are those of o; and e is d if the call is refused
 pub record HostLeavesOf (d : Desk) (o : Outcome) (a : Answer) (e : Desk) : Type 0 where
   pub answers : a ≡ o .answer
   pub leaves : e ≡ o .desk

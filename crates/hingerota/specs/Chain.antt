@@ -66,7 +66,7 @@ hostReply a = replyOf (readAnswer a)
 abbrev pub refusedBy : ℕ → Answer
 refusedBy n = record { refusal = n; ticket = 0; promise = 0; reads = 0; head = 0; forecast = 0; ended = mirrorTickets noTickets; started = mirrorTickets noTickets }
 
--- a call on the desk d, lent, as its contract says that it was made: what it answers, and the desk after it
+-- a call on the lent desk d, made as its contract says: what it answers, and the desk after it
 pub data HostMade (d : Desk) : Call → Answer → Desk → Type 0 where
   onLent : {c : Call} {a : Answer} {e : Desk} → HostLeaves d c a e → HostMade d c a e
   -- a profile counts as a call that leaves the desk as it is, by the refusal that it answers
@@ -84,10 +84,10 @@ pub data HostMade (d : Desk) : Call → Answer → Desk → Type 0 where
   -- and a call for a text: the status page (`HostShowsPage`), the lines (`HostShowsText`) or why jobs wait (`HostShowsWhy` in `TextContract.antt`)
   textOnLent : {text : Model → List ℕ} {lent after : List ℕ} {s : Shown} → HostShowsBytes text d lent s after
       → HostMade d (unchanged (listRefusal text (view (read d)) (length lent))) (refusedBy (s .refusal)) d
-  -- and a wait which is refused; one that is not is as many ticks
+  -- and a wait that is refused; one that is not refused is as many ticks
   waitRefused : {n : ℕ} (minutes : ℕ) → n ≡ waitNumber d minutes → eqb n 0 ≡ false → HostMade d (unchanged (waitRefusalOn d minutes)) (refusedBy n) d
 
--- where d mirrors a valid model, stored: what each leaves and answers is that of its definition
+-- where d mirrors a valid model, stored: each call leaves and answers what its definition gives
 module _ (m : Model) (v : Valid m) (w : m .settings .longest ≡ longestEstimate) where
   desk-view : view (read (mirror (store m))) ≡ m
   unfolding store

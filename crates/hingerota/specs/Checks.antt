@@ -146,7 +146,7 @@ zero-record r e =
       forecast = z .1 .1 .1 .1 .1 .1 .1 .1 .1 .1 .1 .0 i;
     }
 
--- live jobs, and so many unused slots
+-- live jobs, and then this many unused slots
 abbrev Slots : List Record → Type 0
 Slots rs = (js : List Job) × (k : ℕ) × All Live js × (rs ≡ map mirrorJob (js ++ replicate k unused))
 

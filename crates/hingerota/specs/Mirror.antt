@@ -1,7 +1,6 @@
--- A scheduler, what it answers and what an opening gives, in numbers: what a host program holds. A function that is exported can hold no
--- enum, so a kind, a state and a refusal are numbers there. Document 01: "A record has ticket, nodes, estimate, state, start and promise";
--- document 02, No. 3: a record in cleanup, "and no other, keeps its end"; No. 4: "Each record
--- carries its house", its letter here.
+-- A scheduler, its answers and an opening in numbers, as a host program holds them. An exported function can hold no enum, so a kind, a state and a
+-- refusal are numbers. Document 01: "A record has ticket, nodes, estimate, state, start and promise"; document 02, No. 3: a record in cleanup, "and
+-- no other, keeps its end"; No. 4: "Each record carries its house", its letter here.
 -- Assumes nothing.
 use mathlib.Core.Path.{_≡_, refl, sym}
 use mathlib.Core.List.{List, [], _∷_, map}

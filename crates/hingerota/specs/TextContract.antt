@@ -70,7 +70,7 @@ module _ (text : Model → List ℕ) (d : Desk) (lent : List ℕ) where
   text-given s a r after e w q =
       subst (λ (x : Shown). HostShowsBytes text d lent x after) (sym q) (shown-host a after (subst (λ (x : Scheduler). Shows text x lent a after) e w))
 
--- ## So many bytes are always enough
+-- ## These numbers of bytes are always enough
 
 enough : (text : Model → List ℕ) (d : Desk) (lent : List ℕ) (a : Shown) (after : List ℕ) → HostShowsBytes text d lent a after
     → listRefusal text (view (read d)) (length lent) ≡ refusal.None → a .refusal ≡ 0

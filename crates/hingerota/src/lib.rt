@@ -1,5 +1,5 @@
-// The calls for a host program in C or Rust, exported by plain names. The header is host/include/hingerota.h. A function that is exported
-// can hold no enum: the host's desk is the scheduler in numbers, read and mirrored back at each call.
+// The calls for a host program in C or Rust, exported by plain names. The header is host/include/hingerota.h. An exported function can hold no
+// enum, so the host's desk is the scheduler in numbers. Each call reads it and mirrors the result back.
 ghost use mathlib.Core.Path.{_≡_};
 ghost use Rattle.scheduler.specs.Answers.{code};
 ghost use Rattle.history.specs.Calls as calls;
@@ -27,8 +27,8 @@ use scheduler::State;
 use scheduler::Submission;
 use scheduler::Tenant;
 
-// What a desk is opened with: the machine's nodes, the first minute, the first ticket, and for how many minutes nodes stay taken after a run, and
-// how many live jobs A and B may have.
+// What a desk is opened with: the machine's nodes, the first minute, the first ticket, for how many minutes nodes stay taken after a run, and how
+// many live jobs A and B may have.
 #[repr(C)]
 pub struct Opening {
     pub nodes: u32,
@@ -39,7 +39,7 @@ pub struct Opening {
     pub quota_b: u32,
 }
 
-// What is asked for a job; the estimate is the most that it runs, and the tenant is a letter, A (65) or B (66).
+// What is asked for a job. The estimate is the most that it runs, and the tenant is a letter, A (65) or B (66).
 #[repr(C)]
 pub struct Order {
     pub nodes: u32,
@@ -146,7 +146,7 @@ pub struct Earliest {
     pub minute: u32,
 }
 
-// How long may a job of so many nodes be, submitted now by the tenant of this letter, to start by this minute?
+// The question how long a job of this many nodes may be, submitted now by the tenant of this letter, to start by this minute.
 #[repr(C)]
 pub struct Inquiry {
     pub nodes: u32,
@@ -154,7 +154,7 @@ pub struct Inquiry {
     pub minute: u32,
 }
 
-// The largest estimate with which it would, 0 where there is none; the refusal is document 02's number, and the estimate is then 0.
+// The largest estimate that starts in time; 0 if there is none. The refusal is document 02's number, and the estimate is then 0.
 #[repr(C)]
 pub struct Longest {
     pub refusal: u32,
@@ -760,7 +760,7 @@ pub extern "C" fn hingerota_tick(d: &mut Desk) -> Answer
     s.answer
 }
 
-// The free nodes from now on, into the list lent; of the Promise Desk alone.
+// The free nodes from now on, into the list lent. Only the Promise Desk has them.
 #[no_mangle]
 pub extern "C" fn hingerota_profile(d: &Desk, points: &mut [Point]) -> Shown
     requires { ⌜ Handed (now d) ⌝ }
@@ -775,7 +775,7 @@ pub extern "C" fn hingerota_profile(d: &Desk, points: &mut [Point]) -> Shown
     p.answer
 }
 
-// The index of the profile, into the list lent; of the Promise Desk alone.
+// The index of the profile, into the list lent. Only the Promise Desk has it.
 #[no_mangle]
 pub extern "C" fn hingerota_index(d: &Desk, blocks: &mut [Block]) -> Shown
     requires { ⌜ Handed (now d) ⌝ }
@@ -799,8 +799,8 @@ pub extern "C" fn hingerota_earliest_start(d: &Desk, ticket: u32) -> Earliest
     earliest_start(*d, ticket)
 }
 
-// The largest estimate with which a submission now would be promised the wanted minute or an earlier one; of the Promise Desk alone. The desk
-// is only read.
+// The largest estimate with which a submission now would be promised the wanted minute or an earlier one. Only the Promise Desk answers this. The
+// desk is only read.
 #[no_mangle]
 pub extern "C" fn hingerota_longest_estimate(d: &Desk, inquiry: Inquiry) -> Longest
     requires { ⌜ Handed (now d) ⌝ }
@@ -846,7 +846,7 @@ pub extern "C" fn hingerota_migrate(d: &mut Desk)
     *d = migrate(*d);
 }
 
-// Why a wait of `minutes` is refused, by number, or 0: it is then that number of ticks. The desk is only read.
+// The number by which a wait of `minutes` is refused, or 0: then it is that number of ticks. The desk is only read.
 #[no_mangle]
 pub extern "C" fn hingerota_wait_refusal(d: &Desk, minutes: u32) -> u32
     requires { ⌜ Handed (now d) ⌝ }

@@ -25,11 +25,11 @@ fateBy Waiting s e = waiting
 fateBy Running s e = running s
 fateBy Cleanup s e = cleaning s e
 
--- a value that is there only of a job that waits
+-- a value that only a waiting job has
 abbrev pub ifWaiting : Bool → ℕ → Option ℕ
 ifWaiting w n = cond w (some n) none
 
--- One that has started was claimed of when it did, and no bound and no forecast is claimed of it here: a line may give it any. `h` is the head.
+-- A job that has started was judged when it did. No bound and no forecast is claimed of it here: a line may give it any. `h` is the head.
 abbrev pub entryOf : Settings → (h : Option ℕ) → Job → Entry
 entryOf S h j = record {
   ticket = j .ticket;

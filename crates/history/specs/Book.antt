@@ -33,7 +33,7 @@ pub record Entry : Type 0 where
   -- the house that its intake named, and the least last asked for it
   pub tenant : Tenant
   pub least : ℕ
-  -- "Its bound is the clock at intake + r × 10,080."; none of a job that had started before the list began
+  -- "Its bound is the clock at intake + r × 10,080.". A job that had started before the list began has none
   pub bound : Option ℕ
   pub fate : Fate
   -- it has been head after a call
@@ -97,7 +97,7 @@ entry u b o = record {
   forecast = none;
 }
 
--- "From now on nodes stay taken for clearing minutes": k of them, from the minute of the end on, at a clock of c
+-- "From now on nodes stay taken for clearing minutes": for k minutes from the minute of the end on; the clock is at c
 abbrev pub over : (k c start end : ℕ) → Fate
 over k c s e = cond (ltb c (e + k)) (cleaning s e) (ended s)
 
@@ -189,7 +189,7 @@ heard h f x = cond (isWaiting x && is h (x .ticket) && not (x .headed)) (hearing
 abbrev pub told : (k c : ℕ) → News → List Entry → List Entry
 told k c e xs = map (heard (headOf (map (marked k c e) xs)) (e .head)) (map (marked k c e) xs)
 
--- u is the unit of the bound, and k the minutes for which nodes stay taken after the end
+-- u is the unit of the bound, and nodes stay taken for k minutes after the end
 unfoldable pub enter : (u k : ℕ) → Book → News → Book
 enter u k b e =
     let c = clockAfter e (b .clock) in

@@ -1,5 +1,5 @@
--- The guarantees can fail: for each claim histories that break it, their words computed, and no further than they must: a job that waits
--- in the minute it was told, or starts in the next; one node too many. And what the words say of several jobs, one by one.
+-- The guarantees can fail. For each claim there are histories that break it, with their words computed, and they break it as little as can be: a
+-- job that waits in the minute that it was promised, or starts in the next; one node too many. And what the words say of several jobs, one by one.
 -- Assumes nothing.
 use mathlib.Core.Path.{_≡_, refl, sym, ap, subst, _∙_}
 use mathlib.Core.Bool.{true}
@@ -90,7 +90,7 @@ unfolding enter late
 waits-on zero c = ap waiting-at (omega arith)
 waits-on (suc k) c = waits-on k (suc c) ∙ ap waiting-at (omega arith)
 
--- so long that it is at its bound
+-- until it is at its bound
 abbrev at-bound : Book
 at-bound = book (taken 1 4 0 [] none ∷ replicate 10080 idle)
 
@@ -132,7 +132,7 @@ nodes-exceeded g = let w = g .within in absurd (omega arith)
 
 -- ## Withdrawals
 
--- withdrawn in the minute that it was told, and not before
+-- withdrawn in the minute that it was promised, and not before
 pub promise-withdrawn : Guarantee Conservative ten (book (taken 1 4 2 [] none ∷ idle ∷ idle ∷ dropped 1 [] ∷ [])) → ⊥
 unfolding enter
 promise-withdrawn g = let l : 2 < 2 = g .promises refl _ (here refl) .before 2 refl in omega arith
@@ -260,7 +260,7 @@ pub head-by-ticket : headOf (book (taken 8 1 0 [] none ∷ taken 7 1 0 [] none �
 unfolding enter
 head-by-ticket = refl
 
--- a tick, with the tickets that start, after which a head is told a minute
+-- a tick, with the tickets that start, after which a head is given a minute
 abbrev tells : List ℕ → (ticket minute : ℕ) → Event
 tells ss t m = record {
   call = tick;
@@ -268,8 +268,8 @@ tells ss t m = record {
       record { refusal = refusal.None; ticket = 0; promise = 0; reads = 0; ended = []; started = ss; head = some (record { ticket = t; minute = m }) };
 }
 
--- "Its forecast is the minute given by the call after which it is head for the first time": the first is told 1, and 9 counts no more; the
--- second is told 5 when the first starts; the third hears nothing, where the minute is another ticket's
+-- "Its forecast is the minute given by the call after which it is head for the first time": the first is given 1, and 9 counts no more; the second
+-- is given 5 when the first starts; the third gets none, since the minute is another ticket's
 pub forecasts-of-three : map forecastOf (book
     (taken 1 4 0 [] soon
     ∷ taken 2 4 0 [] none
@@ -390,7 +390,7 @@ bounds-begun = refl
 pub forecasts-begun : map forecastOf (begun [] .entries) ≡ none ∷ none ∷ some 50 ∷ none ∷ []
 forecasts-begun = refl
 
--- the head has heard its own, and 55 counts no more; the last is told 65 when the head starts
+-- the head has its forecast, and 55 counts no more; the last is given 65 when the head starts
 pub forecasts-told : map forecastOf (begun (tells [] 3 55 ∷ tells (3 ∷ []) 4 65 ∷ []) .entries) ≡ none ∷ none ∷ some 50 ∷ some 65 ∷ []
 unfolding enter
 forecasts-told = refl

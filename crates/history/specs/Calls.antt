@@ -29,8 +29,7 @@ pub data Call : Type 0 where
   -- a call that leaves the scheduler as it is, and answers with this refusal or none: a profile, a refused wait
   unchanged : Refusal → Call
 
--- what a line or an example asks: so many nodes, for a least and a most of minutes. Document 02, No. 7: "An order with one number has least
--- 0."
+-- what a line or an example asks: this many nodes, for a least and a most of minutes. Document 02, No. 7: "An order with one number has least 0."
 abbrev pub orderBetween : Tenant → (nodes least most : ℕ) → Submission
 orderBetween t n l e = record { nodes = n; estimate = e; tenant = t; least = l }
 

@@ -21,7 +21,8 @@ pub record StartedBy (x : Entry) (b : ℕ) : Type 0 where
   pub started : start (x .fate) ≡ some minute
   pub by : minute ≤ b
 
--- Once the clock has reached d, a job that is not withdrawn has started by d; one that is withdrawn was so before d: it was not yet due.
+-- Once the clock has reached d, a job that is not withdrawn has started by d. A job that is withdrawn was withdrawn before d, when it was not yet
+-- due.
 pub record Kept (clock : ℕ) (x : Entry) (d : ℕ) : Type 0 where
   pub starts : withdrawal (x .fate) ≡ none → d ≤ clock → StartedBy x d
   pub before : (w : ℕ) → withdrawal (x .fate) ≡ some w → w < d
@@ -30,8 +31,8 @@ pub record Kept (clock : ℕ) (x : Entry) (d : ℕ) : Type 0 where
 abbrev pub held-nodes : Entry → ℕ
 held-nodes x = on (holds (x .fate)) (x .nodes)
 
--- document 02, No. 4: whether it is live, by the calls and their answers: it waits, runs, or has ended for fewer than clearing minutes; and
--- its house's
+-- document 02, No. 4: whether it is live and its house's, by the calls and their answers: it waits, runs, or has ended for fewer minutes than the
+-- cleanup
 abbrev pub counts : Tenant → Entry → Bool
 counts t x = (waits (x .fate) || holds (x .fate)) && sameTenant (x .tenant) t
 
@@ -45,7 +46,7 @@ pub record Guarantee (kind : Kind) (S : Settings) (b : Book) : Type 0 where
   pub bounds : kind ≡ Easy → (x : Entry) (d : ℕ) → In x (b .entries) → x .bound ≡ some d → Kept (b .clock) x d
   -- and once the clock has reached its forecast, it has started no later
   pub forecasts : kind ≡ Easy → (x : Entry) (f : ℕ) → In x (b .entries) → x .forecast ≡ some f → Kept (b .clock) x f
-  -- and whoever is head hears a forecast
+  -- and every head hears a forecast
   pub heads : kind ≡ Easy → (x : Entry) → In x (b .entries) → isWaiting x ≡ true → headOf (b .entries) ≡ some (x .ticket) → (f : ℕ) × (x .forecast ≡ some f)
   -- on both, only jobs that wait start or are withdrawn: none that was withdrawn starts, and none that has started is withdrawn
   pub starts : b .strays ≡ []

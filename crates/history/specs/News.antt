@@ -1,4 +1,4 @@
--- What a call and its answer say, in one place: the book, the tickets given and what a kind owes go by this, and by no call.
+-- What a call and its answer say, in one place. The book, the tickets given and what a kind owes go by this, and not by the call.
 -- Assumes nothing.
 use mathlib.Core.Path.{_≡_, refl}
 use mathlib.Core.Bool.{Bool, true, false, _&&_, cond}

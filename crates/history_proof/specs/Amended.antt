@@ -1,4 +1,4 @@
--- Corrected orders in place (document 02, No. 13): what an event says that names one tells what has changed.
+-- Corrected orders in place (document 02, No. 13): an event that names one tells what has changed.
 -- Assumes nothing.
 use Prim.Native.Nat.{ℕ}
 use mathlib.Core.Path.{_≡_, refl, sym, ap, _∙_}

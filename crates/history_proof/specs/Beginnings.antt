@@ -56,7 +56,7 @@ module _ {k : Kind} {R : Rules} {Valid : Model → Type 0} {OnCourse : Model →
   pub each : (P : Entry → Type 0) → ((j : Job) → In j (m .jobs) → P (of j)) → (x : Entry) → In x (entriesOf m) → P x
   each P f x i = let r = map-in of (m .jobs) i in subst P (sym (r .2)) (f (r .0) (r .1))
 
-  -- whoever waits by the book waits
+  -- a job that waits by the book waits
   pub waits-is : (j : Job) → In j (m .jobs) → waits (fateBy (j .state) (j .start) (j .end)) ≡ jobs.isWaiting j
   waits-is j i = by (j .state) (all-in Live (L .all-live m v) i)
     where

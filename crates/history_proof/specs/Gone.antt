@@ -45,7 +45,7 @@ pub record Unsaid (t : ℕ) (e : News) : Type 0 where
 abbrev pub Silent : ℕ → List Event → Type 0
 Silent t es = All (λ (e : Event). Unsaid t (news e)) es
 
--- the ticket was given, and no job has it but one in cleanup
+-- the ticket was given, and the only job that may have it is in cleanup
 pub record Gone (m : Model) (t : ℕ) : Type 0 where
   pub given : t < m .next
   pub absent : (j : Job) → In j (m .jobs) → j .ticket ≡ t → isCleaning j ≡ true
@@ -111,7 +111,7 @@ module _ {k : Kind} {R : Rules} {Valid : Model → Type 0} {OnCourse : Model →
             before (y .0) (y .1) (e ∙ ap (remark lasts (m′ .clock) r) (y .2)) (sym (ap (λ (z : JobShown). isLive (remark lasts (m′ .clock) r z)) (y .2)) ∙ l)
         go x e l (inr k) = let y = map-in newly (r .came) k in now (ap ticketShown e ∙ ap ticketShown (y .2) ∙ T .gives m c (y .0) v (y .1))
 
-    -- who is gone after the call: a ticket given before it that no job has that lives on, but in cleanup
+    -- who is gone after the call: a ticket given before it, if the only job that lives on with it is in cleanup
     gone-after : (t : ℕ) → t < m .next
         → ((i : Job) → In i (m .jobs) → i .ticket ≡ t → lives lasts (m′ .clock) r i ≡ true
         → (isCleaning i ≡ true) ⊎ ((isRunning i ≡ true) × (elem t (r .ended) ≡ true)))
@@ -185,7 +185,7 @@ module _ {k : Kind} {R : Rules} {Valid : Model → Type 0} {OnCourse : Model →
   gone-silent m t [] v g = tt
   gone-silent m t (c ∷ cs) v g = (gone-unsaid m c v t g, gone-silent (R m c .model) t cs (L .valid m c v) (gone-stays m c v t g))
 
-  -- whoever a call withdraws does not start by it, and is in no later answer
+  -- a job that a call withdraws does not start by it, and is in no later answer
   pub withdrawn-silent : (m : Model) (c : Call) (t : ℕ) (cs : List Call) → Valid m → elem t (said R m c .withdrew) ≡ true
       → (elem t (said R m c .started) ≡ false) × Silent t (events R (R m c .model) cs)
   withdrawn-silent m c t cs v q = (withdrawn-unstarted m c v t q, gone-silent (R m c .model) t cs (L .valid m c v) (withdrawn-gone m c v t q))

@@ -1,4 +1,4 @@
--- The nodes that jobs hold beyond a minute at the least, each run being over at its least or now if that is past: no call makes them fewer.
+-- The nodes that jobs hold beyond a minute at the least, where each run is over at its least or now if that is past. No call makes them fewer.
 -- Assumes nothing.
 use mathlib.Core.Path.{_≡_, refl, sym, ap, _∙_}
 use mathlib.Core.Bool.{Bool, true, false, not, _&&_}
@@ -24,7 +24,7 @@ use Rattle.history.specs.Beginning.{fateBy}
 use Rattle.history_proof.specs.Obligations.{JobShown, shown, live, isLive, remark, newly, comers, said, Lawful, Ticketed}
 use Rattle.history_proof.specs.Cleaning.{clock-rises}
 
--- its nodes are taken beyond the minute u at the least, the clock being c, and nodes staying taken for k minutes after the end of a run
+-- its nodes are taken beyond the minute u at the least; the clock is at c, and nodes stay taken for k minutes after the end of a run
 abbrev pub beyond : (k c u least : ℕ) → Fate → Bool
 beyond k c u l waiting = false
 beyond k c u l (running s) = ltb u (max c (s + l) + k)

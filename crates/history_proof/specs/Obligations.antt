@@ -1,5 +1,5 @@
--- What a kind of scheduler owes, of each single call: from this alone the guarantees of whole lists follow (Proof.antt), and that a ticket
--- that is over is in no later answer (Gone.antt).
+-- What a kind of scheduler owes of each single call. From this alone follow the guarantees of whole lists (Proof.antt), and that a ticket that is
+-- over is in no later answer (Gone.antt).
 -- Assumes nothing.
 use mathlib.Core.Path.{_≡_}
 use mathlib.Core.Bool.{Bool, true, false}
@@ -160,15 +160,15 @@ pub record Lawful (k : Kind) (R : Rules) (Valid : Model → Type 0) (OnCourse : 
   pub keeps : (b : ℕ) → Keeps R Valid (by b) (For OnCourse b)
   pub joins : (m : Model) (c : Call) (o : Newcomer) → Valid m → In o (said R m c .came)
       → let d = deadline k (o .promise) (boundAt m) in Kept (by d) (For OnCourse d) (o .ticket) (said R m c) (R m c .model)
-  -- whoever starts waited or comes, and is not withdrawn; whoever is withdrawn waited
+  -- a job that starts waited before or comes by the call, and is not withdrawn; a job that is withdrawn waited before
   pub starts : (m : Model) (c : Call) (t : ℕ) → Valid m → elem t (said R m c .started) ≡ true
       → (elem t (said R m c .withdrew) ≡ false) × (Queued m t ⊎ Comes (said R m c) t)
   pub withdraws : (m : Model) (c : Call) (t : ℕ) → Valid m → elem t (said R m c .withdrew) ≡ true → Queued m t
-  -- whoever is amended waited
+  -- a job that is amended waited before
   pub amends : (m : Model) (c : Call) (t : ℕ) → Valid m → elem t (map amendedTicket (said R m c .amended)) ≡ true → Queued m t
   -- a ticket given is not that of the head
   pub fresh : (m : Model) (c : Call) (o : Newcomer) → Valid m → In o (said R m c .came) → lowestWaiting m ≡ some (o .ticket) → ⊥
-  -- a forecast is kept, and on the Loose Desk whoever is head and was not before hears one
+  -- a forecast is kept, and on the Loose Desk a head that was not head before hears one
   pub forecasts : (m : Model) (c : Call) (f : Forecast) → Valid m → said R m c .head ≡ some f → OnCourse (R m c .model) (f .ticket) (f .minute)
   pub hears : k ≡ Easy → (m : Model) (c : Call) (h : ℕ) → Valid m → lowestWaiting (R m c .model) ≡ some h → (lowestWaiting m ≡ some h → ⊥)
       → (f : Forecast) × (said R m c .head ≡ some f) × (f .ticket ≡ h)
@@ -180,12 +180,12 @@ pub record Ticketed (R : Rules) (Valid : Model → Type 0) (OnCourse : Model →
   -- tickets are given upward by one
   pub next : (m : Model) (c : Call) → Valid m → R m c .model .next ≡ nextAfter (said R m c .came) (m .next)
   pub gives : (m : Model) (c : Call) (o : Newcomer) → Valid m → In o (said R m c .came) → o .ticket ≡ m .next
-  -- whose run ends ran, for its least or longer; and who is on course waits
+  -- a job whose run ends was running, and had run for at least its least; and a job on course waits
   pub ends : (m : Model) (c : Call) (t : ℕ) → Valid m → elem t (said R m c .ended) ≡ true → Ran m (clockAfter (said R m c) (m .clock)) t
   pub waits : (m : Model) (t b : ℕ) → OnCourse m t b → Queued m t
 
--- what it owes of every valid model that a list of calls may start from: who waits is on course for its promise or its bound, and for the
--- forecast that it has; the head has one
+-- what it owes of every valid model that a list of calls may start from: each waiting job is on course for its promise or its bound, and for its
+-- forecast if it has one; the head has one
 pub record Seeded (k : Kind) (Valid : Model → Type 0) (OnCourse : Model → ℕ → ℕ → Type 0) : Type 0 where
   pub waiting : (m : Model) (j : Job) → Valid m → In j (m .jobs) → isWaiting j ≡ true
       → OnCourse m (j .ticket) (deadline k (j .promise) (boundOf (m .settings) j))
@@ -193,8 +193,8 @@ pub record Seeded (k : Kind) (Valid : Model → Type 0) (OnCourse : Model → �
   pub forecasts : (m : Model) (j : Job) → Valid m → In j (m .jobs) → isWaiting j ≡ true → 1 ≤ j .forecast → OnCourse m (j .ticket) (j .forecast)
   pub heads : k ≡ Easy → (m : Model) (j : Job) → Valid m → In j (m .jobs) → isWaiting j ≡ true → lowestWaiting m ≡ some (j .ticket) → 1 ≤ j .forecast
 
--- what EASY owes of its records (document 02, No. 11): who is live after a call was live before, with the same bound, or comes by it, with the bound
--- that its submission fixes
+-- what EASY owes of its records (document 02, No. 11): each job that is live after a call was live before, with the same bound, or comes by the
+-- call, with the bound that its submission fixes
 pub record Recorded (R : Rules) (Valid : Model → Type 0) : Type 0 where
   pub records : (m : Model) (c : Call) (k : Job) → Valid m → In k (R m c .model .jobs)
       → ((j : Job) × In j (m .jobs) × (j .ticket ≡ k .ticket) × (boundOf (m .settings) k ≡ boundOf (m .settings) j))

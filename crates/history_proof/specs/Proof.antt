@@ -1,6 +1,6 @@
--- From what a kind of scheduler owes of each single call to the guarantees of every list of calls.
--- A book agrees with a model: it has the model's clock and live jobs and no strays, and every job in it has met, or is on course to meet,
--- its deadline and its forecast, or was withdrawn before them. Every call keeps that.
+-- From what a kind of scheduler owes of each single call to the guarantees of every list of calls. A book agrees with a model: it has the model's
+-- clock and live jobs and no strays. Every job in it has met its deadline and its forecast, or is on course to meet them, or was withdrawn before
+-- them. Every call keeps that agreement.
 -- Assumes nothing.
 use mathlib.Core.Path.{_≡_, refl, sym, ap, subst, _∙_}
 use mathlib.Core.Bool.{Bool, true, false, not, _&&_, _||_, cond}
@@ -101,8 +101,8 @@ given-is (some F) t d e = case (eqb (F .ticket) t) (λ q. (F, refl, eqb-true (F 
 given-told : (h : Option Forecast) (F : Forecast) (t : ℕ) → h ≡ some F → F .ticket ≡ t → given h t ≡ some (F .minute)
 given-told h F t e q = rw (e, eq-eqb (F .ticket) t q)
 
--- what each call keeps of the start of a job that waits, it keeps of every job; and a call that withdraws passes no minute, so that a job
--- withdrawn might still wait in the minute after it
+-- what each call keeps of the start of a waiting job, it keeps of every job's start. A call that withdraws passes no minute, so that the withdrawn
+-- job might still wait in the minute after the call
 module _ (R : Rules) (Valid : Model → Type 0) (a : Aim) (Course : Model → ℕ → Type 0)
     (C : (m : Model) (c : Call) → Valid m → R m c .model .clock ≡ clockAfter (said R m c) (m .clock)) (m : Model) (c : Call) (v : Valid m) where
   over-kept : (p t now s n : ℕ) → a .mayStart s → Meets a Course (R m c .model) t (over p now s n)
@@ -189,7 +189,7 @@ module _ {k : Kind} {R : Rules} {Valid : Model → Type 0} {OnCourse : Model →
         ∙ length-map (keep jobs.isWaiting (m .jobs)) ticketOf in
         rw (u-is, a .clock-is, q)
 
-    -- an entry before the heads are told: one of the book before, or a newcomer
+    -- an entry before heads hear their forecasts: one of the book before, or a newcomer
     pub data Came : Entry → Type 0 where
       old : (x : Entry) → In x (b .entries) → Came x
       new : (o : Newcomer) → In o (r .came) → Came (entry u b o)
@@ -215,7 +215,7 @@ module _ {k : Kind} {R : Rules} {Valid : Model → Type 0} {OnCourse : Model →
         from x e o (same q t) = subst P (sym (e ∙ q)) (f x o t)
         from x e o (first-time q w h n) = subst P (sym (e ∙ q)) (g x o w h n)
 
-    -- who met a deadline, or was on course for it, does so after the call
+    -- a job that met a deadline, or was on course for it, does so after the call too
     on-time : (t d : ℕ) (f : Fate) → OnTime OnCourse m t f d → OnTime OnCourse m′ t (fateAfter p c′ r t f) d
     on-time t d f o =
         subst (λ (x : ℕ). OnTime OnCourse m′ t (fateAfter p x r t f) d) clock-after

@@ -26,7 +26,7 @@ use Rattle.history_proof.specs.Proof.{Agrees, InStep, Came, old, new, ea
 use Rattle.history_proof.specs.Beginnings as beginnings
 use Rattle.history_proof.specs.Beginnings.{beginning-agrees}
 
--- whoever waits by the book has in it the bound that its record has
+-- a job that waits by the book has in it the bound that its record has
 abbrev pub AsRecorded : Model → Book → Type 0
 AsRecorded m b =
     (x : Entry) (k : Job) → In x (b .entries) → isWaiting x ≡ true → In k (m .jobs) → x .ticket ≡ k .ticket → x .bound ≡ some (boundOf (m .settings) k)

@@ -1,4 +1,4 @@
-// What a program is given to read: an input whole, in a buffer that is lent, and the files that its arguments name.
+// What a program is given to read: a whole input, read into a buffer that is lent, and the files that its arguments name.
 ghost use Prim.Native.Nat.{_≤_};
 ghost use lib.ListN.{length};
 ghost use Rattle.io.specs.Counts.{Counts};
@@ -43,8 +43,8 @@ pub fn read_whole(from: i32, space: &mut [u8]) -> Input
     }
 }
 
-// The file that an argument names, opened, and its name on a line of standard output. One that cannot be opened is named on standard error,
-// and its descriptor is negative.
+// Opens the file that an argument names, and writes its name on a line of standard output. If it cannot be opened, its name goes to standard error
+// and the descriptor is negative.
 pub fn open_named(argument: usize) -> i32 {
     let mut path = io::buffer();
     let n = os::arg(argument, &mut path);

@@ -28,7 +28,7 @@ pub record Removed : Type 0 where
   pub tickets : Tickets
   pub scheduler : Scheduler
 
--- "The place of a finished stack is used again": those that remain move up, and the slots after them are unused
+-- "The place of a finished stack is used again": the jobs that remain move up, and the slots after them are unused
 unfoldable pub removed : Scheduler → (now : ℕ) → Select → Removed
 removed d now s = record {
   tickets = tickets (endedOf s (d .jobs));

@@ -1,5 +1,5 @@
--- Jobs leave, or are in cleanup: one by its slot, at an early completion or a withdrawal, which picks no other since tickets ascend; or those
--- whose runs end and those that are released, at a tick.
+-- Jobs leave, or are in cleanup. At an early completion or a withdrawal one job does, found by its slot; the test picks no other, since tickets
+-- ascend. At a tick those do whose runs end or whose nodes are released.
 -- Assumes nothing.
 use Prim.Native.Nat.{ℕ, zero, suc, _+_, _-_, _≤_, _<_}
 use native.Mathlib.Omega.{arith}
@@ -89,7 +89,7 @@ abbrev goes : Departure → Settings → Bool
 goes Complete S = eqb (cleanup S) 0
 goes Cancel S = true
 
--- if not, its run ends, and it is in cleanup
+-- otherwise its run ends, and it is in cleanup
 stays-ends : (h : Departure) (S : Settings) → goes h S ≡ false → ends? h ≡ true
 stays-ends Complete S g = refl
 stays-ends Cancel S g = true-false true refl g
@@ -356,7 +356,7 @@ module _ (d : Scheduler) (h : Departure) (t : ℕ) (v : Holds Sound d) where
     abbrev soon? : Bool
     soon? = tooEarly (d .clock) h (getD (d .jobs) i unused)
 
-    -- whether it is too early for the one of this ticket
+    -- whether it is too early to end the job with this ticket
     early-is : any (departsEarly (d .clock) h t) (view d .jobs) ≡ soon?
     early-is = alone-here .soon ∙ ap (tooEarly (d .clock) h) (sym same-slot)
 

@@ -33,7 +33,7 @@ pub record Own : Type 0 where
   pub refusal : Refusal
   pub ticket : ℕ
   pub ended : List ℕ
-  -- who was withdrawn, 0 if nobody was
+  -- the ticket that was withdrawn, 0 if none was
   pub withdrawn : ℕ
   pub model : Model
 

@@ -31,7 +31,7 @@ use Rattle.jobs.specs.Premise.{Holds}
 use Rattle.jobs.specs.Slots.{first-live}
 use Rattle.job_table.specs.Parts.{refusalBy}
 
--- the kind's own tests decide where the six that both share refuse nothing
+-- the kind's own tests decide if the six shared tests refuse nothing
 pub tests-more : (S : Settings) (live next : ℕ) (o : Submission) (more : List (Bool × Refusal))
     → verdict (testsBy S live next o more) ≡ cond (accepts (refusalBy S live next o)) (verdict more) (refusalBy S live next o)
 unfolding verdict refusalBy
@@ -45,7 +45,7 @@ tests-more S live next o more =
 
 -- ## A lack of places
 
--- so many jobs fill the places just where the tenant's own live ones do
+-- this many jobs fill the places exactly if the tenant's own live jobs do
 abbrev pub Tells : (places mine live : ℕ) → Type 0
 Tells places mine live = leb places live ≡ leb places mine
 
@@ -60,7 +60,7 @@ module _ (d : Scheduler) (h : Holds Sound d) (t : Tenant) (places live : ℕ) (e
       ∙ ap (λ (js : List Job). leb places (length (keep (ofTenant t) js))) (first-live d h)
       ∙ ap (leb places) (length-keep (ofTenant t) (view d .jobs))
 
-  -- none need be counted where all jobs together are fewer than its places
+  -- no job need be counted if all jobs together are fewer than its places
   pub uncounted : live < places → Tells places mine 0
   uncounted l =
       lt-leb places 0 (omega arith)

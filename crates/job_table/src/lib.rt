@@ -1,6 +1,6 @@
-// The job table: the parts of calls that both kinds share, each done in place. A job leaves on request; runs end, and jobs leave or are in
-// cleanup from then on; the first unused slot is found for a job that comes in; those that wait are counted; and what these calls are refused
-// for, by numbers.
+// The job table: the parts of calls that both kinds share, each done in place. A job leaves on request. Runs end, and jobs leave or are in cleanup
+// from then on. It finds the first unused slot for a job that comes in, counts the jobs that wait, and gives the refusals of these calls by
+// numbers.
 use scheduler::Departure;
 use scheduler::Job;
 use scheduler::Refusal;
@@ -28,8 +28,8 @@ ghost use Rattle.job_table.specs.Submitting.{Tells};
 // The last slot.
 const LAST: usize = Scheduler::LIVE - 1;
 
-// What a call has done on the table: why it is refused, the ticket that it gives, those that it ends, the one that it withdraws (0 if none),
-// and the scheduler.
+// What a call has done on the table: why it is refused, the ticket that it gives, the tickets that it ends, the ticket that it withdraws (0 if
+// none), and the scheduler.
 pub struct Part {
     pub refusal: Refusal,
     pub ticket: u32,
@@ -38,7 +38,7 @@ pub struct Part {
     pub scheduler: Scheduler,
 }
 
-// The first unused slot, found by halves: as many jobs are live.
+// The first unused slot, found by halving; it is also the number of live jobs.
 pub fn first_unused(d: Scheduler) -> usize
     requires { ⌜ Holds Sound d ⌝ }
     ensures { λ r. ⌜ r ≡ length (view d .jobs) ⌝ }
@@ -57,7 +57,8 @@ pub fn first_unused(d: Scheduler) -> usize
     low
 }
 
-// How many jobs wait. (A loop over all 64 slots has a fixed length: the compiler unrolls it, and then moves schedulers field by field.)
+// How many jobs wait. (The loop does not go over all 64 slots: the compiler would unroll a loop of fixed length, and then move schedulers field by
+// field.)
 pub fn waiting(d: Scheduler) -> usize
     requires { ⌜ Holds Sound d ⌝ }
     ensures { λ r. ⌜ r ≡ length (keep isWaiting (view d .jobs)) ⌝ }
@@ -93,7 +94,7 @@ fn of_tenant(d: Scheduler, live: usize, tenant: Tenant) -> usize
     n
 }
 
-// The tenant's live jobs, by which its lack of places is judged: none need be counted where all live jobs are fewer than its places.
+// The tenant's live jobs, by which a lack of places is judged. They need not be counted if all live jobs together are fewer than its places.
 pub fn live_of(d: Scheduler, live: usize, tenant: Tenant, places: u32) -> usize
     requires { ⌜ Holds Sound d × (live ≡ length (view d .jobs)) ⌝ }
     ensures { λ r. ⌜ Tells places (liveOf tenant (view d .jobs)) r ⌝ }
@@ -104,7 +105,7 @@ pub fn live_of(d: Scheduler, live: usize, tenant: Tenant, places: u32) -> usize
     of_tenant(d, live, tenant)
 }
 
-// What a submission is refused for, whatever the kind, in this order: 14, 1, 2, 19, 15, 5. Its tenant has so many live jobs.
+// Why a submission is refused, whatever the kind, in this order: 14, 1, 2, 19, 15, 5. `live` is the number of its tenant's live jobs.
 pub fn submit_refusal(s: Submission, settings: Settings, live: usize, next: u32) -> Refusal
     ensures { λ r. ⌜ r ≡ refusalBy settings live next s ⌝ }
 {
@@ -161,7 +162,7 @@ fn ends_if(how: Departure, found: bool) -> bool
     false
 }
 
-// Whether the job found is in cleanup then.
+// Whether the job found is in cleanup after that.
 fn cleans_if(how: Departure, found: bool, settings: Settings) -> bool
     ensures { λ r. ⌜ r ≡ cleansIf how found settings ⌝ }
 {
@@ -184,7 +185,7 @@ fn withdrawn_if(how: Departure, found: bool, ticket: u32) -> u32
     0
 }
 
-// An early completion or a withdrawal: the job leaves its slot, and those after it move up; or it stays there in cleanup.
+// An early completion or a withdrawal. The job leaves its slot, and those after it move up; or it stays there in cleanup.
 pub fn leave(d: Scheduler, how: Departure, ticket: u32) -> Part
     requires { ⌜ Holds Sound d ⌝ }
     ensures { λ r. ⌜ r ≡ part (departing (view d) how ticket) ⌝ }
@@ -254,7 +255,7 @@ enum Due {
     Leaves,
 }
 
-// Whether its run ends in this minute, or its nodes are free again. (The wall time is worked out only from the estimate's end on.)
+// Whether its run ends in this minute, or its nodes are free again. (The wall time is worked out only once the estimate is over.)
 fn due_at(job: Job, settings: Settings, minute: u32) -> Due
     requires { ⌜ Low job × Orderly settings job ⌝ }
     ensures { λ r. ⌜ r ≡ dueBy settings minute job ⌝ }
@@ -281,7 +282,7 @@ fn due_at(job: Job, settings: Settings, minute: u32) -> Due
     }
 }
 
-// A tick: whose runs end leave, or are in cleanup from then on; those whose nodes are free again leave. Past the last minute nobody does
+// A tick. Jobs whose runs end leave, or are in cleanup from then on; jobs whose nodes are free again leave. Past the last minute nothing does
 // either, so that a refused tick changes nothing.
 pub fn expire(d: Scheduler) -> Part
     requires { ⌜ Holds Sound d ⌝ }
@@ -314,7 +315,7 @@ pub fn expire(d: Scheduler) -> Part
             }
             Due::Leaves => {}
             Due::Stays => {
-                // Read once more: compiled code then moves it whole.
+                // Read again, so that compiled code moves it whole.
                 let stays = e.jobs[i];
                 e.jobs[kept] = stays;
                 kept += 1;

@@ -1,5 +1,5 @@
--- Corrected orders in place (document 02, No. 13): what their tests leave, and that the job that one names waits on with no more nodes and for no
--- longer, while all else is as it was.
+-- Corrected orders in place (document 02, No. 13). The job that an order names waits on, with no more nodes and for no longer, and all else is as
+-- it was. Also what the tests of an order leave.
 -- Assumes nothing.
 use Prim.Native.Nat.{ℕ, _≤_}
 use native.Mathlib.Omega.{arith}

@@ -1,4 +1,4 @@
--- A job leaves on request, early or withdrawn: it is the only one of its ticket. Whose run ends ran.
+-- A job leaves on request, early or withdrawn: it is the only one with its ticket. A job whose run ends was running.
 -- Assumes nothing.
 use mathlib.Core.Path.{_≡_, refl}
 use mathlib.Core.Bool.{true, false, not, cond}

@@ -1,5 +1,5 @@
--- Document 02, No. 3: "0 if left out; all former examples then hold". With a cleanup of 0 no job is ever in cleanup, and what the definitions
--- of both kinds read is what they read before: a job holds its nodes while it runs and no longer, and whose run ends leaves.
+-- Document 02, No. 3: "0 if left out; all former examples then hold". With a cleanup of 0 no job is ever in cleanup, and the definitions of both
+-- kinds read what they read before: a job holds its nodes while it runs and no longer, and leaves when its run ends.
 -- Assumes nothing.
 use Prim.Native.Nat.{ℕ, _+_}
 use native.Mathlib.Omega.{arith}

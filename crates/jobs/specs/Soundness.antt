@@ -58,7 +58,7 @@ pub record SoundJob (S : Settings) (clock : ℕ) (j : Job) : Type 0 where
   -- "Each record carries its house"
   pub tenant-is : known (j .tenant) ≡ true
 
--- who holds nodes runs or is in cleanup, and nobody does two of these
+-- a job that holds nodes runs or is in cleanup, and no job does two of these
 pub running-holds : (s : State) → running? s ≡ true → holding? s ≡ true
 running-holds Unused h = h
 running-holds Waiting h = h
@@ -369,7 +369,7 @@ releases-cleaned select.Waiting j e = true-false false e refl
 releases-cleaned (select.Departing h t) j e = true-false false e refl
 releases-cleaned (select.EndingAt S t) j e = both (isCleaning j) (eqb (until S j) t) e .0
 
--- who stays: is not withdrawn, is not released, and if its run ends then nodes are cleared
+-- who stays: a job that is not withdrawn and not released; and if its run ends, there is a cleanup
 pub stays : (S : Settings) (s : Select) (j : Job) → leaves S s j ≡ false
     → (withdraws s j ≡ false) × (releases s j ≡ false) × (ends s j ≡ true → 1 ≤ cleanup S)
 stays S s j e =
@@ -407,7 +407,7 @@ module _ (m : Model) (c : ℕ) (s : Select) (l : Leaving m c s) (j : Job) (f : S
       go (early h t) e = held-now
       go (in-time h) e = omega (arith, eqb-false (until (m .settings) j) (suc (m .clock)) (rw r at e), held-now)
 
--- who stays has its ticket still, and holds the nodes that it held
+-- a job that stays still has its ticket, and holds the nodes that it held
 pub ceased-ticket : (now : ℕ) (s : Select) (j : Job) → ceased now s j .ticket ≡ j .ticket
 ceased-ticket now s j = case (ends s j) (λ e. rw e) (λ e. rw e)
 

@@ -1,4 +1,4 @@
--- The points of a model and their index, kept in lists beside it: of a conservative one. EASY keeps none.
+-- The points of a conservative model and their index, kept in lists beside it. EASY keeps none.
 -- Assumes nothing.
 use Prim.Native.Nat.{ℕ, _+_, _≤_}
 use native.Mathlib.Omega.{arith}

@@ -1,5 +1,5 @@
-// The calls on a scheduler of either kind, by value, where the points of a conservative one and their index are kept from call to call in lists
-// that are lent: for programs that play many calls. EASY keeps none.
+// The calls on a scheduler of either kind, by value, for programs that make many calls. The points of a conservative scheduler and their index are
+// kept from call to call in lists that are lent. EASY keeps none.
 ghost use mathlib.Core.Path.{_≡_};
 ghost use lib.ListN.{length};
 ghost use Rattle.scheduler.specs.Model.{view};
@@ -34,7 +34,7 @@ pub fn begin(
     }
 }
 
-// The clock has passed over minutes in which nothing else changes: so has that of the points.
+// The clock has passed over minutes in which nothing else changes. The clock of the points follows.
 pub fn pass_over(
     kind: Kind,
     clock: u32,
@@ -55,7 +55,7 @@ pub fn pass_over(
     }
 }
 
-// What is asked, by the kind's rules.
+// The call that the request asks for, by the kind's rules.
 pub fn call(
     d: Scheduler,
     request: Request,

@@ -20,8 +20,8 @@ use Rattle.guarantees.specs.Chain.{gives}
 use Rattle.amend_laws.specs.Sentences.{refused-amendment, amended-premise}
 use Rattle.calls.specs.AmendCall.{amends}
 
--- of a call that by value gives the outcome o: the answer a, and the scheduler e that stands where d was lent, are those of o; and e is as d was
--- where the call is refused
+-- for a call that by value gives the outcome o: the answer a, and the scheduler e that stands where d was lent, are those of o; and e is d if the
+-- call is refused
 pub record LeavesOf (d : Scheduler) (o : Outcome) (a : Answer) (e : Scheduler) : Type 0 where
   pub answers : a ≡ o .answer
   pub leaves : e ≡ o .scheduler

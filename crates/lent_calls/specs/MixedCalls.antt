@@ -51,7 +51,7 @@ use Rattle.lent_calls.specs.CallContract.{Leaves, LeavesAmended}
 use Rattle.lent_calls.specs.ProfileContract.{ShowsPoints}
 use Rattle.lent_calls.specs.IndexContract.{ShowsBlocks}
 
--- a call on d as its contract says that it was made, by value or on what is lent: what it answers, and the scheduler after it
+-- a call on d, made as its contract says, by value or on what is lent: what it answers, and the scheduler after it
 pub data Made (d : Scheduler) : Call → Answer → Scheduler → Type 0 where
   byValue : {c : Call} {o : Outcome} → o ≡ gives d c → Made d c (o .answer) (o .scheduler)
   onLent : {c : Call} {a : Answer} {e : Scheduler} → Leaves d c a e → Made d c a e
@@ -70,10 +70,10 @@ pub data Made (d : Scheduler) : Call → Answer → Scheduler → Type 0 where
   -- and a call for a text, by value or on what is lent: the status page (`ShowsPage`), the lines (`ShowsText`) or why jobs wait (`ShowsWhy` in `calls/specs/TextCall.antt`)
   textShown : {text : Model → List ℕ} {lent after : List ℕ} {s : Shown} → Shows text d lent s after
       → Made d (unchanged (s .refusal)) (refusedAnswer (s .refusal)) d
-  -- and a wait which is refused; one that is not is as many ticks
+  -- and a wait that is refused; one that is not refused is as many ticks
   waitRefused : {r : Refusal} (minutes : ℕ) → r ≡ waitRefusal (view d) minutes → accepts r ≡ false → Made d (unchanged r) (refusedAnswer r) d
 
--- where d is a valid model, stored: what each leaves and answers is that of its definition
+-- where d is a valid model, stored: each call leaves and answers what its definition gives
 module _ (m : Model) (v : Valid m) where
   unchanged-is : (r : Refusal) → (store m ≡ store (call m (unchanged r) .model)) × (refusedAnswer r ≡ answer (call m (unchanged r) .reply))
   unchanged-is r = rw (unchanged-refuses m r) (refl, refl)

@@ -1,4 +1,4 @@
--- What a reading of lines answers, and leaves where a scheduler was lent to it. That may have held anything before.
+-- What a reading of lines answers, and what it leaves where a scheduler was lent to it. The lent place may have held anything before.
 -- Assumes nothing.
 use mathlib.Core.Path.{_≡_, ap}
 use mathlib.Core.List.{List}
@@ -10,7 +10,7 @@ use Rattle.guarantees.specs.Premise.{Premise}
 use Rattle.restoring.specs.Restoring.{restoring}
 use Rattle.calls.specs.RestoreCall.{restored-held}
 
--- the refusal r, and the scheduler e that stands there: those of the reading by value, of a refused one too
+-- the refusal r, and the scheduler e that stands there: those of the reading by value, refused or not
 pub record Restores (t : List ℕ) (r : Refusal) (e : Scheduler) : Type 0 where
   pub answers : r ≡ restoring t .refusal
   pub leaves : e ≡ restoring t .scheduler

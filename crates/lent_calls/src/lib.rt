@@ -1,5 +1,5 @@
-// The calls on a scheduler that is lent (document 01: "A rack lends its desk to each call and finds it changed there afterwards"): each
-// is its call by value, and what that hands back is left where the scheduler was lent.
+// The calls on a scheduler that is lent (document 01: "A rack lends its desk to each call and finds it changed there afterwards"). Each makes its
+// call by value, and leaves what that hands back where the scheduler was lent.
 ghost use mathlib.Core.Path.{_≡_};
 ghost use Rattle.scheduler.specs.Model.{view};
 ghost use Rattle.history.specs.Calls as calls;
@@ -86,7 +86,7 @@ pub fn longest_estimate(d: &Scheduler, q: Inquiry) -> Longest
     calls::longest_estimate(*d, q)
 }
 
-// The free nodes from now on, into the list lent. A profile leaves the scheduler as it is, so that `&` serves.
+// The free nodes from now on, into the list lent. A profile leaves the scheduler as it is, so that lending by `&` is enough.
 pub fn profile(d: &Scheduler, points: &mut [Point]) -> Shown
     requires { ⌜ Premise (now d) ⌝ }
     ensures { λ r. ⌜ ShowsPoints (now (d .entry)) (now (points .entry)) r (now (points .exit)) ⌝ }
@@ -138,7 +138,7 @@ pub fn why(d: &Scheduler, text: &mut [u8]) -> Shown
     calls::why(*d, text)
 }
 
-// A scheduler read back from its lines, left where one was lent. That one is not read, and may be anything.
+// A scheduler read back from its lines, left where one was lent. The lent place is not read, and may hold anything.
 pub fn restore(d: &mut Scheduler, text: &[u8]) -> Refusal
     ensures { λ r. ⌜ Restores (now (text .entry)) r (now (d .exit)) ⌝ }
 {

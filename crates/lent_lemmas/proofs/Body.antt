@@ -29,7 +29,7 @@ use denote.Triple.Table.{entered, cited}
 use denote.Triple.Walked.{Stays, AllGo, Walks, walk-meets}
 use Rattle.lent_lemmas.proofs.Thin.{Flat, rowOf, FlatLaws}
 
--- what a machine value stands for is told by the value that it has
+-- the value that a machine value has says what it stands for
 pub valued : (N : Flat) → FlatLaws N → (r : N .Denot) (v : Val) → Is (rowOf N) r (v ∷ []) → Is (rowOf N) r (N .val r ∷ [])
 valued N LN r v is = subst (Is (rowOf N) r) (LN .tells r _ is) is
 

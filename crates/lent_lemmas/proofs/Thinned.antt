@@ -1,5 +1,5 @@
--- A thin call with any list of parameters beside the desk, but for the walk through its body (`Walked`): its MIR, its contract and its
--- callee's, what goes to the callee and what is told by it, what is had at the exit, and its theorem. Assumes nothing.
+-- A thin call with any list of parameters beside the desk, but for the walk through its body (`Walked`): its MIR, its contract and its callee's,
+-- what goes to the callee and what comes back from it, what is owned at the exit, and its theorem. Assumes nothing.
 use mathlib.Core.Path.{refl}
 use Prim.Native.Nat.{ℕ, suc}
 use mathlib.Core.List.{[], _∷_, List}

@@ -1,5 +1,5 @@
-// Calls over what is lent, on both kinds of scheduler: what each answers, refusals too, and what stands in a list lent for the profile or the index,
-// or in bytes lent for the status page or the lines. The lines are read back, and calls go on from there.
+// Calls over what is lent, on both kinds of scheduler. It prints what each call answers, refusals too. It prints what stands in a list lent for the
+// profile or the index, and in bytes lent for the status page or the lines. The lines are read back, and calls go on from there.
 ghost use Prim.Native.Nat.{_≤_};
 ghost use lib.ListN.{length};
 ghost use Rattle.jobs.specs.Soundness.{Sound};
@@ -29,7 +29,7 @@ use scheduler::Tickets;
 use spans::Block;
 use spans::Point;
 
-// A program makes no reference to a struct by itself: these lend a scheduler, or a list, of their own.
+// A program makes no reference to a struct by itself. These functions lend a scheduler, or a list, of their own.
 fn lent_submit(d: Scheduler, s: Submission) -> Outcome
     requires { ⌜ Premise d ⌝ }
     ensures { λ r. ⌜ Leaves d (calls.submit s) (r .answer) (r .scheduler) ⌝ }
@@ -396,7 +396,8 @@ fn count_of(page: &[u8], byte: u8) -> usize {
     n
 }
 
-// The refusal and the count of a call for a text, and of the bytes then there how many are as they were, line ends and such bytes.
+// The refusal and the count of a call for a text. Then, of the bytes lent, how many are as they were, how many are line ends, and how many are
+// `byte`.
 fn print_bytes(shown: Shown, bytes: &[u8], byte: u8) {
     print_shown(shown);
     print_count(count_of(bytes, b'x'));
@@ -431,7 +432,7 @@ fn status_page(d: Scheduler)
     print_front(&longer, 438);
 }
 
-// The lines, into the first bytes of so many.
+// The lines, into the first `size` bytes.
 fn text_into_part(d: Scheduler, bytes: &mut [u8], size: usize) -> Shown
     requires { ⌜ (Premise d) × (size ≤ length (now bytes)) ⌝ }
 {
@@ -488,7 +489,7 @@ fn reread(d: Scheduler, text: &[u8]) -> Scheduler
     left.scheduler
 }
 
-// The first bytes of so many, read back.
+// The first `size` bytes, read back.
 fn reread_part(d: Scheduler, bytes: &[u8], size: usize) -> Scheduler
     requires { ⌜ Premise d ⌝ }
     ensures { λ r. ⌜ Premise r ⌝ }
@@ -550,7 +551,7 @@ fn checkpoint(d: Scheduler) -> Scheduler
     read_back(d, &mut text, size)
 }
 
-// Why jobs wait, into the first bytes of so many.
+// Why jobs wait, into the first `size` bytes.
 fn why_into_part(d: Scheduler, bytes: &mut [u8], size: usize) -> Shown
     requires { ⌜ (Premise d) × (size ≤ length (now bytes)) ⌝ }
 {
@@ -822,7 +823,7 @@ fn main() {
     earliest(r6, 3);
     let r7 = submit(r6, 1, 20, Tenant::A);
     let r8 = complete(r7, 1);
-    // who is cleared, who runs and who is planned hold nodes
+    // jobs in cleanup, running jobs and planned jobs hold nodes
     why(r7);
     why(r8);
     let r9 = tick(r8);

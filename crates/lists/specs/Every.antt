@@ -1,4 +1,4 @@
--- Tests that every element of a list passes, and tests that are asked of some only.
+-- Tests that every element of a list passes, and tests that are asked of some elements only.
 -- Assumes nothing.
 use mathlib.Core.Path.{_≡_, refl, subst, sym}
 use mathlib.Core.Bool.{Bool, true, false, _&&_}

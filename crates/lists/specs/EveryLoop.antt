@@ -1,4 +1,4 @@
--- Tests that every element of a list passes, in the shape of a loop that goes over it by its index; and a test that is told how many of the list
+-- Tests that every element of a list passes, in the shape of a loop that goes over it by its index; and a test that is given how many elements
 -- stand before the element.
 -- Assumes nothing.
 use Prim.Native.Nat.{ℕ, _+_, _≤_, _<_}
@@ -27,12 +27,12 @@ module _ {A : Type 0} (z : A) (p : A → Bool) (xs : List A) (i : ℕ) where
 
 -- ## With those before it
 
--- do all pass a test that is told how many stand before, counted from k
+-- whether all pass a test that is given how many stand before, counted from k
 abbrev pub everyFrom {ℓ} : {A : Type ℓ} → (ℕ → A → Bool) → ℕ → List A → Bool
 everyFrom p k [] = true
 everyFrom p k (x ∷ xs) = p k x && everyFrom p (k + 1) xs
 
--- a test by another that says the same of each, told k or more
+-- a test by another that says the same of each, given k or more
 pub from-cong : {A : Type 0} (p q : ℕ → A → Bool) (k : ℕ) (xs : List A) → ((n : ℕ) (a : A) → k ≤ n → p n a ≡ q n a) → everyFrom p k xs ≡ everyFrom q k xs
 from-cong p q k [] f = refl
 from-cong p q k (x ∷ xs) f = rw (f k x (omega arith), from-cong p q (k + 1) xs (λ n a l. f n a (omega arith)))

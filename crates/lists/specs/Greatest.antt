@@ -32,7 +32,7 @@ module _ (p : ℕ → Bool) where
       below e (inl q) = q
       below e (inr q) = let z : t ≡ suc k = omega arith in true-false (p t) h (ap p z ∙ e)
 
-  -- nothing else is it
+  -- it is nothing else
   pub greatest-is : (k r : ℕ) → r ≤ k → (1 ≤ r → p r ≡ true) → ((t : ℕ) → p t ≡ true → 1 ≤ t → t ≤ k → t ≤ r) → r ≡ greatest p k
   greatest-is k r a b c = omega (arith, up (le-or 1 r), down (le-or 1 (greatest p k)))
     where

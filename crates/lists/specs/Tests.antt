@@ -21,7 +21,7 @@ true-false false p q = absurd (let z : _≡_ {A = ℕ} 0 1 = cc in omega arith)
 pub le-or : (a b : ℕ) → (a ≤ b) ⊎ (b < a)
 le-or a b = case (leb a b) (λ e. inl (leb-true a b e)) (λ e. inr (leb-false a b e))
 
--- n if the test passes, and 0
+-- n if the test passes, and otherwise 0
 abbrev pub on : Bool → ℕ → ℕ
 on true n = n
 on false n = 0

@@ -80,7 +80,7 @@ module _ (d : Scheduler) (q : Inquiry) (h : Holds Valid d) where
       unfolding scans
       room-most x p b r = g .most x p b (w (scans by a) .most (holdTime S x) r)
 
-      -- an estimate of 1 would be taken just where there is one
+      -- an estimate of 1 would be taken exactly if there is one
       one-taken : 1 ≤ e → taken m q 1
       one-taken p = shorter-taken m q 1 e (omega arith) p (room-taken m q f by e p (g .to) (room-for p) .0) .0
 

@@ -56,7 +56,7 @@ pub record Scans (ms fs : List ℕ) (n nodes by : ℕ) : Type 0 where
   pub enough : nodes ≤ machine
   pub ahead : now ≤ by
 
--- there is room for so many minutes by then, and for no more
+-- there is room for this many minutes by then, and for no more
 pub record Widest {ms fs : List ℕ} {n nodes by : ℕ} (s : Scans ms fs n nodes by) (h : ℕ) : Type 0 where
   pub room : Room (free (s .machine) (s .spans)) (s .now) nodes horizon by h
   pub most : (k : ℕ) → Room (free (s .machine) (s .spans)) (s .now) nodes horizon by k → k ≤ h

@@ -1,5 +1,5 @@
-// How long may a job be and still start by a wanted minute (document 02, No. 9)? Of conservative backfilling alone. Longer estimates never get
-// earlier starts, so it is enough to know for how long at most the nodes are free from a minute on that is not after the wanted one.
+// How long may a job be and still start by a wanted minute (document 02, No. 9)? Only conservative backfilling answers this. Longer estimates never
+// get earlier starts. So the answer follows from the longest free stretch that begins no later than the wanted minute.
 ghost use mathlib.Core.Path.{_≡_};
 ghost use Prim.Native.Nat.{_<_, _≤_};
 ghost use lib.ListN.{length};
@@ -17,7 +17,7 @@ use scheduler::Refusal;
 use scheduler::Scheduler;
 use scheduler::Submission;
 
-// The minute of the point in this place, or after the last one the last minute.
+// The minute of the point in this place; after the last point, the last minute.
 fn edge(minutes: &[u32; 131], i: usize, count: usize) -> u32
     requires { ⌜ (length (now minutes) ≡ rows) × (count ≤ rows) ⌝ }
     ensures { λ r. ⌜ r ≡ edge (now (minutes .entry)) count i ⌝ }
@@ -28,7 +28,7 @@ fn edge(minutes: &[u32; 131], i: usize, count: usize) -> u32
     Scheduler::HORIZON
 }
 
-// The longest free stretch so far, where the nodes are free from one minute to another: one that begins too late does not count.
+// The longest free stretch so far, with one more from one minute to another. A stretch that begins too late does not count.
 fn longer(longest: u32, since: u32, end: u32, by: u32) -> u32
     requires { ⌜ since ≤ end ⌝ }
     ensures { λ r. ⌜ r ≡ longer longest since end by ⌝ }
@@ -42,7 +42,7 @@ fn longer(longest: u32, since: u32, end: u32, by: u32) -> u32
     end - since
 }
 
-// For how long at most the nodes are free without a break from some minute on that is not after `by`, up to the last minute.
+// The longest time, up to the last minute, for which the nodes are free without a break from some minute on that is not after `by`.
 fn widest(minutes: &[u32; 131], free: &[u32; 131], count: usize, nodes: u32, by: u32) -> u32
     requires { ⌜ Scans (now minutes) (now free) count nodes by ⌝ }
     ensures { λ r. ⌜ ((s : Scans (now (minutes .entry)) (now (free .entry)) count nodes by) → Widest s r) ⌝ }
@@ -62,8 +62,8 @@ fn widest(minutes: &[u32; 131], free: &[u32; 131], count: usize, nodes: u32, by:
     longest
 }
 
-// Where the other conditions of a submission are met: the largest estimate for which there is room by the wanted minute. Where there is room
-// for none before the last minute, an estimate of 1 would be refused.
+// The largest estimate for which there is room by the wanted minute, once the other conditions of a submission are met. If there is room for none
+// before the last minute, an estimate of 1 would be refused.
 fn by_room(d: Scheduler, q: Inquiry) -> Longest
     requires { ⌜ Holds Valid d × Fit (view d) (asking q 1) × (view d .clock ≤ q .minute) ⌝ }
     ensures { λ r. ⌜ r ≡ longestEstimate (view d) q ⌝ }
@@ -92,7 +92,7 @@ fn by_room(d: Scheduler, q: Inquiry) -> Longest
     }
 }
 
-// What a submission with an estimate of 1 would be refused for, but for the last minute.
+// Why a submission with an estimate of 1 would be refused, the last minute left aside.
 fn shared_refusal(d: Scheduler, q: Inquiry) -> Refusal
     requires { ⌜ Holds Valid d ⌝ }
     ensures { λ r. ⌜ r ≡ sharedRefusal (view d) (asking q 1) ⌝ }

@@ -1,4 +1,4 @@
--- The slots of those that hold nodes, which are planned as they are: the profile that the change starts from.
+-- The slots of the jobs that hold nodes, which are planned as they are: their profile is the one that the change starts from.
 -- Assumes nothing.
 use mathlib.Core.Path.{_≡_, refl, sym, ap, subst, _∙_}
 use mathlib.Core.Bool.{true, false, cond}

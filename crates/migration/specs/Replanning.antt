@@ -78,7 +78,7 @@ module _ (m : Model) where
     pub profile : IsProfile (S .nodes) (spans P (plan ks i)) now n ms fs
     pub indexed : Indexed fs n lo hi
 
-  -- who holds nodes stays, whoever is planned
+  -- a job that holds nodes stays where it is, whichever jobs are planned
   held-under : (t : ℕ) (done ys : List Job) → used t (spans P (heldSlots ys)) ≤ used t (spans P (replanned T done ys))
   unfolding replanned
   held-under t done [] = omega arith

@@ -12,7 +12,7 @@ use scheduler::Kind;
 use scheduler::Scheduler;
 use scheduler::Settings;
 
-// What the opening fixed, but for the rules.
+// What the opening fixed, except the rules.
 fn promise_settings(settings: Settings) -> Settings
     ensures { λ r. ⌜ r ≡ promiseSettings settings ⌝ }
 {
@@ -73,8 +73,8 @@ fn tabulate_holders(d: Scheduler, minutes: &mut [u32; 131], free: &mut [u32; 131
     count
 }
 
-// Jobs that hold nodes keep their starts, which become their promises. Each waiting job, in ticket order, is planned at the earliest start
-// beside these and those planned before it, which is its promise.
+// Jobs that hold nodes keep their starts, which become their promises. Each waiting job, in ticket order, is planned at its earliest start beside
+// these jobs and those planned before it. That start is its promise.
 pub fn migrate(d: Scheduler) -> Scheduler
     requires { ⌜ Holds Valid d ⌝ }
     ensures { λ r. ⌜ r ≡ store (migrated (view d)) ⌝ }

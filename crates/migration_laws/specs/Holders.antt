@@ -1,4 +1,4 @@
--- The change: the settings' other numbers stay, and among those that hold nodes alone a job is planned for its shadow.
+-- The change: the other settings stay, and among the jobs that hold nodes alone a job is planned for its shadow.
 -- Assumes nothing.
 use Prim.Native.Nat.{ℕ, _+_, _≤_}
 use native.Mathlib.Omega.{arith}

@@ -179,7 +179,7 @@ module _ (m : Model) (v : Valid m) where
 
   -- ## For the reader
 
-  -- "Running and clearing stacks keep starts, now their promises, and ends", and all else
+  -- "Running and clearing stacks keep starts, now their promises, and ends", and everything else
   pub migrated-keeps : (j : Job) → In j (m .jobs) → isHolding j ≡ true → In (kept j) (migrated m .jobs)
   unfolding migrated
   migrated-keeps j i h = go (zip-left To (m .jobs) (after m v) (changed-all m v) i)
@@ -245,7 +245,7 @@ module _ (m : Model) (v : Valid m) where
   pub promised-in-bound : (j : Job) (i : In j (m .jobs)) (w : isWaiting j ≡ true) → migrated-promised j i w .0 .promise ≤ boundOf S j
   promised-in-bound j i w = migrated-promised j i w .1 .within (boundOf S j) (v .ready .room j i w .0)
 
-  -- "The head's promise is no later than its forecast", by its record: nobody else who waits has one
+  -- "The head's promise is no later than its forecast", by its record: no other waiting job has one
   pub promised-in-forecast : (j : Job) (i : In j (m .jobs)) (w : isWaiting j ≡ true) → 1 ≤ j .forecast → migrated-promised j i w .0 .promise ≤ j .forecast
   promised-in-forecast j i w f = migrated-promised j i w .1 .within (j .forecast) (v .ready .kept j i w f)
 

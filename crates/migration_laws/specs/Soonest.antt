@@ -1,4 +1,4 @@
--- The soonest minute of a waiting job (document 02, No. 7) is after the change what it was before: who holds nodes does so still, and no waiting one
+-- The soonest minute of a waiting job (document 02, No. 7) is the same after the change as before: the same jobs hold nodes, and no waiting job
 -- counts. So "it never starts before that minute whatever follows" goes on over the change.
 -- Assumes nothing.
 use Prim.Native.Nat.{ℕ, _+_, _-_, max}

@@ -16,7 +16,7 @@ use Rattle.history.specs.Calls.{orderOf}
 use Rattle.conservative_rules.specs.Conservative.{planned}
 use Rattle.migration_rules.specs.Migration.{replanned, migrated}
 
--- 5 nodes, cleared for 5 minutes; at minute 15 one job runs on all of them, and three wait
+-- 5 nodes, with 5 minutes of cleanup; at minute 15 one job runs on all of them, and three wait
 abbrev before : List Job → Model
 before js = record {
   settings = record { kind = Easy; nodes = 5; cleanup = 5; «quota_a» = 32; «quota_b» = 32; longest = 10080 };

@@ -13,7 +13,7 @@ use Rattle.scheduler.specs.Jobs.{isWaiting, isHolding, fresh}
 use Rattle.scheduler.specs.Model.{Model, withModelJobs}
 use Rattle.conservative_rules.specs.Conservative.{planned, stateAt}
 
--- all that an opening fixed stays, but for the rules
+-- all that an opening fixed stays, except the rules
 abbrev pub promiseSettings : Settings → Settings
 promiseSettings S = record {
   kind = Conservative;

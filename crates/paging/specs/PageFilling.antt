@@ -104,7 +104,7 @@ module _ {P : Type 0} {L : Player P} {most : ℕ} where
 
 -- ## All the pages
 
--- What goes out where page after page is filled from p on and written up to its end, until it is over.
+-- What is written if page after page is filled from p on and written up to its end, until all is played.
 pub data Pages {P : Type 0} (L : Player P) : P → List ℕ → Type 0 where
   done : {p : P} → L .weight p ≡ 0 → Pages L p []
   next : {p q : P} {page out : List ℕ} {end : ℕ} → Filled L p page end q → Pages L q out → Pages L p (take end page ++ out)

@@ -13,8 +13,8 @@ pub record Piece (P : Type 0) : Type 0 where
 abbrev pub piece : {P : Type 0} → List ℕ → P → Piece P
 piece t p = record { text = t; play = p }
 
--- Of each state of play: the next piece, all that is still to be printed, and how much is still to be played, at most. It goes on while that is
--- above 0. A piece is the next part of what is to be printed, and leaves less to play.
+-- For each state of play: the next piece, all that is still to be printed, and an upper bound on what is still to be played. Play goes on while
+-- that bound is above 0. A piece is the next part of what is to be printed, and leaves less to play.
 pub record Player (P : Type 0) : Type 1 where
   pub next : P → Piece P
   pub left : P → List ℕ
@@ -26,7 +26,7 @@ pub record Player (P : Type 0) : Type 1 where
   pub over-left : (p : P) → weight p ≡ 0 → left p ≡ []
 
 module _ {P : Type 0} (L : Player P) where
-  -- q stands for p: there is as much left to print, and no more to play
+  -- q stands for p: it has as much left to print, and no more to play
   pub record Skips (p q : P) : Type 0 where
     pub left-is : L .left q ≡ L .left p
     pub ready : L .Ready q
@@ -46,7 +46,7 @@ module _ {P : Type 0} (L : Player P) where
 
 -- ## A turn
 
--- The lines of the piece x, at most so many bytes, stand in the page from a place on, and p is where x leaves.
+-- The lines of the piece x, at most this many bytes, stand in the page from a place on, and x leads to p.
 pub record Turned {P : Type 0} (most : ℕ) (x : Piece P) (page : List ℕ) (at : ℕ) (after : List ℕ) (end : ℕ) (p : P) : Type 0 where
   pub play-is : p ≡ x .play
   pub lines : Wrote most page at (x .text) after end

@@ -1,1 +1,1 @@
-// Pages filled with what is played, of any state of play: there is no code here.
+// Pages that are filled with what is played, for any state of play: there is no code here.

@@ -1,4 +1,4 @@
--- The queue of EASY, one waiting job after another: what is asked of each, and that this is what acceptance asks of all together.
+-- The queue of EASY, one waiting job after another: what is asked of each job. Together this is what acceptance asks of all.
 -- Assumes nothing.
 use Prim.Native.Nat.{ℕ, suc, _+_, _-_, _*_, _≤_, _<_}
 use native.Mathlib.Omega.{arith}

@@ -89,14 +89,14 @@ pub record Fitting (d : Scheduler) (held froms untils : List ℕ) (count : ℕ) 
   pub fit : minutesFit (view d) ≡ true
   pub columns : PlanColumns (view d .settings) (running (view d .jobs)) held froms untils count
 
--- the first that waits asks for so many nodes
+-- the first waiting job asks for this many nodes
 pub record HeadAsks (m : Model) (need : ℕ) : Type 0 where
   pub job : Job
   pub later : List Job
   pub first : queue (m .jobs) ≡ job ∷ later
   pub need-is : need ≡ job .nodes
 
--- it has to wait for them until this minute, in which so many are there
+-- it has to wait for them until this minute, in which this many are there
 pub record HeadWaits (m : Model) (need spare minute there : ℕ) : Type 0 where
   pub asks : HeadAsks m need
   pub spare-is : spare ≡ free m

@@ -1,6 +1,6 @@
-// Whether the records of a scheduler that is read back fit together (document 02, No. 11), once each by itself is as it should be. Every minute has
-// nodes enough; on EASY the queue is also at rest, with its head's forecast and all bounds in time. A survey puts the plan into lent lists of
-// numbers, and the tests go over these.
+// Tests whether the records of a scheduler that is read back fit together (document 02, No. 11), once each passes its own tests. Every minute must
+// have enough nodes. On EASY the queue must also be at rest, with its head's forecast and all bounds in time. A survey puts the plan into lent
+// lists of numbers, and the tests go over these.
 ghost use mathlib.Core.Path.{_≡_};
 ghost use mathlib.Core.Bool.{true, _&&_};
 ghost use Prim.Native.Nat.{_-_, max};
@@ -47,8 +47,8 @@ fn free_from(job: Job, settings: Settings) -> u32
     job.start + settings.hold_time(job.estimate as u32)
 }
 
-// Of the jobs that the plan has, in order: their nodes, the minutes from which these are taken, and those from which they are free again.
-// Unused slots may stand between them.
+// Lists the jobs that the plan has, in order: their nodes, the minutes from which these are taken, and those from which they are free again. Unused
+// slots may stand between the jobs.
 pub fn survey(
     d: Scheduler,
     held: &mut [u32; 64],
@@ -159,8 +159,8 @@ fn asked_first(d: Scheduler) -> u32
     0
 }
 
-// Whether a waiting job with so many ahead of it is as it should be, where the head can start in this minute. It keeps its bound. The head's
-// forecast is not before that minute; any other job has no forecast and may not pass the head.
+// Whether a waiting job with this many ahead of it passes, where the head can start in this minute. It must keep its bound. The head's forecast
+// must not be before that minute; any other job must have no forecast and may not pass the head.
 fn rests(
     job: Job,
     ahead: u32,
@@ -196,7 +196,7 @@ fn rests(
     true
 }
 
-// Whether every waiting job is as it should be, where the head can start in this minute.
+// Whether every waiting job passes, where the head can start in this minute.
 fn queue_rests(d: Scheduler, minute: u32, spare: u32, extra: u32) -> bool
     requires { ⌜ QueueTimed d minute ⌝ }
     ensures { λ r. ⌜ r ≡ everyFrom (restsAt (d .settings) spare extra (minute - d .clock) minute) 0 (queue (d .jobs)) ⌝ }
@@ -247,8 +247,8 @@ fn queue_accepted(
     queue_rests(d, minute, spare, extra)
 }
 
-// Of records that are each as they should be: whether every minute fits the machine, and on EASY whether the queue is at rest, with its head's
-// forecast and all bounds in time.
+// Whether every minute fits the machine, and on EASY whether the queue is at rest, with its head's forecast and all bounds in time. Each record has
+// passed its own tests.
 pub fn plan_accepted(d: Scheduler) -> bool
     requires { ⌜ recordsAccepted (view d) ≡ true ⌝ }
     ensures { λ r. ⌜ r ≡ planAccepted (view d) ⌝ }

@@ -1,5 +1,5 @@
-// Minutes in which nothing is due: ticks of them only move the clock, so that they can be passed over. A program that passes over them asks
-// the slots of its scheduler one after another, in place.
+// Minutes in which nothing is due: their ticks only move the clock, so that they can be passed over. A program that passes over them asks the slots
+// of its scheduler one after another, in place.
 ghost use Prim.Native.Nat.{_+_, _≤_};
 ghost use Rattle.scheduler.specs.Limits.{horizon};
 ghost use Rattle.jobs.specs.Slots.{Low, Orderly};
@@ -34,8 +34,8 @@ fn before(minute: u32, clock: u32, last: u32) -> u32
     last
 }
 
-// The last minute, at most `last`, up to which `job` neither starts nor ends nor is released. (Most jobs of a long queue start later than that,
-// and the wall time is worked out only where the estimate is over by then.)
+// The last minute, at most `last`, up to which `job` neither starts nor ends nor is released. (Most jobs of a long queue start later than that. The
+// wall time is worked out only if the estimate is over by then.)
 pub fn quiet_of(job: Job, settings: Settings, clock: u32, last: u32) -> u32
     requires { ⌜ Low job × Orderly settings job × (clock ≤ last) ⌝ }
     ensures { λ r. ⌜ (clock ≤ r) × (r ≤ last) × QuietTo settings clock r job ⌝ }

@@ -1,4 +1,4 @@
--- The tests of the `desk` line, of the slots and of the shares are together what `recordsAccepted` asks.
+-- The tests of the `desk` line, of the slots and of the shares together are what `recordsAccepted` asks.
 -- Assumes nothing.
 use mathlib.Core.Path.{_≡_, refl, sym, ap, _∙_}
 use mathlib.Core.Bool.{Bool, true, false, _&&_, and-true, and-false}

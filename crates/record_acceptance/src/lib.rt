@@ -1,6 +1,6 @@
-// A scheduler that is read back is tested (document 02, No. 11). Here are the tests of the `desk` line's numbers, of the tickets, of the shares
-// and of each record by itself. Any number may stand in a place, so that no sum is made of numbers that may be high: a difference is compared,
-// or the parts are tested first.
+// A scheduler that is read back is tested (document 02, No. 11). Here are the tests of the `desk` line's numbers, of the tickets, of the shares and
+// of each record by itself. Any number may stand in a field, so that no sum is made of numbers that may be high. The code compares a difference, or
+// tests the parts first.
 use scheduler::Job;
 use scheduler::Kind;
 use scheduler::Scheduler;
@@ -23,7 +23,7 @@ fn in_range(x: u32, low: u32, high: u32) -> bool
     (low <= x) & (x <= high)
 }
 
-// A test that is asked only where another holds.
+// A test that is asked only if another holds.
 fn when(asked: bool, holds: bool) -> bool
     ensures { λ r. ⌜ r ≡ when asked holds ⌝ }
 {
@@ -69,14 +69,14 @@ fn lacking(kind: Kind, j: Job) -> bool
     }
 }
 
-// The same, and the end of one that is not in cleanup.
+// The same, and the end of a job that is not in cleanup.
 fn lacks_zero(kind: Kind, j: Job) -> bool
     ensures { λ r. ⌜ r ≡ lacksZero kind j ⌝ }
 {
     when(!j.is_cleaning(), j.end == 0) & lacking(kind, j)
 }
 
-// Whether one that runs has started by now and ends after it.
+// Whether a running job has started by now and ends after it.
 fn runs_now(settings: Settings, now: u32, j: Job) -> bool
     ensures { λ r. ⌜ r ≡ runsNow settings now j ⌝ }
 {
@@ -89,7 +89,7 @@ fn runs_now(settings: Settings, now: u32, j: Job) -> bool
     now - j.start < settings.run_time(j.estimate as u32)
 }
 
-// Whether one in cleanup has started, then ended, by now and still holds nodes.
+// Whether a job in cleanup has started, then ended, by now and still holds nodes.
 fn cleans_now(settings: Settings, now: u32, j: Job) -> bool
     ensures { λ r. ⌜ r ≡ cleansNow settings now j ⌝ }
 {
@@ -149,8 +149,8 @@ fn promises_hold(now: u32, j: Job) -> bool
     (j.start <= j.promise) & when(j.is_waiting(), now < j.start)
 }
 
-// In EASY: whether it came in by now at a rank from 1 to 64 and, where it waits, is over by the last minute if it starts at its bound. (A rank
-// is multiplied only where it is in range.)
+// In EASY: whether it came in by now with a rank of 1 to 64. If it waits, it must be over by the last minute when it starts at its bound. (A rank
+// is multiplied only if it is in range.)
 fn bounded_holds(settings: Settings, now: u32, j: Job) -> bool
     ensures { λ r. ⌜ r ≡ boundedHolds settings now j ⌝ }
 {

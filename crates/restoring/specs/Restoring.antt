@@ -44,7 +44,7 @@ handedBack r = record { refusal = r .refusal; scheduler = store (r .model) }
 abbrev pub restoring : List ℕ → Opened
 restoring t = handedBack (restored t)
 
--- what lines come to that were read so
+-- what lines give that were read so
 abbrev pub judged : Lines → Scheduler → Opened
 judged lines.Kept d = cond (accepted (view d)) (record { refusal = refusal.None; scheduler = d }) (handedBack (notRestored refusal.TextRejected))
 judged lines.Bad d = handedBack (notRestored refusal.TextRejected)

@@ -16,7 +16,7 @@ use scheduler::Scheduler;
 use scheduler::Settings;
 use script_reading::FirstLine;
 
-// What a refused reading hands back: why, and an empty scheduler of the conservative kind, as a refused opening does.
+// What a refused reading hands back: why it is refused, and an empty scheduler of the conservative kind, as a refused opening does.
 fn refused(why: Refusal) -> Opened
     ensures { λ r. ⌜ r ≡ handedBack (notRestored why) ⌝ }
 {
@@ -26,7 +26,7 @@ fn refused(why: Refusal) -> Opened
     }
 }
 
-// What the records come to, once all lines are read.
+// What the records give, once all lines are read.
 fn judge(records: Records) -> Opened
     ensures { λ r. ⌜ Judged records r ⌝ }
 {
@@ -47,7 +47,7 @@ fn judge(records: Records) -> Opened
     }
 }
 
-// What the records from a place on come to, after the first line.
+// What the records from a place on give, after the first line.
 fn restore_after(first: FirstLine, text: &[u8], from: usize) -> Opened
     requires { ⌜ from ≤ length (now text) ⌝ }
     ensures { λ r. ⌜ r ≡ handedBack (restoredFrom (both modelWith (opens first) (recordsFrom (now (text .entry)) from))) ⌝ }

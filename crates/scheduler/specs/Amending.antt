@@ -1,5 +1,5 @@
--- Corrected orders (document 02, No. 13: "A photographer finds two frames too many and sends a corrected order naming a waiting ticket"):
--- whom one names, its own refusals, whether it grows, and the record that it supersedes in place. Of either kind.
+-- Corrected orders (document 02, No. 13: "A photographer finds two frames too many and sends a corrected order naming a waiting ticket"): which job
+-- an order names, its own refusals, whether it grows, and the record that it supersedes in place. It is the same for both kinds.
 -- Assumes nothing.
 use mathlib.Core.Bool.{Bool, not, _&&_, _||_, cond}
 use mathlib.Core.List.{[], _∷_, map}
@@ -73,7 +73,7 @@ abbrev pub keptPromise : Option Job → ℕ
 keptPromise none = 0
 keptPromise (some j) = j .promise
 
--- The job that it names grows by it. That is no change in place, and refused as one: no caller sees this refusal, since an order that grows is
+-- The job that it names grows by it. That is no change in place, and is refused as one. No caller sees this refusal: an order that grows is
 -- withdrawn and taken in anew (`amended` in crates/amend_rules/specs/Amending.antt)
 abbrev pub growing : Model → Amendment → Bool
 growing m a = any (λ (j : Job). names a j && grows (m .settings) a j) (m .jobs)

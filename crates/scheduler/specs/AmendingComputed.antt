@@ -20,7 +20,7 @@ use Rattle.scheduler.specs.Model.{Model}
 use Rattle.scheduler.specs.Answers.{verdict}
 use Rattle.scheduler.specs.Amending.{named, amendRefusal, grows, superseded, inPlace, keptPromise, inPlaceRefusal, orderFor}
 
--- 10 nodes that are cleared for 7 minutes, and estimates up to 200
+-- 10 nodes, with 7 minutes of cleanup, and estimates up to 200
 abbrev ten : Settings
 ten = record { kind = Easy; nodes = 10; cleanup = 7; «quota_a» = 2; «quota_b» = 62; longest = 200 }
 

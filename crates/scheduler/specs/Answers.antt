@@ -15,7 +15,7 @@ use Rattle.scheduler.specs.declared.Scheduler.{Scheduler}
 use Rattle.scheduler.specs.Table.{tickets}
 use Rattle.scheduler.specs.Model.{Model, store}
 
--- the documents' number of each refusal; 0 where nothing is refused. 4 and 8 are given no longer; 17 and 18 are of a season's lines alone
+-- the documents' number of each refusal; 0 if nothing is refused. 4 and 8 are no longer given; 17 and 18 are for a season's lines only
 abbrev pub code : Refusal → ℕ
 code refusal.None = 0
 code refusal.NodesOutOfRange = 1

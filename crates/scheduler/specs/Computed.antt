@@ -86,7 +86,7 @@ pub least-examples : (judged [] (between 5 A 1) ≡ refusal.None)
 unfolding departRefusal verdict longest
 least-examples = (refl, refl, refl, refl, refl, refl, refl)
 
--- 10 nodes that are cleared for 7 minutes, and this longest estimate
+-- 10 nodes, with 7 minutes of cleanup, and this longest estimate
 abbrev up-to : ℕ → Settings
 up-to l = record { kind = Easy; nodes = 10; cleanup = 7; «quota_a» = 2; «quota_b» = 62; longest = l }
 

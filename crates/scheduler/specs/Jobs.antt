@@ -53,7 +53,7 @@ isHolding j = holding? (j .state)
 abbrev pub held : Job → ℕ
 held j = on (isHolding j) (j .nodes)
 
--- who can leave so: one that runs is over early; document 02, No. 1: "A waiting stack can be withdrawn."
+-- which jobs can leave so: one that runs ends early; document 02, No. 1: "A waiting stack can be withdrawn."
 abbrev pub departs? : Departure → State → Bool
 departs? Complete s = running? s
 departs? Cancel s = waiting? s
@@ -70,7 +70,7 @@ tooEarly now Cancel j = false
 abbrev pub endsAt : Settings → ℕ → Job → Bool
 endsAt S t j = isRunning j && eqb (endOf S j) t
 
--- "and its nodes are free in that same minute", or where nodes are cleared after a run, once that is done
+-- "and its nodes are free in that same minute", or once cleanup is over
 abbrev pub releasedAt : Settings → ℕ → Job → Bool
 releasedAt S t j = isCleaning j && eqb (until S j) t
 

@@ -39,7 +39,7 @@ joined m j = record { settings = m .settings; clock = m .clock; next = suc (m .n
 abbrev pub ending : Model → Select
 ending m = select.EndingAt (m .settings) (suc (m .clock))
 
--- where those that a test picks end, leave, or are released: who remains, and the clock is set
+-- those that a test picks end, leave or are released: who remains; and the clock is set
 abbrev pub without : Model → ℕ → Select → Model
 without m clock s = record { settings = m .settings; clock = clock; next = m .next; jobs = remaining (m .settings) clock s (m .jobs) }
 

@@ -1,4 +1,4 @@
--- What an opening fixes, and every limit that calls go by, read from it through one definition each.
+-- What an opening fixes, and every limit that calls go by. Each limit is read from the settings through one definition.
 -- Assumes nothing.
 use mathlib.Core.Bool.{cond}
 use Prim.Native.Nat.{ℕ, _+_, _*_, min}
@@ -11,8 +11,7 @@ use Rattle.scheduler.specs.declared.Tenant.the-variants.{Nobody, A, B}
 use Rattle.scheduler.specs.Limits as limit
 use Rattle.scheduler.specs.States.{cleaning?}
 
--- "A refused opening hands back an empty desk of its kind with 1 node"; nodes that are not cleared, 63 places and 1, and the longest estimate
--- there is
+-- "A refused opening hands back an empty desk of its kind with 1 node"; a cleanup of 0, 63 places and 1, and the longest estimate that there is
 abbrev pub refusedSettings : Kind → Settings
 refusedSettings k = record { kind = k; nodes = 1; cleanup = 0; «quota_a» = 63; «quota_b» = 1; longest = limit.longestEstimate }
 
@@ -57,7 +56,7 @@ unit S = holdTime S (longest S)
 unfoldable pub endOf : Settings → Job → ℕ
 endOf S j = j .start + runTime S (j .estimate)
 
--- the minute from which the nodes of a job are free again: of one whose run has ended, clearing minutes after its end
+-- the minute from which the nodes of a job are free again; if its run has ended, that is the cleanup after its end
 unfoldable pub until : Settings → Job → ℕ
 until S j = cond (cleaning? (j .state)) (j .end + cleanup S) (j .start + holdTime S (j .estimate))
 

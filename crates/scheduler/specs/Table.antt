@@ -50,7 +50,7 @@ tickets ts = record { count = length ts; list = pad slots 0 ts }
 abbrev pub oneIf : Bool → ℕ → List ℕ
 oneIf given t = cond given (t ∷ []) []
 
--- whose run ends where those that a test picks leave: a job that is withdrawn has not run
+-- whose runs end if those that a test picks leave: a job that is withdrawn has not run
 abbrev pub ends : Select → Job → Bool
 ends select.Live j = false
 ends select.Waiting j = false
@@ -75,7 +75,7 @@ releases select.Waiting j = false
 releases (select.Departing h t) j = false
 releases (select.EndingAt S t) j = releasedAt S t j
 
--- who leaves: who is withdrawn, whose nodes are free again, and whose run ends where nodes are not cleared
+-- who leaves: jobs that are withdrawn, jobs whose nodes are free again, and with a cleanup of 0 jobs whose runs end
 abbrev pub leaves : Settings → Select → Job → Bool
 leaves S s j = withdraws s j || releases s j || (ends s j && eqb (cleanup S) 0)
 
@@ -83,7 +83,7 @@ leaves S s j = withdraws s j || releases s j || (ends s j && eqb (cleanup S) 0)
 abbrev pub staying : Settings → Select → List Job → List Job
 staying S s js = keep (λ (j : Job). not (leaves S s j)) js
 
--- of these, whose run ends is in cleanup from now on
+-- of these, a job whose run ends is in cleanup from now on
 abbrev pub ceased : (now : ℕ) → Select → Job → Job
 ceased now s j = cond (ends s j) (cleaning now j) j
 

@@ -1,4 +1,4 @@
--- What callers use of the times that jobs run and hold their nodes. Nobody else looks into `longest`, `cleanup`, `runTime`, `holdTime`,
+-- What callers use of the times for which jobs run and hold their nodes. No other file looks into `longest`, `cleanup`, `runTime`, `holdTime`,
 -- `unit`, `endOf` and `until`.
 -- Assumes nothing.
 use Prim.Native.Nat.{ℕ, _+_, _*_, _≤_, _<_, min}
@@ -73,7 +73,7 @@ module _ (S : Settings) where
   unfolding unit
   cleanup-unit = omega (arith, hold-is (longest S))
 
-  -- so many units are at most as many of the longest hold
+  -- this many units are at most as many of the longest hold
   pub units-le : (n k : ℕ) → n ≤ k → n * unit S ≤ k * longestHold
   units-le n k l = mul-le-mul l unit-le
 
@@ -105,7 +105,7 @@ module _ (S : Settings) where
       → until S (fresh t o s start promise) ≡ start + holdTime S (o .estimate)
   until-fresh t o s start promise n = until-is (fresh t o s start promise) n
 
--- e is the largest estimate with which a job holds its nodes for no longer than so many minutes, 0 if there is none
+-- e is the largest estimate with which a job holds its nodes for no longer than this many minutes, 0 if there is none
 pub record LongestWithin (S : Settings) (minutes e : ℕ) : Type 0 where
   pub to : e ≤ longest S
   pub within : 1 ≤ e → holdTime S e ≤ minutes

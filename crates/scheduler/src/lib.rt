@@ -24,7 +24,7 @@ pub enum State {
     Cleanup,
 }
 
-// Whose job it is (document 02, No. 4: the "houses" A and B). An unused slot is nobody's, nor is what a submission names neither by.
+// Whose job it is (document 02, No. 4: the "houses" A and B). An unused slot is nobody's. A submission that names neither A nor B is nobody's too.
 pub enum Tenant {
     Nobody,
     A,
@@ -32,10 +32,10 @@ pub enum Tenant {
 }
 
 // A live job (document 01: "stack", "record"), or an unused slot, which is all zero. A job in cleanup has run: it keeps its end, which is 0 in
-// every other, and its nodes stay taken. The estimate is the most that it runs, and what it is planned with; the least is when it can be over
-// at the earliest. EASY keeps of a job, until it leaves, the minute in which it was submitted, its rank then (document 01: "r") and the forecast
-// that it was given, 0 where it has none; in conservative backfilling all three are 0 (document 02, No. 11). Nodes and run lengths are
-// within 16 bits: a scheduler copies its 64 jobs wherever it is handed on.
+// every other record, and its nodes stay taken. The estimate is the most that the job runs, and the plan goes by it; the least is the earliest that
+// it can be over. EASY keeps three more values of a job until it leaves: the minute in which it was submitted, its rank then (document 01: "r") and
+// its forecast, 0 if it has none. In conservative backfilling all three are 0 (document 02, No. 11). Nodes and run lengths have 16 bits: a
+// scheduler copies its 64 jobs wherever it is handed on.
 pub struct Job {
     pub ticket: u32,
     pub nodes: u16,
@@ -51,8 +51,8 @@ pub struct Job {
     pub forecast: u32,
 }
 
-// What an opening fixes: the rules, the machine's nodes, for how many minutes nodes stay taken after a run ("clearing"), how many live jobs
-// each tenant may have ("places"), and the longest estimate that a submission may have.
+// What an opening fixes: the rules, the machine's nodes, for how many minutes nodes stay taken after a run (document 02: "clearing"), how many live
+// jobs each tenant may have ("places"), and the longest estimate that a submission may have.
 pub struct Settings {
     pub kind: Kind,
     pub nodes: u32,
@@ -137,14 +137,14 @@ pub struct Earliest {
     pub minute: u32,
 }
 
-// How long may a job of so many nodes be, submitted now by this tenant, to start by this minute (document 02, No. 9)?
+// The question how long a job of this many nodes may be, submitted now by this tenant, to start by this minute (document 02, No. 9).
 pub struct Inquiry {
     pub nodes: u32,
     pub tenant: Tenant,
     pub minute: u32,
 }
 
-// The largest estimate with which it would; 0 where there is none, and where the question is refused.
+// The largest estimate that starts in time; 0 if there is none, and 0 if the question is refused.
 pub struct Longest {
     pub refusal: Refusal,
     pub estimate: u32,
@@ -207,7 +207,7 @@ pub fn outside_range(x: u32, low: u32, high: u32) -> bool
     high < x
 }
 
-// Whether one is 0, or they are not 64 together. (Numbers may be any, so that no sum of both is asked for.)
+// Whether one is 0, or they do not sum to 64. (They may be any numbers, so that no sum of both is computed.)
 pub fn quotas_out_of_range(a: u32, b: u32) -> bool
     ensures { λ r. ⌜ r ≡ misdivided a b ⌝ }
 {
@@ -396,7 +396,7 @@ impl Job {
         }
     }
 
-    // The same job, as EASY keeps it: when it was submitted, and its rank then.
+    // The same job with what EASY keeps of it: when it was submitted, and its rank then.
     pub fn entered(self, minute: u32, rank: u32) -> Job
         ensures { λ r. ⌜ r ≡ entered minute rank self ⌝ }
     {
@@ -662,7 +662,7 @@ impl Settings {
         self.hold_time(self.longest())
     }
 
-    // The largest estimate with which a job holds its nodes for no longer than so many minutes; 0 if there is none.
+    // The largest estimate with which a job holds its nodes for no longer than this many minutes; 0 if there is none.
     pub fn longest_within(self, minutes: u32) -> u32
         ensures { λ r. ⌜ LongestWithin self minutes r ⌝ }
     {

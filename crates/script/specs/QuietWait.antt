@@ -28,8 +28,8 @@ use Rattle.script_play.specs.declared.Stage.{Stage}
 use Rattle.script_play.specs.Remainder.{fromHere, leftBy, left}
 use Rattle.script_play.specs.Progress.{InPlay, weight, weightBy, script-player}
 
--- r stands some quiet minutes after p, with the scheduler that as many ticks hand back: how many they are may differ from one correct
--- program to another, and what is left to print may not
+-- r stands some quiet minutes after p, with the scheduler that as many ticks hand back. How many minutes they are may differ from one correct
+-- program to another; what is left to print may not
 pub record PassesOver (p r : Play) : Type 0 where
   pub stage-is : r .stage ≡ p .stage
   pub at-is : r .at ≡ p .at

@@ -1,4 +1,4 @@
-// A script played into a lent page, page after page: a line, or one step of a wait, is a turn, and its lines stand in the page after those
+// A script played into a lent page, page after page. A line, or one step of a wait, is a turn. Its lines stand in the page after those of the turns
 // before.
 ghost use mathlib.Core.Path.{_≡_};
 ghost use Prim.Native.Nat.{_≤_};
@@ -19,7 +19,7 @@ use script_play::Stage;
 use script_reading::Asked;
 use script_turns::Turn;
 
-// Turn after turn, while the page has room for the longest answer. Whatever changes is a local of this one loop, which calls in one place: a
+// Plays turn after turn, while the page has room for the longest answer. Whatever changes is a local of this one loop, which calls in one place: a
 // call by value copies the scheduler, and a turn that makes no call does not.
 fn later(p: Play, script: &[u8], page: &mut [u8]) -> Played
     requires { ⌜ InPlay (now script) p × (p .stage ≡ Playing) × (pageBytes ≤ length (now page)) ⌝ }
@@ -125,7 +125,7 @@ fn later(p: Play, script: &[u8], page: &mut [u8]) -> Played
     }
 }
 
-// The page filled from its start: until the script is over, its first line is played, or the page has no room for the longest answer any more.
+// The page filled from its start: until the script is over, its first line is played, or the page no longer has room for the longest answer.
 pub fn fill(p: Play, script: &[u8], page: &mut [u8]) -> Played
     requires { ⌜ InPlay (now script) p × (pageBytes ≤ length (now page)) ⌝ }
     ensures { λ r. ⌜ Filled (script-player (now (script .entry))) p (now (page .exit)) (r .end) (r .play) ⌝ }

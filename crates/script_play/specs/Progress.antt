@@ -42,7 +42,7 @@ pub record InPlay (s : List ℕ) (p : Play) : Type 0 where
 pub begin-ready : (s : List ℕ) → InPlay s beginning
 begin-ready s = record { premise = opened-premise _; inside = omega arith; few = omega arith }
 
--- what there is still to play, at most: more for each byte than the steps of a wait
+-- an upper bound on what there is still to play: more for each byte than the steps of a wait
 abbrev pub weightBy : Stage → List ℕ → Play → ℕ
 weightBy First s p = suc (length s * suc longestWait)
 weightBy Playing s p = suc ((length s - p .at) * suc longestWait + p .steps)

@@ -33,7 +33,8 @@ pub enum Named {
     Nothing,
 }
 
-// Whether a line of `count` fields, `first` the first of them, has `fields` fields and begins with `word`. A trailing tab is a field more.
+// Whether a line has `fields` fields and begins with `word`; `count` is how many fields it has, and `first` is its first field. A trailing tab
+// makes one more field.
 fn has_form(count: usize, first: &[u8], fields: usize, word: &[u8]) -> bool
     ensures { λ r. ⌜ r ≡ formFrom count (now (first .entry)) fields (now (word .entry)) ⌝ }
 {

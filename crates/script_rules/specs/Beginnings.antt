@@ -1,4 +1,4 @@
--- What a text prints whose first line opens a scheduler, by how it begins.
+-- What a text prints if its first line opens a scheduler, by how the text begins.
 -- Assumes nothing.
 use mathlib.Core.Path.{_≡_, ap, _∙_}
 use mathlib.Core.List.{List, []}

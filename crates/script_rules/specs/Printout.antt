@@ -54,7 +54,7 @@ abbrev pub fromFirst : (opens : Line → Option Opening) (plays : Model → List
 fromFirst opens plays [] = []
 fromFirst opens plays (l ∷ ls) = openedBy plays (opens l) ls
 
--- of at most so many bytes: "a longer one prints only `no 9`, an empty one nothing"
+-- of at most this many bytes: "a longer one prints only `no 9`, an empty one nothing"
 abbrev pub printoutBy : (longest : ℕ) (opens : Line → Option Opening) (plays : Model → List Line → List ℕ) → List ℕ → List ℕ
 printoutBy longest opens plays s = cond (ltb longest (length s)) malformed (fromFirst opens plays (linesOf s))
 

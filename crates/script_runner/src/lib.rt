@@ -4,7 +4,7 @@ ghost use lib.ListN.{length};
 ghost use Rattle.script_writing.specs.AnswerText.{pageBytes};
 use libc::STDOUT_FILENO;
 
-// All of a script. The lines of many calls go out together; where they cannot be written, the rest is not played.
+// Plays all of a script. The lines of many calls go out together; if they cannot be written, the rest is not played.
 fn play(script: &[u8], to: i32, page: &mut [u8]) -> bool
     requires { ⌜ pageBytes ≤ length (now page) ⌝ }
 {
@@ -23,9 +23,8 @@ fn play(script: &[u8], to: i32, page: &mut [u8]) -> bool
     }
 }
 
-// Reads a script whole from one descriptor and writes its printout to another. There is room for one byte more than the longest
-// script has, so that a longer one is told from it. Where either fails, a line on standard error says so; a script that cannot be read
-// is not played.
+// Reads a script whole from one descriptor and writes its printout to another. The buffer has room for one byte more than the longest script, so
+// that a longer one is noticed. If either fails, a line on standard error says so; a script that cannot be read is not played.
 pub fn run(from: i32, to: i32) {
     let mut space = [0u8; 65537];
     let input = inputs::read_whole(from, &mut space);

@@ -23,7 +23,7 @@ use text::Begins;
 // A longer script is not read.
 const LONGEST: usize = 65536;
 
-// A first line that opens nothing prints why, and the script is over.
+// If the first line opens nothing, prints why, and the script is over.
 fn refuse(p: Play, reason: Refusal, page: &mut [u8]) -> Played
     requires { ⌜ pageBytes ≤ length (now page) ⌝ }
     ensures { λ r. ⌜ Turned pageBytes (piece (noRow (code reason)) (over p)) (now (page .entry)) 0 (now (page .exit)) (r .end) (r .play) ⌝ }
@@ -95,7 +95,7 @@ pub fn first(p: Play, script: &[u8], page: &mut [u8]) -> Played
     }
 }
 
-// What a turn comes to: what is asked, or that the script is over.
+// What comes next: what is asked, or that the script is over.
 pub enum Turn {
     Asks(Asked),
     Over,

@@ -36,7 +36,7 @@ fn promises(kind: Kind) -> bool
     }
 }
 
-// The writers write at a place, where the page has room for the most that they write, and give back the place after what they wrote.
+// Each writer writes at a place, where the page has room for the most that it writes, and gives back the place after what it wrote.
 pub fn put_field(page: &mut [u8], at: usize, v: u32) -> usize
     requires { ⌜ at + 11 ≤ length (now page) ⌝ }
     ensures { λ r. ⌜ Wrote 11 (now (page .entry)) at (andField (decimalOf v)) (now (page .exit)) r ⌝ }

@@ -98,7 +98,7 @@ module _ (l : List ℕ) (at above highest : ℕ) (d : Scheduler) (xs ys : List �
   why : (c : Coming) → c ≡ found → Because s (asTurn l p q c)
   why c f = subst (Because s) (turn-is c f) (because s (ready .valid))
 
-  -- ## A job ends at its true run length
+  -- ## A job ends at its actual run length
 
   module _ (i : ℕ) (f : coming.Ends i ≡ found) where
     abbrev pub j : Job

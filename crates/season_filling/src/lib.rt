@@ -1,5 +1,5 @@
-// A season played into a lent page, page after page: an end, an arrival, a line that is refused or a minute is a turn, and its lines stand in the
-// page after those before. What is noted of the jobs, by ticket, stands in two lists that are lent with it.
+// A season played into a lent page, page after page. A turn is an end, an arrival, a line that is refused, or a minute. Its lines stand in the page
+// after those of the turns before. What is noted of the jobs, by ticket, stands in two lists that are lent with the page.
 ghost use mathlib.Core.Path.{_≡_};
 ghost use mathlib.Core.List.{List};
 ghost use Prim.Native.Nat.{ℕ, _≤_};
@@ -38,7 +38,7 @@ pub struct Played {
     pub standing: Standing,
 }
 
-// Turn after turn, while the page has room for the longest one. Whatever changes is a local of this one loop.
+// Plays turn after turn, while the page has room for the longest one. Whatever changes is a local of this one loop.
 fn later(
     p: Standing,
     list: &[u8],
@@ -186,7 +186,7 @@ fn later(
     }
 }
 
-// A first line that opens nothing prints why, and the season is over.
+// If the first line opens nothing, prints why, and the season is over.
 fn refuse(p: Standing, reason: Refusal, page: &mut [u8]) -> Played
     requires { ⌜ pageBytes ≤ length (now page) ⌝ }
     ensures { λ r. ⌜ ((xs ys : List ℕ) → Turned pageBytes (piece (noRow (code reason)) (closed (place p xs ys)))
@@ -264,7 +264,7 @@ fn first(p: Standing, list: &[u8], page: &mut [u8]) -> Played
     }
 }
 
-// The page filled from its start: until the season is over, its first line is played, or the page has no room for the longest turn any more.
+// The page filled from its start: until the season is over, its first line is played, or the page no longer has room for the longest turn.
 pub fn fill(
     p: Standing,
     list: &[u8],

@@ -1,4 +1,4 @@
--- How many jobs have not ended, after a call: none comes unless it is submitted, and one less is left where one ends. And no job gets a least.
+-- How many jobs have not ended after a call. A job comes only by a submission, and one job fewer is left where one ends. Also: no job gets a least.
 -- Assumes nothing.
 use mathlib.Core.Path.{_≡_, refl, sym, ap, subst, _∙_}
 use mathlib.Core.Bool.{Bool, true, false, not, cond}

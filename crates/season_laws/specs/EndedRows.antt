@@ -1,4 +1,4 @@
--- Whose line a call prints: at a tick of those whose run the scheduler ends then, at an end of that job, at a submission of nobody.
+-- Whose lines a call prints: a tick prints those of the jobs whose run the scheduler ends then, an end that of its job, a submission none.
 -- Assumes nothing.
 use mathlib.Core.Path.{_≡_, refl, sym, ap, _∙_}
 use mathlib.Core.Bool.{Bool, true}

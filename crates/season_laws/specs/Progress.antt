@@ -261,6 +261,6 @@ ends-by (suc n) s r h =
     (λ e. still-over (suc n) s e)
     (λ e. ends-by n (next s) (next-ready s r) (omega (arith, next-less s r e)))
 
--- After as many turns as it has left at most, no line and no live job is left: the number of turns in `remaining` cuts nothing off.
+-- After as many turns as it has left at most, no line and no live job is left. So the number of turns in `remaining` cuts nothing off.
 pub season-ends : (s : Season) → Ready s → isOver (turnOf (afterTurns (turnsLeft s) s)) ≡ true
 season-ends s r = ends-by (turnsLeft s) s r (omega arith)

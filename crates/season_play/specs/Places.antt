@@ -1,4 +1,4 @@
--- Where the player of a season stands, and the season that it stands for: each turn of the one is a turn of the other.
+-- Where the player of a season stands, and the season that this stands for: each turn of the player is a turn of the season.
 -- Assumes nothing.
 use mathlib.Core.Path.{_≡_, refl, sym, ap, subst, _∙_}
 use mathlib.Core.Bool.{true, false, cond}
@@ -36,7 +36,7 @@ use Rattle.season_play.specs.declared.Standing.{Standing}
 
 pub record Place : Type 0 where
   pub standing : Standing
-  -- the minutes of arrival and the true run lengths of the jobs taken in, by ticket; past the last ticket given they say nothing
+  -- the minutes of arrival and the actual run lengths of the jobs taken in, by ticket; past the last ticket given they say nothing
   pub arrivals : List ℕ
   pub actuals : List ℕ
 
@@ -117,7 +117,7 @@ pub record InPlay (l : List ℕ) (p : Place) : Type 0 where
   pub premise : Premise (p .standing .scheduler)
   pub no-least : (j : Job) → In j (view (p .standing .scheduler) .jobs) → j .least ≡ 0
   pub inside : p .standing .at ≤ length l
-  -- a line gives one ticket at most, and no line past the last of the list any
+  -- a line gives at most one ticket, and past the last line of the list none is given
   pub few : p .standing .scheduler .next ≤ suc (p .standing .above)
   pub most : p .standing .scheduler .next ≤ suc mostLines
   pub arrivals-whole : length (p .arrivals) ≡ mostLines

@@ -32,7 +32,7 @@ abbrev pub listedOf : Option Arrival → Listed
 listedOf (some a) = listed.Is a
 listedOf none = listed.Malformed
 
--- what stands at a place of a list, so many lines being above it: nothing at its end, or past it, and else a line
+-- what stands at a place of a list, with this many lines above it: nothing at its end or past it, and otherwise a line
 pub record Reads (list : List ℕ) (at above : ℕ) (r : Ahead) : Type 0 where
   pub at-end : length list ≤ at → (r .listed ≡ listed.None) × (r .next ≡ at)
   pub in-list : at < length list → (r .listed ≡ listedOf (arrivalOf above (lineOf list at))) × (r .next ≡ past list at)

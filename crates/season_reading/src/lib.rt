@@ -25,7 +25,7 @@ pub enum Listed {
     None,
 }
 
-// It, and where the line after it begins.
+// What stands next, and where the line after it begins.
 pub struct Ahead {
     pub listed: Listed,
     pub next: usize,
@@ -93,7 +93,7 @@ fn read_arrival(line: &[u8]) -> Listed
     arrival(given)
 }
 
-// A line more, counted up to the most.
+// One line more, counted up to the limit.
 pub fn one_more(above: usize) -> usize
     ensures { λ r. ⌜ r ≡ min (suc above) mostLines ⌝ }
 {
@@ -103,7 +103,7 @@ pub fn one_more(above: usize) -> usize
     MOST_LINES
 }
 
-// A line, so many lines of the list being above it. An unclosed one lacks the form.
+// A line with `above` lines of the list above it. An unclosed one lacks the form.
 fn read_line(line: &[u8], closed: bool, above: usize) -> Listed
     ensures { λ r. ⌜ r ≡ listedOf (arrivalOf above (record { bytes = now (line .entry); closed = closed })) ⌝ }
 {
@@ -116,7 +116,7 @@ fn read_line(line: &[u8], closed: bool, above: usize) -> Listed
     Listed::Malformed
 }
 
-// The line at a place, so many lines of the list being above it.
+// The line at a place, with `above` lines of the list above it.
 pub fn read_ahead(list: &[u8], at: usize, above: usize) -> Ahead
     ensures { λ r. ⌜ Reads (now (list .entry)) at above r ⌝ }
 {
@@ -141,7 +141,7 @@ pub fn read_ahead(list: &[u8], at: usize, above: usize) -> Ahead
     }
 }
 
-// Why an arrival is refused before its minute, the highest of the lines above being given.
+// Why an arrival is refused before its minute, given the highest arrival of the lines above.
 pub fn arrival_refusal(a: Arrival, highest: u32) -> Refusal
     ensures { λ r. ⌜ r ≡ arrivalRefusal highest a ⌝ }
 {

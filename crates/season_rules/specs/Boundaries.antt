@@ -19,7 +19,7 @@ use Rattle.season_rules.specs.Reading as reading
 use Rattle.season_rules.specs.Season as season
 use Rattle.season_rules.specs.Season.{Season, played, remaining, beginning}
 
--- a season of EASY on 64 nodes that stands in a minute, with so many lines done with and these left
+-- a season of EASY on 64 nodes that stands in a minute, with this many lines done with and these left
 abbrev standing : (clock above : ℕ) → List String → Season
 standing c k ls = record {
   model = record { settings = reading.openingWith Easy 64 0 10 .settings; clock = c; next = 1; jobs = [] };

@@ -30,8 +30,8 @@ abbrev promisePrints : List String
 promisePrints = "no 2" ∷ "no 17" ∷ "1 0 20" ∷ "no 1" ∷ "2 1 110" ∷ "3 9 140" ∷ []
 
 -- EASY with 3 minutes of cleanup: the first job would run for 9 minutes and is ended after its held time of 5; its nodes are free in minute 8, when
--- the second starts, which is over after 2. All other lines are refused in minute 0, right after those above: one that lacks the form; a true
--- length of 0; 17 before 18; 17 by a line that is not the last above; 18 before 6; an arrival past the last minute.
+-- the second starts, which is over after 2. All other lines are refused in minute 0, right after those above: one that lacks the form; an actual
+-- run length of 0; 17 before 18; 17 by a line that is not the last above; 18 before 6; an arrival past the last minute.
 abbrev looseList : List String
 looseList = "loose 2 3 20" ∷ "0 2 5 9" ∷ "0 1 10 2" ∷ "x" ∷ "1 1 5 0" ∷ "0 1 5 0" ∷ "0 1 5 1" ∷ "1000001 1 5 0" ∷ "1000001 1 5 1" ∷ []
 

@@ -47,6 +47,6 @@ arrivalIn s =
 abbrev pub openingOf : Line → Option Opening
 openingOf l = closedOnly (l .closed) (openingIn (l .bytes))
 
--- a line of the list, so many lines of it being above
+-- a line of the list, with this many lines of it above
 abbrev pub arrivalOf : (above : ℕ) → Line → Option Arrival
 arrivalOf above l = cond (ltb above mostLines) (closedOnly (l .closed) (arrivalIn (l .bytes))) none

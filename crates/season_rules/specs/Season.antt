@@ -37,7 +37,7 @@ pub record Season : Type 0 where
   -- how many are done with, counted up to 4,096, and the highest arrival of those that have the form
   pub above : ℕ
   pub highest : ℕ
-  -- of the jobs taken in, in the order of their tickets, which are 1 and up: the minute of arrival, and the true run length
+  -- of the jobs taken in, in the order of their tickets, which are 1 and up: the minute of arrival, and the actual run length
   pub arrivals : List ℕ
   pub actuals : List ℕ
 
@@ -97,7 +97,7 @@ arrivalRefusal highest a =
     ∷ [])
 
 pub data Turn : Type 0 where
-  -- a job ends at its true length
+  -- a job ends at its actual run length
   ends : Job → Turn
   -- a line is refused without waiting for its minute: "for 9, 17, 18 and such an arrival right after the line above is done with"
   refuses : Refusal → Turn
@@ -108,7 +108,7 @@ pub data Turn : Type 0 where
   -- "until lines and live stacks are all gone"
   over : Turn
 
--- its true length ends it now, before its held time would
+-- its actual run length ends it now, before its held time would
 abbrev pub endsNow : Season → Job → Bool
 endsNow s j = isRunning j && (ltb (actual s j) (planned s j) && eqb (j .start + actual s j) (s .model .clock))
 

@@ -4,7 +4,7 @@ ghost use lib.ListN.{length};
 ghost use Rattle.script_writing.specs.AnswerText.{pageBytes};
 use libc::STDOUT_FILENO;
 
-// All of a season. The lines of many turns go out together; where they cannot be written, the rest is not played.
+// Plays all of a season. The lines of many turns go out together; if they cannot be written, the rest is not played.
 fn play(list: &[u8], to: i32, page: &mut [u8]) -> bool
     requires { ⌜ pageBytes ≤ length (now page) ⌝ }
 {
@@ -25,9 +25,8 @@ fn play(list: &[u8], to: i32, page: &mut [u8]) -> bool
     }
 }
 
-// Reads a list whole from one descriptor and writes the printout of its season to another. There is room for one byte more than the longest
-// list has, so that a longer one is told from it. Where either fails, a line on standard error says so; a list that cannot be read is not
-// played.
+// Reads a list whole from one descriptor and writes the printout of its season to another. The buffer has room for one byte more than the longest
+// list, so that a longer one is noticed. If either fails, a line on standard error says so; a list that cannot be read is not played.
 pub fn run(from: i32, to: i32) {
     let mut space = [0u8; 262145];
     let input = inputs::read_whole(from, &mut space);

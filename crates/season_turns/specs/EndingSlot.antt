@@ -1,4 +1,4 @@
--- The first job that is over at its true run length, as the code finds it: slot by slot.
+-- The first job that is over at its actual run length, as the code finds it: slot by slot.
 -- Assumes nothing.
 use mathlib.Core.Path.{_≡_}
 use mathlib.Core.Bool.{Bool, _&&_}
@@ -15,7 +15,7 @@ use Rattle.scheduler.specs.Settings.{runTime}
 use Rattle.scheduler.specs.Jobs.{unused, isRunning}
 use Rattle.season_rules.specs.Season.{ofTicket}
 
--- by the true run lengths noted under tickets
+-- by the actual run lengths noted under tickets
 abbrev pub overNow : List ℕ → Scheduler → Job → Bool
 overNow xs d j =
     let a = ofTicket xs (j .ticket) in isRunning j && (ltb a (runTime (d .settings) (j .estimate)) && eqb (j .start + a) (d .clock))

@@ -1,4 +1,4 @@
--- Minutes in which nothing is due and no job is over at its true run length, as the code finds them: slot by slot.
+-- Minutes in which nothing is due and no job is over at its actual run length, as the code finds them: slot by slot.
 -- Assumes nothing.
 use mathlib.Core.Path.{_≡_, sym, subst}
 use mathlib.Core.List.{List, [], _∷_}
@@ -17,7 +17,7 @@ use Rattle.quiet_minutes.specs.DueMinutes.{QuietTo, Quiet}
 use Rattle.quiet_minutes.specs.QuietCount.{Asked, asked-none, asked-more}
 use Rattle.season_rules.specs.Season.{ofTicket}
 
--- no end at a true run length lies after the clock and before a minute
+-- no end at an actual run length lies after the clock and before a minute
 abbrev pub UnendedTo : List ℕ → (clock last : ℕ) → Job → Type 0
 UnendedTo xs clock last j = (t : ℕ) → clock < t → t < last → j .start + ofTicket xs (j .ticket) ≡ t → ⊥
 

@@ -17,7 +17,7 @@ use scheduler::Scheduler;
 use season_reading::Listed;
 use season_rules::Arrival;
 
-// The slot of the first job that is over at its true run length now, or 64.
+// The slot of the first job that is over at its actual run length now, or 64.
 pub fn ending_slot(d: Scheduler, actuals: &[u32; 4096]) -> usize
     requires { ⌜ Premise d ⌝ }
     ensures { λ r. ⌜ Ending (now (actuals .entry)) d r ⌝ }
@@ -37,7 +37,7 @@ pub fn ending_slot(d: Scheduler, actuals: &[u32; 4096]) -> usize
     i
 }
 
-// The last minute, at most `last`, up to which nothing is due and before which no job is over at its true run length.
+// The last minute, at most `last`, up to which nothing is due and before which no job is over at its actual run length.
 pub fn quiet_until(d: Scheduler, actuals: &[u32; 4096], last: u32) -> u32
     requires { ⌜ Premise d × (d .clock ≤ last) × (last ≤ horizon) ⌝ }
     ensures { λ r. ⌜ Calm (now (actuals .entry)) d last r ⌝ }
@@ -94,8 +94,8 @@ pub fn note(list: &mut [u32; 4096], ticket: u32, v: u32)
     list[(ticket - 1) as usize] = v;
 }
 
-// What comes next: a job in a slot ends at its true run length, a line is refused without waiting for its minute, a job arrives, minutes pass
-// up to one in which a line waits to arrive, or the season is over.
+// What comes next: the job in a slot ends at its actual run length; a line is refused without waiting for its minute; a job arrives; minutes pass,
+// up to one in which a line waits to arrive; or the season is over.
 pub enum Coming {
     Ends(usize),
     Refuses(Refusal),
@@ -129,7 +129,7 @@ fn by_line(listed: Listed, highest: u32, clock: u32, live: bool) -> Coming
     }
 }
 
-// By the slot of a job that ends now, if there is one, and else by the line that is next. `live`: there is a live job.
+// What comes next: the end of the job in a slot, if one ends now; otherwise by the next line. `live`: there is a live job.
 pub fn next_turn(ending: usize, listed: Listed, highest: u32, clock: u32, live: bool) -> Coming
     ensures { λ r. ⌜ r ≡ comingOf ending listed highest clock live ⌝ }
 {
@@ -139,7 +139,7 @@ pub fn next_turn(ending: usize, listed: Listed, highest: u32, clock: u32, live: 
     by_line(listed, highest, clock, live)
 }
 
-// The highest arrival, with that of a line more.
+// The highest arrival, counting one more line.
 pub fn highest_with(highest: u32, listed: Listed) -> u32
     ensures { λ r. ⌜ r ≡ highestWith highest (meaning listed) ⌝ }
 {

@@ -1,4 +1,4 @@
-// What a season prints of a job that ends, and when that is: by its true run length, which the scheduler does not know.
+// What a season prints of a job that ends, and when the job ends: at its actual run length, which the scheduler does not know.
 ghost use mathlib.Core.Path.{_≡_};
 ghost use mathlib.Core.Bool.{_&&_};
 ghost use Prim.Native.Nat.{ℕ, _+_, _-_, _*_, _/_, _≤_, _<_, min, max};
@@ -41,7 +41,7 @@ fn at_place(list: &[u32], i: usize) -> u32
     list[i]
 }
 
-// What is noted under a ticket; these are 1 and up.
+// What is noted under a ticket; tickets begin at 1.
 pub fn at_ticket(list: &[u32; 4096], ticket: u32) -> u32
     ensures { λ r. ⌜ r ≡ ofTicket (now (list .entry)) ticket ⌝ }
 {
@@ -56,7 +56,7 @@ fn hundredths(a: u32, b: u32) -> u32
     a * 100 / b
 }
 
-// How many times its run length a job took, from its arrival on: in hundredths, and with ten minutes for a shorter run.
+// The bounded slowdown in hundredths: how many times its run length a job took from its arrival on. A run shorter than ten minutes counts as ten.
 pub fn slowdown(wait: u32, run: u32) -> u32
     requires { ⌜ (wait ≤ horizon) × (run ≤ longestHold) ⌝ }
     ensures { λ r. ⌜ r ≡ slowdown wait run ⌝ }
@@ -64,7 +64,7 @@ pub fn slowdown(wait: u32, run: u32) -> u32
     hundredths(wait + run, larger(run, 10))
 }
 
-// Whether its true run length ends it in this minute, before the scheduler would. (A difference, so that no sum can leave its range.)
+// Whether its actual run length ends it in this minute, before the scheduler would. (A difference, so that no sum can leave its range.)
 pub fn ends_now(job: Job, settings: Settings, actual: u32, clock: u32) -> bool
     ensures { λ r. ⌜ r ≡ (isRunning job && (ltb actual (runTime settings (job .estimate)) && eqb (job .start + actual) clock)) ⌝ }
 {
@@ -80,7 +80,7 @@ pub fn ends_now(job: Job, settings: Settings, actual: u32, clock: u32) -> bool
     false
 }
 
-// For how long it runs: its true run length, or what the scheduler lets it run.
+// For how long it runs: its actual run length, or what the scheduler lets it run if that is less.
 fn run(job: Job, settings: Settings, actual: u32) -> u32
     ensures { λ r. ⌜ r ≡ min actual (runTime settings (job .estimate)) ⌝ }
 {
@@ -119,7 +119,7 @@ pub fn put_ended(
     put_row(page, at, job.ticket, wait, slow)
 }
 
-// The last minute, at most `last`, before which its true end is not passed; an end that is not after the clock does not count.
+// The minute in which its actual run length is over, if that is after the clock and not after `last`; otherwise `last`.
 pub fn until_end(job: Job, actual: u32, clock: u32, last: u32) -> u32
     requires { ⌜ clock ≤ last ⌝ }
     ensures { λ r. ⌜ (clock ≤ r) × (r ≤ last) × ((t : ℕ) → clock < t → t < r → job .start + actual ≡ t → ⊥) ⌝ }

@@ -1,5 +1,5 @@
--- Nodes that are taken over a stretch of minutes: how many are left, the earliest minute at which a job fits, and the profile.
--- Document 01, "Promise Desk". This page and its laws speak of spans alone and know nothing of jobs.
+-- Nodes that are taken over a stretch of minutes: how many are left, the earliest minute at which a job fits, and the profile. Document 01,
+-- "Promise Desk". This file and its laws speak of spans alone and know nothing of jobs.
 -- Assumes nothing.
 use Prim.Native.Nat.{ℕ, zero, suc, _+_, _-_, max, _≤_, _<_}
 use mathlib.Core.Path.{_≡_}
@@ -20,8 +20,8 @@ takes t x = on (leb (x .from) t && ltb t (x .until)) (x .nodes)
 abbrev pub used : ℕ → List Span → ℕ
 used t xs = sum (takes t) xs
 
--- Document 01: "Free nodes at minute t are the rack's, less those of running stacks whose end is after t, less those of waiting stacks
--- with start ≤ t < start + held." N are the machine's nodes. A running job began by now, so from now on one rule says both.
+-- Document 01: "Free nodes at minute t are the rack's, less those of running stacks whose end is after t, less those of waiting stacks with start ≤
+-- t < start + held." N are the machine's nodes. A running job began by now, so from now on one rule covers both.
 abbrev pub free : ℕ → List Span → ℕ → ℕ
 free N xs t = N - used t xs
 

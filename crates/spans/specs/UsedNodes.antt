@@ -1,5 +1,5 @@
--- What spans take: in its own minutes a span takes its nodes, in all others nothing, and the order of the spans does not matter.
--- `used` is a sum, so the laws of sums (sum-append, sum-kept, ..) are its laws too.
+-- What spans take: in its own minutes a span takes its nodes, in all others nothing. The order of the spans does not matter. `used` is a sum, so
+-- the laws of sums (sum-append, sum-kept, ..) are its laws too.
 -- Assumes nothing.
 use Prim.Native.Nat.{ℕ, _+_, _-_, _≤_, _<_}
 use native.Mathlib.Omega.{arith}
@@ -80,6 +80,6 @@ module _ (t : ℕ) where
   pub free-less : (N : ℕ) (x : Span) (xs ys : List Span) → used t ys ≡ takes t x + used t xs → free N ys t ≡ free N xs t - takes t x
   free-less N x xs ys e = omega arith
 
-  -- one span less; the spans took no more than there is, or else what is free again would not be all that it took
+  -- one span less; the spans took no more than there is, otherwise what is free again would not be all that it took
   pub free-more : (N : ℕ) (x : Span) (xs ys : List Span) → used t xs ≡ takes t x + used t ys → used t xs ≤ N → free N ys t ≡ free N xs t + takes t x
   free-more N x xs ys e h = omega arith

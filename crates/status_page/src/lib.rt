@@ -1,5 +1,5 @@
 // The status page of a scheduler (document 02, No. 8: "the board in the corridor"), written into a page of bytes: the heading, a line for each
-// slot, which is of spaces where the slot is unused, and one line more.
+// slot, and one more line. The line of an unused slot has only spaces.
 ghost use mathlib.Core.List.{[], _∷_, _++_, flatMap};
 ghost use Prim.Native.Nat.{_+_, _≤_};
 ghost use lib.ListN.{length, replicate};
@@ -28,7 +28,8 @@ const COLUMNS: usize = 72;
 
 const NEWLINE: u8 = 10;
 
-// The writers write at a place, where the page has room, and give back the place after what they wrote. So many spaces, and the line's end.
+// Each writer writes at a place, where the page has room, and gives back the place after what it wrote. This one writes `columns` spaces and the
+// line's end.
 fn put_rest(page: &mut [u8], at: usize, columns: usize) -> usize
     requires { ⌜ at + (columns + 1) ≤ length (now page) ⌝ }
     ensures { λ r. ⌜ Wrote (columns + 1) (now (page .entry)) at (replicate columns space ++ (10 ∷ [])) (now (page .exit)) r ⌝ }
@@ -67,7 +68,7 @@ fn put_promised(page: &mut [u8], at: usize, kind: Kind, minute: u32) -> usize
     }
 }
 
-// A start, which is a promised one while the job waits.
+// A start; while the job waits, it is one that the kind promises.
 fn put_start(page: &mut [u8], at: usize, kind: Kind, waits: bool, minute: u32) -> usize
     requires { ⌜ Fits (column 8 (startText kind waits minute)) × (at + 8 ≤ length (now page)) ⌝ }
     ensures { λ r. ⌜ Wrote 8 (now (page .entry)) at (rightSet 8 (startText kind waits minute)) (now (page .exit)) r ⌝ }
@@ -90,7 +91,7 @@ fn put_state(page: &mut [u8], at: usize, state: State) -> usize
     }
 }
 
-// What was ordered: the ticket, whose job it is, and its nodes.
+// What was ordered: the ticket, the house and the nodes.
 fn put_order(page: &mut [u8], at: usize, j: Job) -> usize
     requires { ⌜ All Fits (orderColumns j) × (at + 14 ≤ length (now page)) ⌝ }
     ensures { λ r. ⌜ Wrote 14 (now (page .entry)) at (flatMap setRight (orderColumns j)) (now (page .exit)) r ⌝ }

@@ -1,4 +1,4 @@
--- No number of a status page is wider than its columns, and all that stands in them is plain text: of every valid model.
+-- In every valid model no number of a status page is wider than its columns, and all that stands in them is plain text.
 -- Assumes nothing.
 use mathlib.Core.Path.{_≡_, refl}
 use mathlib.Core.Bool.{Bool, true, false}

@@ -21,7 +21,7 @@ use Rattle.scheduler.specs.Settings.{runTime}
 use Rattle.scheduler.specs.Model.{Model}
 use Rattle.status_page_rules.specs.StatusPage.{heading, jobColumns, line, rows, statusPage}
 
--- a machine of so many nodes, cleared for 19 minutes after a run
+-- a machine of this many nodes, with 19 minutes of cleanup
 abbrev machine : Kind → (nodes clock next : ℕ) → List Job → Model
 machine k n c t js = record { settings = record { kind = k; nodes = n; cleanup = 19; «quota_a» = 63; «quota_b» = 1; longest = 10080 }; clock = c; next = t; jobs = js }
 

@@ -23,7 +23,7 @@ pageLines = 66
 abbrev pub pageColumns : ℕ
 pageColumns = 72
 
--- so many columns of a line, and the text that stands in them
+-- some columns of a line, and the text that stands in them
 pub record Column : Type 0 where
   pub width : ℕ
   pub text : List ℕ
@@ -69,7 +69,7 @@ jobColumns S j =
 abbrev pub setRight : Column → List ℕ
 setRight c = rightSet (c .width) (c .text)
 
--- a line of so many columns, and its end
+-- a line of these columns, and its end
 unfoldable pub line : List Column → List ℕ
 line cs = pad pageColumns space (flatMap setRight cs) ++ (10 ∷ [])
 

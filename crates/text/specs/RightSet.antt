@@ -11,7 +11,7 @@ use Rattle.text.specs.WrittenBytes.{Wrote, wrote, with-room, and-then}
 abbrev pub space : ℕ
 space = 32
 
--- so many columns: spaces, and then the text
+-- this many columns: spaces, and then the text
 unfoldable pub rightSet : ℕ → List ℕ → List ℕ
 rightSet width t = replicate (width - length t) space ++ t
 

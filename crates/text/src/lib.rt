@@ -19,7 +19,7 @@ const NEWLINE: u8 = 10;
 
 const SPACE: u8 = 32;
 
-// The place of the first such byte at or after a place, or the end. A place past the end is given back.
+// The place of the first such byte at or after a place; otherwise the end. A place past the end is given back as it is.
 fn find_byte(s: &[u8], from: usize, byte: u8) -> usize
     ensures { λ r. ⌜ r ≡ from + length (upto byte (drop from (now (s .entry)))) ⌝ }
 {
@@ -194,7 +194,7 @@ pub fn is_word(part: &[u8], word: &[u8]) -> bool
     true
 }
 
-// The writers write at a place, where the caller has room, and give back the place after what they wrote.
+// Each writer writes at a place, where the caller has room, and gives back the place after what it wrote.
 pub fn put_byte(out: &mut [u8], at: usize, byte: u8) -> usize
     requires { ⌜ at + 1 ≤ length (now out) ⌝ }
     ensures { λ r. ⌜ (r ≡ at + 1) × (now (out .exit) ≡ sets (now (out .entry)) at (byte ∷ [])) ⌝ }
@@ -257,7 +257,7 @@ pub fn put_spaces(out: &mut [u8], at: usize, count: usize) -> usize
     at + i
 }
 
-// Right-set in so many columns.
+// Right-set in `width` columns.
 pub fn put_word_right(out: &mut [u8], at: usize, width: usize, word: &[u8]) -> usize
     requires { ⌜ (length (now word) ≤ width) × (at + width ≤ length (now out)) ⌝ }
     ensures { λ r. ⌜ Wrote width (now (out .entry)) at (rightSet width (now (word .entry))) (now (out .exit)) r ⌝ }
@@ -291,14 +291,14 @@ pub fn next_line(text: &[u8], from: usize) -> Line
     }
 }
 
-// How a text begins: it is empty, it is too long or its first line is not closed, or that line ends at a place.
+// How a text begins: it is empty; it is too long or its first line is not closed; or that line ends at a place.
 pub enum Begins {
     Nothing,
     Malformed,
     Line(usize),
 }
 
-// The first line of a text that may have so many bytes.
+// The first line of a text that may have `longest` bytes.
 pub fn first_line(text: &[u8], longest: usize) -> Begins
     ensures { λ r. ⌜ r ≡ beginsOf longest (now (text .entry)) ⌝ }
 {

@@ -41,7 +41,7 @@ wallTime-mono d e l =
     (λ a b. by-band (λ v. v ≤ roundUp e 30) d (λ c. omega arith) (λ c k. omega arith) (λ c k. omega arith) (λ c. omega arith))
     (λ a. wallTime-le d)
 
--- e is the largest estimate whose wall time is within so many minutes; an estimate of 0 has none
+-- e is the largest estimate whose wall time is within this many minutes; an estimate of 0 has none
 pub record LongestWithin (minutes e : ℕ) : Type 0 where
   pub to : e ≤ longest
   pub within : wallTime e ≤ minutes

@@ -21,7 +21,7 @@ const BANDS: [Band; 3] = [
     },
 ];
 
-// By the first band that reaches the estimate: rounded up to a multiple of its width. Past the last band, that band's end.
+// The first band that reaches the estimate rounds it up to a multiple of its width. Past the last band it is that band's end.
 pub fn wall_time(estimate: u32) -> u32
     ensures { λ r. ⌜ r ≡ wallTime estimate ⌝ }
 {
@@ -37,7 +37,7 @@ pub fn wall_time(estimate: u32) -> u32
     last.end
 }
 
-// The largest estimate whose wall time is within so many minutes, 0 if none is: rounded down, by the band that reaches them.
+// The largest estimate whose wall time is within this many minutes; 0 if there is none. The band that reaches the minutes rounds them down.
 pub fn longest_within(minutes: u32) -> u32
     ensures { λ r. ⌜ LongestWithin minutes r ⌝ }
 {

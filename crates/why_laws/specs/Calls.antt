@@ -1,6 +1,6 @@
 -- Document 02, No. 14, over lists of calls: "Where the rule on gaps holds, the holders' nodes plus its own exceed the rack." From every opening the
--- rule holds after every list of calls; on a desk read back "from its first early end or withdrawal" (No. 11); and after every list of calls on the
--- scheduler that the change from EASY hands back (No. 12).
+-- rule holds after every list of calls. On a desk read back it holds "from its first early end or withdrawal" (No. 11). On the scheduler that the
+-- change from EASY hands back it holds after every list of calls (No. 12).
 -- Assumes nothing.
 use mathlib.Core.Path.{_≡_, ap, subst, _∙_}
 use mathlib.Core.Bool.{true}
@@ -30,7 +30,7 @@ use Rattle.guarantees.specs.Migration.{changed-kind, around-change}
 use Rattle.why_rules.specs.Why.{findingOf}
 use Rattle.why_laws.specs.Holders.{holderNodes, holders-exceed}
 
--- of each waiting job the holders' nodes and its own are more than there are
+-- for each waiting job, the holders' nodes and its own are more than there are
 abbrev pub Exceeds : Model → Type 0
 Exceeds m = (j : Job) → In j (m .jobs) → isWaiting j ≡ true → m .settings .nodes < sum holderNodes (findingOf m j .holders) + j .nodes
 

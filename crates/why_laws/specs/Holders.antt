@@ -1,5 +1,5 @@
--- Who is named as a holder: exactly the jobs that hold nodes in that minute, by running, clearing or plan, in ticket order, and never the job
--- itself. And where no gap is left, their nodes and its own are more than there are.
+-- Who is named as a holder: exactly the jobs that hold nodes in that minute, by running, cleanup or plan, in ticket order, and never the job
+-- itself. If no gap is left, their nodes and its own are more than there are.
 -- Assumes nothing.
 use Prim.Native.Nat.{ℕ, suc, _+_, _≤_, _<_}
 use native.Mathlib.Omega.{arith}
@@ -37,17 +37,17 @@ holds-taken S t j e =
 taken-holds : (S : Settings) (t : ℕ) (j : Job) → Taken S t j → holdsIn S t j ≡ true
 taken-holds S t j h = rw (le-leb (j .start) t (h .0), lt-ltb t (until S j) (h .1))
 
--- ## By running, clearing or plan: of a valid model, in a minute that is now or later
+-- ## By running, cleanup or plan: of a valid model, in a minute that is now or later
 
 module _ (m : Model) (v : Valid m) (t : ℕ) (l : m .clock ≤ t) (j : Job) (i : In j (m .jobs)) where
   begun : isHolding j ≡ true → j .start ≤ t
   begun h = omega (arith, v .sound .each j i .holds h)
 
-  -- a job that runs, until its run and the clearing after it are over
+  -- a job that runs, until its run and the cleanup after it are over
   pub held-by-running : isRunning j ≡ true → holdsIn (m .settings) t j ≡ ltb t (j .start + holdTime (m .settings) (j .estimate))
   held-by-running r = rw (le-leb (j .start) t (begun (running-holds (j .state) r)), until-is (m .settings) j (running-clean (j .state) r))
 
-  -- a job that is being cleared, until that is over
+  -- a job in cleanup, until that is over
   pub held-by-clearing : isCleaning j ≡ true → holdsIn (m .settings) t j ≡ ltb t (j .end + cleanup (m .settings))
   held-by-clearing c = rw (le-leb (j .start) t (begun (cleaning-holds (j .state) c)), until-cleaning (m .settings) j c)
 

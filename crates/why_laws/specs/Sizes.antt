@@ -1,5 +1,5 @@
--- How long the text is at most: of every valid model, of either kind. Whoever lends so many bytes is never refused by 10 (document 01: "the lent list,
--- page or text is shorter than what goes into it").
+-- How long the text is at most, for every valid model of either kind. A caller who lends this many bytes is never refused by 10 (document 01: "the
+-- lent list, page or text is shorter than what goes into it").
 -- Assumes nothing.
 use mathlib.Core.Path.{_≡_, refl, sym, ap, _∙_}
 use mathlib.Core.Bool.{Bool, true, false}
@@ -43,13 +43,13 @@ keep-fewer p (x ∷ xs) {a} i e = go (in-cons i) (λ k. keep-fewer p xs k e)
     go (inl q) f = rw (sym (ap p q) ∙ e) (omega (arith, length-keep-le p xs))
     go (inr k) f = case (p x) (λ q. rw q (omega (arith, f k))) (λ q. rw q (omega (arith, f k)))
 
--- texts of so many bytes at most, one after another
+-- texts of at most this many bytes, one after another
 flat-size : {A : Type 0} (f : A → List ℕ) (n : ℕ) (xs : List A) → ((x : A) → In x xs → length (f x) ≤ n) → length (flatMap f xs) ≤ n * length xs
 unfolding flatMap
 flat-size f n [] a = omega arith
 flat-size f n (x ∷ xs) a = omega (arith, length-append (f x) (flatMap f xs), a x (here refl), flat-size f n xs (λ y i. a y (there i)))
 
--- a number of so many digits at most, and what follows
+-- a number of at most this many digits, and what follows
 number-size : (v d : ℕ) (xs : List ℕ) → length (decimalOf v) ≤ d → length (decimalOf v ++ xs) ≤ d + length xs
 number-size v d xs h = omega (arith, length-append (decimalOf v) xs)
 

@@ -37,7 +37,7 @@ pub worked-example : whyText (machine Conservative 0 0 (job 1 6 20 Running 0 ∷
 unfolding flatMap decimalBy decimalOf cleanup runTime holdTime until findingOf holderText sentence whyText
 worked-example = refl
 
--- nodes are cleared for 5 minutes: the run of 1 is over since minute 12, and its nodes are free from 17 on
+-- with 5 minutes of cleanup: the run of 1 has been over since minute 12, and its nodes are free from 17 on
 pub clearing-holds : whyText (machine Conservative 5 14 (cleaning 12 (job 1 7 60 Running 0) ∷ job 2 3 20 Running 4 ∷ job 3 6 10 Waiting 17 ∷ job 4 9 5 Waiting 32 ∷ []))
     ≡ flatMap bytes (
     "stack 3 waits, minute 16, 1 with 7, 2 with 3\n"

@@ -17,7 +17,7 @@ use Rattle.scheduler.specs.declared.Job.{Job}
 use Rattle.scheduler.specs.Jobs.{isWaiting}
 use Rattle.why_rules.specs.Why.{minuteBefore}
 
--- a word and a number, and once more
+-- a word and a number, twice
 abbrev pub pairText : (first : List ℕ) (v : ℕ) (second : List ℕ) (w : ℕ) → List ℕ
 pairText first v second w = first ++ (decimalOf v ++ (second ++ decimalOf w))
 
@@ -38,7 +38,7 @@ module _ (t : ℕ) (tickets held froms untils : List ℕ) where
   abbrev pub rowAt : ℕ → List ℕ
   rowAt i = rowText t (getD tickets i 0) (getD held i 0) (getD froms i 0) (getD untils i 0)
 
-  -- the holders among the first so many jobs
+  -- the holders among the first n jobs
   unfoldable pub rowsText : ℕ → List ℕ
   rowsText zero = []
   rowsText (suc i) = rowsText i ++ rowAt i

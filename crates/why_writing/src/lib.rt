@@ -27,8 +27,8 @@ pub const PAGE: usize = 74752;
 
 const NEWLINE: u8 = 10;
 
-// The writers write at a place, where the page has room for exactly what they write, and give back the place after it. A word and a number, and once
-// more.
+// Each writer writes at a place, where the page has room for exactly what it writes, and gives back the place after it. This one writes a word and
+// a number, twice.
 fn put_pair(page: &mut [u8], at: usize, first: &[u8], v: u32, second: &[u8], w: u32) -> usize
     requires { ⌜ Room (now page) at (pairText (now first) v (now second) w) ⌝ }
     ensures { λ r. ⌜ Writes (now (page .entry)) at (pairText (now (first .entry)) v (now (second .entry)) w) (now (page .exit)) r ⌝ }
@@ -86,7 +86,7 @@ fn put_holders(
     p
 }
 
-// The sentence of a job with this ticket, of this minute.
+// The sentence for a job with this ticket, about this minute.
 fn put_sentence(
     page: &mut [u8],
     at: usize,
@@ -108,7 +108,7 @@ fn put_sentence(
     text::put_byte(page, b, NEWLINE)
 }
 
-// The sentence of a slot: only a waiting job has one, of the minute just before its start.
+// The sentence of a slot: only a waiting job has one, about the minute just before its start.
 fn put_slot(
     page: &mut [u8],
     at: usize,
@@ -141,7 +141,7 @@ fn put_slot(
     at
 }
 
-// The tickets of the live jobs, in order: so many.
+// The tickets of the first `count` live jobs, in order.
 fn survey_tickets(d: Scheduler, tickets: &mut [u32; 64], count: usize)
     requires { ⌜ Holds Sound d × Blank (now tickets) × (length (view d .jobs) ≡ count) ⌝ }
     ensures { λ _. ⌜ Column ticketOf (view d .jobs) (now (tickets .exit)) ⌝ }
@@ -174,7 +174,7 @@ fn put_sentences(page: &mut [u8], d: Scheduler) -> usize
     at
 }
 
-// Why each waiting job waits, from the first byte on: nothing on EASY.
+// Why each waiting job waits, from the first byte on. EASY writes nothing.
 pub fn put_why(page: &mut [u8], d: Scheduler) -> usize
     requires { ⌜ Premise d × (whyBytes ≤ length (now page)) ⌝ }
     ensures { λ r. ⌜ Wrote whyBytes (now (page .entry)) 0 (whyText (view d)) (now (page .exit)) r ⌝ }

@@ -1,4 +1,4 @@
--- `job_table::expire` meets its contract: those that stay are written over the first slots, and the slots after them cleared.
+-- `job_table::expire` meets its contract: those that stay are written over the first slots, and the slots after them become unused.
 -- Assumes nothing.
 use Prim.Native.Nat.{_+_, _-_, _≤_, _<_}
 use native.Mathlib.Omega.{arith}

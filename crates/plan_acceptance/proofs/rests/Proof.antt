@@ -11,7 +11,7 @@ use Rattle.plan_acceptance.specs.Queue.{boundAt, bound-past, bound-kept}
 use Rattle.plan_acceptance.proofs.rests.Statement.{statement}
 use Rattle.plan_acceptance.proofs.rests.Tie as tie
 
--- so many units are no more than 64 of the longest
+-- this many units are no more than 64 of the longest
 product : (u : tie.After-unit) (n : ℕ) → n ≤ 64 → n * u .unit .result ≤ 647040
 product u n l = omega (arith, ap (λ (k : ℕ). n * k) (u .unit .ensures), units-le (u .before .args .settings) n 64 l)
 

@@ -101,7 +101,7 @@ less : (n : tie.After-next-turn Inv-loop μ-loop) {after : List ℕ} {end : ℕ}
     season-player (a .list .now) .weight p < turnsLeft (seasonOf (a .list .now) (place (going (l .at) (l .above) (l .highest) (l .d)) (l .arrivals) (l .actuals)))
 less n t = filling-less (n .before .before .before .before .before .before .loop .inv .0) (some-left _) t
 
--- ## A job ends at its true run length
+-- ## A job ends at its actual run length
 
 -- its slot
 slot-of : (c : tie.After-coming Inv-loop μ-loop) → c .coming .given .0 .0 < 64

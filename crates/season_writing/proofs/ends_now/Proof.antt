@@ -15,7 +15,7 @@ use Rattle.scheduler.specs.Settings.{runTime}
 use Rattle.season_writing.proofs.ends_now.Statement.{statement}
 use Rattle.season_writing.proofs.ends_now.Tie as tie
 
--- its true end is in another minute
+-- its actual end is in another minute
 other : (job : Job) (S : Settings) (actual clock : ℕ) → (job .start + actual ≡ clock → ⊥)
     → false ≡ (isRunning job && (ltb actual (runTime S (job .estimate)) && eqb (job .start + actual) clock))
 other job S actual clock n =

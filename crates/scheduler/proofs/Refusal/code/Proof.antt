@@ -1,4 +1,4 @@
--- `Refusal::code` meets its contract: each number is that of the refusal told.
+-- `Refusal::code` meets its contract: each number is that of its refusal.
 -- Assumes nothing.
 use borrow.Author.Needs.{needs}
 use Rattle.scheduler.proofs.Refusal.code.Statement.{statement}
