@@ -1,9 +1,9 @@
 #!/usr/bin/env python3
 """ends.py PLAIN PROVED SHEET: what early ends of a conservative sheet cost, in instructions.
 
-Prints how many there are; of the plain program the mean and the most, of all of them; then the mean of MEAN ends spread over the sheet,
-and the most among the WORST that cost the plain program most, of both programs. A single end is the sheet cut after its line less the
-sheet cut before it, so that reading and printing its line is included; PROVED may be -, and is left out then."""
+Prints how many there are, and the mean and the highest cost of all of them for the plain program. Then, for both programs, the mean of MEAN
+ends spread over the sheet, and the highest among the WORST that cost the plain program most. The cost of one end is that of the sheet cut after
+its line less that of the sheet cut before it, so that reading and printing its line is included. If PROVED is -, it is left out."""
 import os
 import re
 import subprocess

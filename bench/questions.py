@@ -1,9 +1,9 @@
 #!/usr/bin/env python3
 """questions.py RACK SHEETS LIVE: what the next job's questions cost a host whose desk has LIVE - 1 live jobs, in instructions.
 
-Prints how many questions were asked and of these how many gave an estimate below 10,080 and how many none; then, in instructions, the
-submission that makes the jobs LIVE, `soonest` of the last job that waits, and of `longest` the mean and the most. A line is the script with it
-less the script without it, so that reading and printing it is included. RACK is the command, SHEETS has the sheets of heavy.py."""
+Prints how many questions were asked, how many of them gave an estimate below 10,080, and how many gave none. Then, in instructions, the
+submission that makes the jobs LIVE, `soonest` for the last waiting job, and the mean and the highest of `longest`. The cost of a line is that of
+the script with it less that of the script without it, so that reading and printing it is included. RACK is the command, SHEETS has the sheets of heavy.py."""
 import subprocess
 import sys
 

@@ -1,7 +1,7 @@
 //! The proved schedulers for a host program in Rust. `../include/hingerota.h` says what each call gives and promises.
 //!
-//! A [`Desk`] is opaque: it is made by an opening, read back from its lines or taken from numbers that were checked, and changed by calls
-//! alone, and a call borrows it, so that the premise of the proofs is met by every program that compiles without `unsafe` of its own.
+//! A [`Desk`] is opaque. An opening makes it, or it is read back from its lines, or taken from numbers that were checked. Only calls change
+//! it, and a call borrows it. So every program that compiles without `unsafe` of its own meets the premise of the proofs.
 
 #[cfg(test)]
 mod layout;
@@ -13,7 +13,7 @@ pub use raw::{Amendment, Answer, Block, Earliest, Inquiry, Longest, Opening, Ord
 /// The list of points that always suffices.
 pub const MOST_POINTS: usize = 129;
 
-/// So many points a block of the index has; the last may have fewer.
+/// How many points a block of the index has; the last may have fewer.
 pub const BLOCK_POINTS: usize = 16;
 
 /// The list of blocks that always suffices.
@@ -37,9 +37,9 @@ pub const TENANT_B: u32 = b'B' as u32;
 /// Which rules a desk follows.
 #[derive(Clone, Copy, PartialEq, Eq, Debug)]
 pub enum Kind {
-    /// Conservative backfilling: every job is told the minute by which it starts.
+    /// Conservative backfilling: every job gets a promise, a minute by which it starts.
     Promise,
-    /// EASY backfilling: the first waiting job is told it.
+    /// EASY backfilling: the first waiting job gets a forecast.
     Loose,
 }
 
@@ -48,8 +48,8 @@ pub struct Desk {
     raw: raw::Desk,
 }
 
-/// A refused opening, or a text that is refused: its number, and the desk that it hands back, of 1 node, at minute 0, with first ticket 1,
-/// cleanup 0 and quotas of 63 and 1.
+/// A refused opening or a refused text: its number, and the desk that it hands back, with 1 node, minute 0, first ticket 1, cleanup 0 and
+/// quotas of 63 and 1.
 pub struct RefusedOpening {
     pub refusal: u32,
     pub desk: Desk,
@@ -110,10 +110,10 @@ impl Desk {
         unsafe { raw::hingerota_cancel(&mut self.raw, ticket) }
     }
 
-    /// The order of a waiting job is corrected; refused by 11, 1, 2 or 19. Where neither its nodes nor its estimate rounded up grow, it waits
-    /// on under its ticket and keeps its promise, or on a Loose Desk its bound and its forecast; then it and the others move as after a
-    /// withdrawal. Where either grows, it is withdrawn and its order submitted with a new ticket, which the answer has; where that is
-    /// refused, by 5 or 6, everything is as it was.
+    /// The order of a waiting job is corrected; refused by 11, 1, 2 or 19. If neither its nodes nor its estimate rounded up grow, it waits on
+    /// under its ticket and keeps its promise, or on a Loose Desk its bound and its forecast. Then all waiting jobs move as after a
+    /// withdrawal. If either grows, the job is withdrawn and its order submitted with a new ticket, which the answer has. If that submission
+    /// is refused, by 5 or 6, everything stays as it was.
     pub fn amend(&mut self, amendment: Amendment) -> Answer {
         unsafe { raw::hingerota_amend(&mut self.raw, amendment) }
     }
@@ -123,9 +123,9 @@ impl Desk {
         unsafe { raw::hingerota_tick(&mut self.raw) }
     }
 
-    /// A Loose Desk becomes a Promise Desk while jobs run; a Promise Desk stays as it is. It is never refused, and nobody ends or starts. Jobs
-    /// that wait are planned in the order of tickets, and each is promised the minute for which it is planned: the first one's is no later
-    /// than its forecast was, and every one's no later than its bound was.
+    /// A Loose Desk becomes a Promise Desk while jobs run; a Promise Desk stays as it is. It is never refused, and no job ends or starts.
+    /// Waiting jobs are planned in ticket order, and each is promised the minute for which it is planned. The first job's promise is no later
+    /// than its forecast was, and every promise is no later than the job's bound was.
     pub fn migrate(&mut self) {
         unsafe { raw::hingerota_migrate(&mut self.raw) }
     }
@@ -141,20 +141,19 @@ impl Desk {
         unsafe { raw::hingerota_index(&self.raw, blocks.as_mut_ptr(), blocks.len()) }
     }
 
-    /// Why a wait of `minutes` is refused, by 2 or 6, or 0 where it is not: it is then that number of ticks.
+    /// The number by which a wait of `minutes` is refused, 2 or 6. 0 means that it is not refused: then it is that number of ticks.
     pub fn wait_refusal(&self, minutes: u32) -> u32 {
         unsafe { raw::hingerota_wait_refusal(&self.raw, minutes) }
     }
 
-    /// The earliest minute at which a waiting job can start, if every running one is over at its least and no other waits; refused by 11.
-    /// Whatever calls follow, it never starts before, unless its order is corrected.
+    /// The earliest minute at which a waiting job can start, if every running job is over at its least and no other job waits; refused by 11.
+    /// Whatever calls follow, the job never starts before, unless its order is corrected.
     pub fn earliest_start(&self, ticket: u32) -> Earliest {
         unsafe { raw::hingerota_earliest_start(&self.raw, ticket) }
     }
 
     /// The largest estimate with which a submission of these nodes, of this tenant, would now be promised the minute wanted or an earlier
-    /// one, 0 where there is none; refused by 21, 14, 1, 15, 5 or 6. Of a Promise Desk alone: on a Loose Desk it is 0, and nothing is
-    /// refused.
+    /// one; 0 if there is none. Refused by 21, 14, 1, 15, 5 or 6. On a Loose Desk it is 0, and nothing is refused.
     pub fn longest_estimate(&self, inquiry: Inquiry) -> Longest {
         unsafe { raw::hingerota_longest_estimate(&self.raw, inquiry) }
     }
@@ -165,9 +164,9 @@ impl Desk {
         unsafe { raw::hingerota_status_page(&self.raw, page.as_mut_ptr(), page.len()) }
     }
 
-    /// Why jobs of a Promise Desk wait: a sentence for each that does, as `stack 3 waits, minute 29, 2 with 8` and a line end, with the jobs
-    /// that hold nodes in the minute just before its start. Of a Loose Desk there is none. Into the front of the bytes lent; refused by 10.
-    /// The exact length is enough, and `WHY_BYTES` always are. Bytes past the sentences keep what they held.
+    /// Why jobs of a Promise Desk wait, into the front of the bytes lent: one sentence per waiting job, such as `stack 3 waits, minute 29, 2
+    /// with 8` and a line end, with the jobs that hold nodes in the minute just before its start. A Loose Desk has none. Refused by 10. The
+    /// exact length is enough, and `WHY_BYTES` always are. Bytes past the sentences keep what they held.
     pub fn why(&self, text: &mut [u8]) -> Shown {
         unsafe { raw::hingerota_why(&self.raw, text.as_mut_ptr(), text.len()) }
     }
@@ -204,17 +203,17 @@ impl Desk {
         self.raw.nodes
     }
 
-    /// For so many minutes after a run its nodes stay taken.
+    /// For how many minutes nodes stay taken after a run.
     pub fn cleanup(&self) -> u32 {
         self.raw.cleanup
     }
 
-    /// So many live jobs A may have.
+    /// How many live jobs A may have.
     pub fn quota_a(&self) -> u32 {
         self.raw.quota_a
     }
 
-    /// So many live jobs B may have.
+    /// How many live jobs B may have.
     pub fn quota_b(&self) -> u32 {
         self.raw.quota_b
     }
@@ -228,13 +227,13 @@ impl Desk {
         self.raw.next
     }
 
-    /// All 64 places: the live jobs first, in the order of their tickets, then unused ones, all 0.
+    /// All 64 places: the live jobs first, in ticket order, then unused ones, all 0.
     pub fn records(&self) -> &[Record; 64] {
         &self.raw.jobs
     }
 }
 
-/// What a call writes into so many bytes, which always suffice.
+/// What a call writes into `bytes` bytes, which always suffice.
 fn written(bytes: usize, write: impl Fn(&mut [u8]) -> Shown) -> Vec<u8> {
     let mut text = vec![0; bytes];
     let shown = write(&mut text);
@@ -249,7 +248,7 @@ impl Record {
 }
 
 impl Numbers {
-    /// 0 exactly if these are the numbers of a desk that meets the premise, and 23 if not.
+    /// 0 exactly if these are the numbers of a desk that meets the premise, otherwise 23.
     pub fn check(&self) -> u32 {
         // SAFETY: it is a whole desk, only read, and any numbers may stand in it.
         unsafe { raw::hingerota_check(self) }

@@ -1,18 +1,18 @@
-//! The structs and functions of `include/hingerota.h`. `layout.rs` holds their layouts to those of the header.
+//! The structs and functions of `include/hingerota.h`. `layout.rs` compares their layouts with those of the header.
 
 /// What a desk is opened with.
 #[repr(C)]
 #[derive(Clone, Copy, PartialEq, Eq, Debug)]
 pub struct Opening {
-    /// Of the machine.
+    /// The machine's nodes.
     pub nodes: u32,
-    /// At which its clock stands.
+    /// The minute at which the clock begins.
     pub minute: u32,
-    /// The first to be given.
+    /// The first ticket to be given.
     pub ticket: u32,
-    /// For so many minutes after a run its nodes stay taken, 0 to 30.
+    /// For how many minutes nodes stay taken after a run, 0 to 30.
     pub cleanup: u32,
-    /// So many live jobs each tenant may have: at least 1, and 64 together.
+    /// How many live jobs each tenant may have: at least 1, and both sum to 64.
     pub quota_a: u32,
     pub quota_b: u32,
 }
@@ -30,11 +30,11 @@ pub struct Order {
     pub least: u32,
 }
 
-/// What is asked anew for a job that waits.
+/// A corrected order for a waiting job.
 #[repr(C)]
 #[derive(Clone, Copy, PartialEq, Eq, Debug)]
 pub struct Amendment {
-    /// Of the job.
+    /// The ticket of the job.
     pub ticket: u32,
     pub nodes: u32,
     /// The most that it runs, in minutes.
@@ -43,14 +43,14 @@ pub struct Amendment {
     pub least: u32,
 }
 
-/// What is asked of a job before it is submitted: how long may it be to start by this minute?
+/// The question how long a job may be to start by this minute, asked before it is submitted.
 #[repr(C)]
 #[derive(Clone, Copy, PartialEq, Eq, Debug)]
 pub struct Inquiry {
     pub nodes: u32,
     /// `TENANT_A` or `TENANT_B`.
     pub tenant: u32,
-    /// The one wanted.
+    /// The wanted minute.
     pub minute: u32,
 }
 
@@ -68,17 +68,17 @@ pub struct Record {
     pub least: u16,
     pub start: u32,
     pub promise: u32,
-    /// Of a job in cleanup, the minute in which its run ended; 0 of others.
+    /// For a job in cleanup, the minute in which its run ended; otherwise 0.
     pub end: u32,
     /// On a Loose Desk, the minute of its submission; 0 on a Promise Desk.
     pub submitted: u32,
-    /// On a Loose Desk, 1 and the number of jobs that waited just before its submission; 0 on a Promise Desk.
+    /// On a Loose Desk, one more than the number of jobs that waited just before its submission; 0 on a Promise Desk.
     pub rank: u32,
-    /// On a Loose Desk, the forecast that it heard, if any; else 0.
+    /// On a Loose Desk, its forecast if it has one; otherwise 0.
     pub forecast: u32,
 }
 
-/// A desk in numbers, as a host in C has it. Any numbers may stand here, also such as no desk has.
+/// A desk in numbers, as a host in C has it. Any numbers may stand here, also numbers that no desk has.
 #[repr(C)]
 #[derive(Clone, Copy, PartialEq, Eq, Debug)]
 pub struct Desk {
@@ -128,7 +128,7 @@ pub struct Point {
     pub free: u32,
 }
 
-/// Of a block of points, the fewest and the most nodes that are free.
+/// The fewest and the most free nodes of a block of points.
 #[repr(C)]
 #[derive(Clone, Copy, PartialEq, Eq, Debug)]
 pub struct Block {
@@ -149,7 +149,7 @@ pub struct Shown {
 #[must_use = "a call may be refused"]
 pub struct Earliest {
     pub refusal: u32,
-    /// 0 where it is refused.
+    /// 0 if it is refused.
     pub minute: u32,
 }
 
@@ -158,7 +158,7 @@ pub struct Earliest {
 #[must_use = "a call may be refused"]
 pub struct Longest {
     pub refusal: u32,
-    /// 0 where there is none, where it is refused, and on a Loose Desk.
+    /// 0 if there is none, if it is refused, and on a Loose Desk.
     pub estimate: u32,
 }
 

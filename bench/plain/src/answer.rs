@@ -1,4 +1,4 @@
-//! What a call gives: refusals by number, and the events of calls that are taken, told as they happen.
+//! What a call gives: refusals by number, and the events of accepted calls, reported as they happen.
 
 #[derive(Clone, Copy, PartialEq, Eq, Debug)]
 pub enum Refusal {

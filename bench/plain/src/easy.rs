@@ -1,4 +1,4 @@
-//! EASY backfilling: only the first waiting job, the head, gets a forecast; later ones pass it where that does not delay it.
+//! EASY backfilling: only the first waiting job, the head, gets a forecast; later ones pass it if that does not delay it.
 
 use crate::answer::{Events, Refusal};
 use crate::limits::*;

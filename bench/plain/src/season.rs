@@ -1,4 +1,4 @@
-//! A season: a list of jobs with their arrivals and true run lengths, played through either scheduler from minute 0 until all are gone.
+//! A season: a list of jobs with their arrivals and actual run lengths, played through either scheduler from minute 0 until all are gone.
 
 use crate::answer::{Events, Printout, Refusal};
 use crate::limits::*;
@@ -83,7 +83,7 @@ struct Season<'a> {
 }
 
 impl Season<'_> {
-    /// The next minute in which the scheduler has something to do, or a true length is over.
+    /// The next minute in which the scheduler has something to do, or an actual run length is over.
     fn due(&self) -> Option<u32> {
         let end = self.jobs.ends.first().map(|(minute, _)| *minute);
         self.scheduler.due().into_iter().chain(end).min()
