@@ -16,7 +16,7 @@ struct Word {
 const WORDS: &[Word] = &[
     Word {
         form: "in NODES [LEAST] MOST HOUSE",
-        does: "a job of house A or B is submitted, to run from LEAST, or 0, to MOST minutes",
+        does: "submits a job of house A or B that runs for LEAST (or 0) to MOST minutes",
         play: |rack, fields, page| {
             let (house, rest) = fields.split_last().ok_or(LACKS_THE_FORM)?;
             let ([nodes, least, estimate], tenant) = (order(rest)?, letter(house)?);
@@ -28,7 +28,7 @@ const WORDS: &[Word] = &[
     },
     Word {
         form: "end TICKET",
-        does: "a running job is over before its time, at its least or later",
+        does: "ends a running job early, at its least or later",
         play: |rack, fields, page| {
             let [ticket] = numbers(fields)?;
             let answer = rack.desk.complete(ticket);
@@ -37,7 +37,7 @@ const WORDS: &[Word] = &[
     },
     Word {
         form: "drop TICKET",
-        does: "a waiting job is withdrawn",
+        does: "withdraws a waiting job",
         play: |rack, fields, page| {
             let [ticket] = numbers(fields)?;
             let answer = rack.desk.cancel(ticket);
@@ -46,7 +46,7 @@ const WORDS: &[Word] = &[
     },
     Word {
         form: "correct TICKET NODES [LEAST] MOST",
-        does: "a waiting job's order is corrected, under a new ticket if NODES or MOST, rounded up, grow",
+        does: "corrects a waiting job's order; it gets a new ticket if NODES or MOST, rounded up, grow",
         play: |rack, fields, page| {
             let (ticket, rest) = fields.split_first().ok_or(LACKS_THE_FORM)?;
             let (ticket, [nodes, least, estimate]) = (number(ticket)?, order(rest)?);
@@ -56,7 +56,7 @@ const WORDS: &[Word] = &[
     },
     Word {
         form: "wait MINUTES",
-        does: "MINUTES pass",
+        does: "lets MINUTES pass",
         play: |rack, fields, page| {
             let [minutes] = numbers(fields)?;
             taken(rack.desk.wait_refusal(minutes))?;
@@ -69,7 +69,7 @@ const WORDS: &[Word] = &[
     },
     Word {
         form: "change",
-        does: "a Loose Desk becomes a Promise Desk: prints took TICKET PROMISE, of the jobs that wait",
+        does: "turns a Loose Desk into a Promise Desk; prints took TICKET PROMISE for each waiting job",
         play: |rack, fields, page| {
             let [] = numbers(fields)?;
             let kind = rack.desk.kind();
@@ -80,7 +80,7 @@ const WORDS: &[Word] = &[
     },
     Word {
         form: "profile",
-        does: "of a Promise Desk: prints free MINUTE NODES, the nodes free from then on",
+        does: "prints one line per point: free MINUTE NODES (Promise Desk)",
         play: |rack, fields, page| {
             let [] = numbers(fields)?;
             let mut points = [Point { minute: 0, free: 0 }; MOST_POINTS];
@@ -92,7 +92,7 @@ const WORDS: &[Word] = &[
     },
     Word {
         form: "index",
-        does: "of a Promise Desk: prints block FEWEST MOST, the nodes free in 16 such lines",
+        does: "prints one line per 16 points: block FEWEST MOST, the free nodes (Promise Desk)",
         play: |rack, fields, page| {
             let [] = numbers(fields)?;
             let mut blocks = [Block { fewest: 0, most: 0 }; MOST_BLOCKS];
@@ -104,7 +104,7 @@ const WORDS: &[Word] = &[
     },
     Word {
         form: "reads",
-        does: "prints reads NUMBER, of such lines read to place the last job taken in",
+        does: "prints reads NUMBER: how many points the search for the last accepted job read",
         play: |rack, fields, page| {
             let [] = numbers(fields)?;
             page.reads(rack.reads);
@@ -113,7 +113,7 @@ const WORDS: &[Word] = &[
     },
     Word {
         form: "soonest TICKET",
-        does: "of a waiting job: prints soonest TICKET MINUTE, before which it never starts",
+        does: "prints soonest TICKET MINUTE: the waiting job never starts before MINUTE",
         play: |rack, fields, page| {
             let [ticket] = numbers(fields)?;
             page.earliest_start(ticket, &rack.desk.earliest_start(ticket))
@@ -121,7 +121,7 @@ const WORDS: &[Word] = &[
     },
     Word {
         form: "board",
-        does: "prints the page of the rack: 66 lines, a heading and a line a job",
+        does: "prints the status page: 66 lines, a heading and one line per job",
         play: |rack, fields, page| {
             let [] = numbers(fields)?;
             let mut bytes = [0; PAGE_BYTES];
@@ -133,7 +133,7 @@ const WORDS: &[Word] = &[
     },
     Word {
         form: "longest NODES HOUSE MINUTE",
-        does: "of a Promise Desk: prints longest ESTIMATE, up to which a job starts by then (- if none)",
+        does: "prints longest ESTIMATE: the longest job that starts by MINUTE, - if none (Promise Desk)",
         play: |rack, fields, page| {
             let [nodes, house, minute] = fields else {
                 return Err(LACKS_THE_FORM);
@@ -144,7 +144,7 @@ const WORDS: &[Word] = &[
     },
     Word {
         form: "why",
-        does: "of a Promise Desk: prints of each job that waits who holds nodes just before its start",
+        does: "prints one sentence per waiting job: who holds nodes just before its start (Promise Desk)",
         play: |rack, fields, page| {
             let [] = numbers(fields)?;
             page.written(&rack.desk.sentences());
@@ -162,7 +162,7 @@ const WORDS: &[Word] = &[
     },
     Word {
         form: "reread",
-        does: "the desk is written out and read back, and goes on from its lines",
+        does: "writes the desk out, reads it back and goes on from its lines",
         play: |rack, fields, _| {
             let [] = numbers(fields)?;
             rack.reread()
@@ -201,22 +201,23 @@ usage: rack <SCRIPT
        rack --help
 
 Plays a script on a desk, and prints what a line gives before it reads the next.
-A line is closed by byte 10, and its fields are parted by one tab.
-  --from FILE                             the desk is that of the lines in FILE, as text prints them; all lines of
-                                          the script are later ones. Lines that are refused end it
-  --check                                 plays no script: prints ok if the lines on standard input give a desk, or
-                                          no NUMBER: 22 if a line lacks the form, 23 if they break a condition
+Byte 10 closes a line, and one tab parts its fields.
+  --from FILE                             goes on from the desk whose lines FILE has, as text prints them. The script
+                                          has later lines only. If the lines are refused, it stops
+  --check                                 plays no script: prints ok if the lines on standard input give a desk. Otherwise
+                                          prints no NUMBER: 22 if a line lacks the form, 23 if they break a condition
 
 First line:
   desk promise|loose NODES MINUTE TICKET CLEANUP A B
-                                          opens the desk, at that minute, with that first ticket; after a run
-                                          nodes stay taken for CLEANUP minutes; of the 64 places for live jobs
-                                          house A has A and house B has B
+                                          opens the desk at MINUTE, with TICKET as the first ticket. After a run
+                                          nodes stay taken for CLEANUP minutes. House A has A of the 64 places for
+                                          live jobs, and house B has B
 Later lines:
 {later}Printed:
-  took TICKET PROMISE                     it starts by then (- on a Loose Desk)
-  over TICKET MINUTE, start TICKET MINUTE
-  head TICKET FORECAST                    on a Loose Desk: who waits first now, and starts by then
+  took TICKET PROMISE                     the job is accepted and starts by PROMISE (- on a Loose Desk)
+  over TICKET MINUTE                      the job's run has ended
+  start TICKET MINUTE                     the job has started
+  head TICKET FORECAST                    on a Loose Desk: the job now waits first, and starts by FORECAST
   no NUMBER                               the line is refused; 9 if it lacks the form
 A refused first line ends the script.
 "
