@@ -33,8 +33,8 @@ use Rattle.jobs.specs.Slots.{slots-are}
 use Rattle.easy_rules.specs.Easy.{avail}
 use Rattle.easy_rules.specs.EarliestStart.{overAtLeast, atLeast, earliestFor, earliestStart}
 use Rattle.easy_laws.specs.EarliestStart.{over-holding, over-nodes, least-held, least-releasing, earliest-now}
-use Rattle.easy_engine.specs.Survey.{Column, nodesOf, running, Holding, Held, Lacks}
-use Rattle.easy_engine.specs.Columns.{column-push}
+use Rattle.job_columns.specs.Columns.{Column, nodesOf, column-push}
+use Rattle.easy_engine.specs.Survey.{running, Holding, Held, Lacks}
 use Rattle.easy_engine.specs.SurveyLoop.{sum-first, slot-fits}
 
 -- the nodes of a job found; 0 where there is none

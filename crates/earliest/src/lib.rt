@@ -18,7 +18,7 @@ ghost use Rattle.jobs.specs.Soundness.{Sound};
 ghost use Rattle.jobs.specs.Premise.{Holds};
 ghost use Rattle.jobs.specs.Slots.{Low};
 ghost use Rattle.easy_rules.specs.EarliestStart.{overAtLeast, earliestFor, earliestStart};
-ghost use Rattle.easy_engine.specs.Survey.{Blank};
+ghost use Rattle.job_columns.specs.Columns.{Blank};
 ghost use Rattle.earliest.specs.Survey.{Surveyed, nodesIn};
 
 // The minute from which the nodes of a job that holds some are free, if it is over at its least, or now if that is past.

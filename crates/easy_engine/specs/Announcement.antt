@@ -24,7 +24,8 @@ use Rattle.easy_rules.specs.Easy.{queue, head, headIs, shadow, free, Settling, 
 use Rattle.lists.specs.FirstLaws.{head-keep}
 use Rattle.easy_laws.specs.EngineLaws.{settle-rests}
 use Rattle.easy_laws.specs.Validity.{Ready}
-use Rattle.easy_engine.specs.Survey.{Column, asksTo, SurveyRests, ticketIn, announced, Answers}
+use Rattle.job_columns.specs.Columns.{Column}
+use Rattle.easy_engine.specs.Survey.{asksTo, SurveyRests, ticketIn, announced, Answers}
 use Rattle.easy_engine.specs.Choices.{none-start}
 
 -- ## The forecast, by the ticket of the head before

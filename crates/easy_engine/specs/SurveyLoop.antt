@@ -30,9 +30,9 @@ use Rattle.jobs.specs.Slots.{sound-low, slots-are}
 use Rattle.easy_rules.specs.Easy.{queue, free}
 use Rattle.easy_laws.specs.Settling.{idle, sound-releasing}
 use Rattle.easy_laws.specs.Validity.{Ready}
-use Rattle.easy_engine.specs.Survey.{Column, Blank, nodesOf, fromOf, termOf, estimateOf, asks, running, WaitingColumns, Surveyed}
+use Rattle.job_columns.specs.Columns.{Column, Blank, nodesOf, estimateOf, column-push}
+use Rattle.easy_engine.specs.Survey.{fromOf, termOf, asks, running, WaitingColumns, Surveyed}
 use Rattle.easy_engine.specs.Survey.{SlotColumn, Passed, StartsInTime}
-use Rattle.easy_engine.specs.Columns.{column-push}
 
 -- a list of zeros
 pub blank : Blank (replicate slots 0)

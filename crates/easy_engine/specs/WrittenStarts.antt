@@ -29,7 +29,8 @@ use Rattle.jobs.specs.Order.{Asc}
 use Rattle.easy_rules.specs.Easy.{queue, choice, begun, mark, begin, settled}
 use Rattle.easy_laws.specs.Settling.{Settles, rest, start, settles, settles-rest, mark-ticket, asc-begin}
 use Rattle.easy_laws.specs.EngineLaws.{job-stored, begin-stored}
-use Rattle.easy_engine.specs.Survey.{Column, Settlement, Blank, SlotColumn, Passed, begins, Applies, Begins}
+use Rattle.job_columns.specs.Columns.{Column, Blank}
+use Rattle.easy_engine.specs.Survey.{Settlement, SlotColumn, Passed, begins, Applies, Begins}
 use Rattle.easy_engine.specs.declared.Settled.{Settled}
 use Rattle.easy_engine.specs.Shadows.{holding-few}
 

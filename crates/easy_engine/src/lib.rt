@@ -17,7 +17,8 @@ ghost use Rattle.scheduler.specs.Settings.{holdTime, until};
 ghost use Rattle.scheduler.specs.Table.{ticketOf};
 ghost use Rattle.scheduler.specs.Model.{Model};
 ghost use Rattle.easy_rules.specs.Easy.{head, avail, shadow, choice, forecast};
-ghost use Rattle.easy_engine.specs.Survey.{Column, estimateOf, asks, Held, Lacks, Surveyed, placeOf, jobIn, asksTo, mayPass};
+ghost use Rattle.job_columns.specs.Columns.{Column, estimateOf};
+ghost use Rattle.easy_engine.specs.Survey.{asks, Held, Lacks, Surveyed, placeOf, jobIn, asksTo, mayPass};
 ghost use Rattle.easy_engine.specs.Survey.{Begun, Settlement, StartsInTime, SurveyRests, ticketIn, announced, Announces, Unsettled};
 ghost use Rattle.easy_engine.specs.Survey.{headBefore, Answers};
 

@@ -33,8 +33,7 @@ use Rattle.jobs.specs.Slots.{Low}
 use Rattle.conservative_rules.specs.Conservative.{span, spans}
 use Rattle.conservative_laws.specs.Validity.{taken, used-jobs}
 use Rattle.easy_rules.specs.Easy.{queue}
-use Rattle.easy_engine.specs.Survey.{Column, nodesOf}
-use Rattle.easy_engine.specs.Columns.{column-at, column-push}
+use Rattle.job_columns.specs.Columns.{Column, nodesOf, column-at, column-push}
 use Rattle.checkpoint_rules.specs.Acceptance.{planOf}
 use Rattle.lists.specs.EveryLoop.{every-passed, every-failed, every-ended}
 

@@ -28,7 +28,8 @@ use Rattle.conservative_laws.specs.Validity.{taken, used-jobs}
 use Rattle.easy_rules.specs.Easy.{queue, free, freed, avail, shadow, extra, onChoice}
 use Rattle.easy_laws.specs.Settling.{Releasing, not-ended, shadow-from, shadow-to, shadow-suffices}
 use Rattle.easy_laws.specs.Course.{head-in}
-use Rattle.easy_engine.specs.Survey.{nodesOf, running, Held, Lacks}
+use Rattle.job_columns.specs.Columns.{nodesOf}
+use Rattle.easy_engine.specs.Survey.{running, Held, Lacks}
 use Rattle.checkpoint_rules.specs.Acceptance.{planOf, minutesFit}
 use Rattle.checkpoint_laws.specs.Stages.{ownPlan}
 use Rattle.lists.specs.EveryLoop.{everyFrom}

@@ -15,7 +15,7 @@ ghost use Rattle.scheduler.specs.Model.{view};
 ghost use Rattle.jobs.specs.Slots.{Low};
 ghost use Rattle.conservative_rules.specs.Conservative.{spans};
 ghost use Rattle.easy_rules.specs.Easy.{queue, onChoice};
-ghost use Rattle.easy_engine.specs.Survey.{Blank, nodesOf};
+ghost use Rattle.job_columns.specs.Columns.{Blank, nodesOf};
 ghost use Rattle.checkpoint_laws.specs.Stages.{ownPlan, recordsAccepted, planAccepted};
 ghost use Rattle.lists.specs.EveryLoop.{everyFrom};
 ghost use Rattle.plan_acceptance.specs.Plan.{planIn, inPlan, PlanLow, PlanColumns, Planned};

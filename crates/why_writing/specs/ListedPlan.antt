@@ -25,8 +25,7 @@ use Rattle.jobs.specs.Soundness.{Sound}
 use Rattle.jobs.specs.Premise.{Holds, holds-as}
 use Rattle.jobs.specs.Slots.{Low, sound-low, first-live}
 use Rattle.conservative_laws.specs.Validity.{Valid}
-use Rattle.easy_engine.specs.Survey.{Column, nodesOf}
-use Rattle.easy_engine.specs.Columns.{column-at, column-push}
+use Rattle.job_columns.specs.Columns.{Column, nodesOf, column-at, column-push}
 use Rattle.checkpoint_rules.specs.Acceptance.{planOf}
 use Rattle.plan_acceptance.specs.Plan.{planIn, PlanLow, PlanColumns, startOf}
 use Rattle.why_rules.specs.Why.{minuteBefore, holdsIn, holder, holdersIn, findingOf, findings, holderText, holdersText, sentence, sentences, whyBy, whyText}

@@ -12,7 +12,7 @@ ghost use Rattle.scheduler.specs.Model.{view};
 ghost use Rattle.jobs.specs.Soundness.{Sound};
 ghost use Rattle.jobs.specs.Premise.{Holds};
 ghost use Rattle.conservative_laws.specs.Validity.{Valid};
-ghost use Rattle.easy_engine.specs.Survey.{Column, Blank};
+ghost use Rattle.job_columns.specs.Columns.{Column, Blank};
 ghost use Rattle.guarantees.specs.Premise.{Premise};
 ghost use Rattle.why_rules.specs.Why.{findings, sentences, whyText};
 ghost use Rattle.why_laws.specs.Sizes.{whyBytes};

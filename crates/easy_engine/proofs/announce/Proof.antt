@@ -9,7 +9,7 @@ use Rattle.scheduler.specs.Jobs.{unused}
 use Rattle.scheduler.specs.Settings.{unit}
 use Rattle.scheduler.specs.Times.{unit-le}
 use Rattle.scheduler.specs.Table.{ticketOf}
-use Rattle.easy_engine.specs.Columns.{column-at}
+use Rattle.job_columns.specs.Columns.{column-at}
 use Rattle.easy_engine.specs.Choices.{nobody-waits, low, need-is, the-head, head-ticket, head-rests, head-lacks}
 use Rattle.easy_rules.specs.Easy.{shadow}
 use Rattle.easy_engine.specs.Survey.{announced}

@@ -11,7 +11,7 @@ use Rattle.scheduler.specs.Limits.{slots}
 use Rattle.scheduler.specs.Times.{hold-le}
 use Rattle.scheduler.specs.Jobs.{unused}
 use Rattle.easy_engine.specs.Survey.{fromOf, termOf, StartsInTime}
-use Rattle.easy_engine.specs.Columns.{column-at}
+use Rattle.job_columns.specs.Columns.{column-at}
 use Rattle.easy_engine.specs.SurveyLoop.{until-from, filled, from-there, fill-next, fill-done}
 use borrow.Author.Needs.{needs}
 use Rattle.easy_engine.proofs.fill_ends.Statement.{statement}

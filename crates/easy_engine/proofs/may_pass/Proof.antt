@@ -5,7 +5,7 @@ use mathlib.Core.Bool.{true, false}
 use lib.Dec.{leb}
 use Rattle.scheduler.specs.Settings.{holdTime}
 use borrow.Author.Tests.{le-leb, lt-leb}
-use Rattle.easy_engine.specs.Columns.{or-true, or-false}
+use Rattle.easy_engine.specs.Searches.{or-true, or-false}
 use borrow.Author.Needs.{needs}
 use Rattle.easy_engine.proofs.may_pass.Statement.{statement}
 use Rattle.easy_engine.proofs.may_pass.Tie as tie

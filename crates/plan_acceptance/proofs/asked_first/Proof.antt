@@ -12,7 +12,7 @@ use Rattle.scheduler.specs.declared.Job.{Job}
 use Rattle.scheduler.specs.Jobs.{unused, isWaiting}
 use Rattle.scheduler.proofs.Lengths.{whole}
 use Rattle.easy_rules.specs.Easy.{onChoice}
-use Rattle.easy_engine.specs.Survey.{nodesOf}
+use Rattle.job_columns.specs.Columns.{nodesOf}
 use Rattle.plan_acceptance.proofs.asked_first.Statement.{statement}
 use Rattle.plan_acceptance.proofs.asked_first.Tie as tie
 

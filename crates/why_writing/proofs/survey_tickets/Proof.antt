@@ -7,7 +7,7 @@ use lib.ListN.{take}
 use borrow.Author.Needs.{needs}
 use Rattle.scheduler.specs.Table.{ticketOf}
 use Rattle.scheduler.specs.Model.{view}
-use Rattle.easy_engine.specs.Survey.{Column}
+use Rattle.job_columns.specs.Columns.{Column}
 use Rattle.why_writing.specs.ListedPlan.{ticket-more, ticket-all}
 use Rattle.why_writing.proofs.survey_tickets.Statement.{statement}
 use Rattle.why_writing.proofs.survey_tickets.Tie as tie
