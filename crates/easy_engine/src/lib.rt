@@ -127,11 +127,12 @@ pub fn may_pass(
     settings.hold_time(estimate) <= room
 }
 
-// The place of the first job that may pass the head; the count if none may.
+// The place of the first job that may pass the head; the count if none may. The search begins at the first job that fits.
 fn forward(
     asked: &[u32; 64],
     estimates: &[u32; 64],
     waiting: usize,
+    fit: usize,
     spare: u32,
     extra: u32,
     room: u32,
@@ -140,9 +141,9 @@ fn forward(
     requires { ⌜ waiting ≤ slots ⌝ }
     ensures { λ r.
         ⌜ ((ws : List Job) → Column asks ws (now (asked .entry)) → Column estimateOf ws (now (estimates .entry)) → length ws ≡ waiting
-        → r ≡ placeOf (position (mayPass settings spare extra room) ws) waiting) ⌝ }
+        → fit ≡ placeOf (position (asksTo spare) ws) waiting → r ≡ placeOf (position (mayPass settings spare extra room) ws) waiting) ⌝ }
 {
-    let mut i: usize = 0;
+    let mut i = fit;
     while i < waiting {
         if may_pass(asked[i], estimates[i], spare, extra, room, settings) {
             return i;
@@ -186,7 +187,7 @@ fn choose(
     let minute = shadow(held, ends, running, spare, need, latest);
     let extra = avail_at(held, ends, running, spare, minute) - need;
     let room = minute - clock;
-    forward(asked, estimates, waiting, spare, extra, room, settings)
+    forward(asked, estimates, waiting, fit, spare, extra, room, settings)
 }
 
 // The job in this place starts now. It is added to those that run, asks for no more nodes, and its place is noted. Its nodes are returned.
