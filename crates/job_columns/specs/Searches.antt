@@ -12,7 +12,7 @@ use lib.ListN.{length, getD}
 use borrow.Author.Tests.{eqb-true, eq-eqb, ne-eqb}
 use Rattle.lists.specs.Tests.{case, le-or}
 use Rattle.lists.specs.Lists.{In, here, there, in-nil, in-cons, in-getD}
-use Rattle.lists.specs.Loops.{positionFrom, position}
+use Rattle.lists.specs.Loops.{positionFrom, position, position-says}
 use Rattle.scheduler.specs.declared.Job.{Job}
 use Rattle.scheduler.specs.Jobs.{unused}
 use Rattle.jobs.specs.Order.{Asc, asc-in}
@@ -23,6 +23,10 @@ use Rattle.jobs.specs.Order.{Asc, asc-in}
 abbrev pub placeOf : Option ℕ → ℕ → ℕ
 placeOf none k = k
 placeOf (some i) k = i
+
+pub place-some : (o : Option ℕ) (k r : ℕ) → r ≡ placeOf o k → r < k → o ≡ some r
+place-some none k r e l = absurd (omega arith)
+place-some (some i) k r e l = ap some (sym e)
 
 module _ {A : Type 0} (z : A) (p : A → Bool) where
   -- none before it passes, and it does
@@ -37,6 +41,13 @@ module _ {A : Type 0} (z : A) (p : A → Bool) where
   pub position-nowhere : (xs : List A) (k : ℕ) → ((n : ℕ) → n < length xs → p (getD xs n z) ≡ false) → positionFrom p k xs ≡ none
   position-nowhere [] k f = refl
   position-nowhere (x ∷ xs) k f = rw (f 0 (omega arith)) (position-nowhere xs (k + 1) (λ n h. f (suc n) (omega arith)))
+
+  pub place-none : (xs : List A) (k r : ℕ) → r ≡ placeOf (position p xs) k → length xs ≡ k → k ≤ r → position p xs ≡ none
+  place-none xs k r e n l = by (position p xs) refl e
+    where
+      by : (o : Option ℕ) → position p xs ≡ o → r ≡ placeOf o k → o ≡ none
+      by none q w = refl
+      by (some i) q w = let h = position-says z p xs 0 i q in absurd (omega (arith, h .at-is, h .inside))
 
 -- ## The place of a ticket
 
