@@ -1,5 +1,5 @@
--- What the exported calls share: answers and an order as flat types, `Outcome` as the struct of the answer and the desk, `ProfileOutcome` as that of a
--- count, the answer and the points (`Results.antt` of crate lent_lemmas).
+-- What the exported calls share: answers and an order as flat types, `Outcome` and `AdvanceOutcome` as the struct of the answer and the desk,
+-- `ProfileOutcome` as that of a count, the answer and the points (`Results.antt` of crate lent_lemmas).
 -- Assumes nothing.
 use Rattle.lent_lemmas.proofs.Thin.{Flat, FlatLaws, struct-flat, Two}
 use Rattle.lent_lemmas.proofs.Fills.{Sheet}
@@ -17,6 +17,9 @@ use Rattle.hingerota.proofs.Amendment.Laws as A′
 use Rattle.hingerota.proofs.Answer as N
 use Rattle.hingerota.proofs.Answer.Laws as N′
 use Rattle.hingerota.proofs.Outcome as S
+use Rattle.hingerota.proofs.Advanced as Z
+use Rattle.hingerota.proofs.Advanced.Laws as Z′
+use Rattle.hingerota.proofs.AdvanceOutcome as T
 use Rattle.hingerota.proofs.Earliest as E
 use Rattle.hingerota.proofs.Earliest.Laws as E′
 use Rattle.hingerota.proofs.Inquiry as J
@@ -49,6 +52,16 @@ amendment-laws = struct-laws A.the-type A′.the-laws A′.the-plain
 abbrev pub outcome-two : Two answer D.the-type D′.the-laws
 outcome-two = two-of N.the-type N′.the-laws N′.lowers (S.the-type .name) (S.the-type .D) (λ r. r .answer) D.the-type D′.the-laws D′.lowers (λ r. r .desk)
     (S.the-type .to-one)
+
+abbrev pub advanced : Flat
+advanced = struct-flat Z.the-type Z′.the-laws
+
+pub advanced-laws : FlatLaws advanced
+advanced-laws = struct-laws Z.the-type Z′.the-laws Z′.the-plain
+
+abbrev pub advance-two : Two advanced D.the-type D′.the-laws
+advance-two = two-of Z.the-type Z′.the-laws Z′.lowers (T.the-type .name) (T.the-type .D) (λ r. r .answer) D.the-type D′.the-laws D′.lowers (λ r. r .desk)
+    (T.the-type .to-one)
 
 abbrev pub earliest : Flat
 earliest = struct-flat E.the-type E′.the-laws

@@ -9,17 +9,19 @@ use Prim.Native.Nat.{ℕ}
 use lib.Dec.{eqb}
 use lib.ListN.{length}
 use Rattle.scheduler.specs.declared.Kind.the-variants.{Easy}
+use Rattle.scheduler.specs.declared.Refusal.the-variants as refusal
 use Rattle.scheduler.specs.declared.Settings.{Settings}
 use Rattle.scheduler.specs.declared.Amendment as scheduler-amendment
 use Rattle.scheduler.specs.Limits.{longestEstimate}
 use Rattle.scheduler.specs.Model.{Model, store, view}
-use Rattle.scheduler.specs.Answers.{Reply, answer, replyOf, noTickets}
+use Rattle.scheduler.specs.Answers.{Reply, accepts, answer, refusing, replyOf, noTickets}
+use Rattle.scheduler.specs.Refusals.{waitRefusal}
 use Rattle.scheduler.specs.Opening.{opened}
 use Rattle.easy_rules.specs.EarliestStart.{earliestStart}
-use Rattle.history.specs.Calls.{Call, unchanged, Event, after, events, eventsOf}
+use Rattle.history.specs.Calls.{Call, tick, unchanged, Event, after, events, eventsOf}
 use Rattle.history.specs.Guarantee.{Guarantee}
 use Rattle.guarantees.specs.Rules.{call}
-use Rattle.guarantees.specs.Premise.{Valid, valid-view, after-valid}
+use Rattle.guarantees.specs.Premise.{Valid, valid-view, after-valid, stored-premise}
 use Rattle.guarantees.specs.Proof.{start-valid}
 use Rattle.guarantees.specs.Cleanup.{settings-stay}
 use Rattle.guarantees.specs.Migration.{AroundChange, changed-longest}
@@ -32,6 +34,9 @@ use Rattle.amend_rules.specs.Amending.{amended}
 use Rattle.amend_rules.specs.Steps.{Step, allSteps, replies}
 use Rattle.amend_laws.specs.OneAnswer.{amended-back}
 use Rattle.amend_laws.specs.Steps.{saidFrom, MadeStep, steps-keep, steps-around}
+use Rattle.advance_rules.specs.Advance.{advanceCalls, advanceAnswers}
+use Rattle.advancing.specs.Advances.{advances}
+use Rattle.advancing.specs.Counting.{MadeOnward, advance-made, counted}
 use Rattle.calls.specs.ListCall.{listRefusal}
 use Rattle.calls.specs.ProfileCall.{pointsOf}
 use Rattle.calls.specs.IndexCall.{blocksOf}
@@ -41,6 +46,7 @@ use Rattle.hingerota.specs.declared.Opening as host-opening
 use Rattle.hingerota.specs.declared.Desk.{Desk}
 use Rattle.hingerota.specs.declared.Amendment.{Amendment}
 use Rattle.hingerota.specs.declared.Answer.{Answer}
+use Rattle.hingerota.specs.declared.Advanced.{Advanced}
 use Rattle.hingerota.specs.declared.Point.{Point}
 use Rattle.hingerota.specs.declared.Block.{Block}
 use Rattle.hingerota.specs.declared.Earliest.{Earliest}
@@ -48,8 +54,9 @@ use Rattle.hingerota.specs.declared.Inquiry.{Inquiry}
 use Rattle.hingerota.specs.declared.Longest.{Longest}
 use Rattle.hingerota.specs.declared.Shown.{Shown}
 use Rattle.hingerota.specs.Mirror.{mirror, mirrorTickets, mirrorAnswer, read, read-mirror, readAnswer, read-answer}
-use Rattle.hingerota.specs.DeskPremise.{opens, promiseOpening, looseOpening, restores, opening-longest, amendmentOf}
-use Rattle.hingerota.specs.CallContract.{HostLeaves, HostLeavesAmended}
+use Rattle.hingerota.specs.DeskPremise.{opens, promiseOpening, looseOpening, restores, gives, mirror-handed, opening-longest, amendmentOf}
+use Rattle.hingerota.specs.CallContract.{HostLeaves, HostLeavesAmended, leaves-given}
+use Rattle.hingerota.specs.AdvanceContract.{HostLeavesAdvanced, advancesOn}
 use Rattle.hingerota.specs.ProfileContract.{HostShowsPoints}
 use Rattle.hingerota.specs.IndexContract.{HostShowsBlocks}
 use Rattle.hingerota.specs.EarliestContract.{earliestOn}
@@ -231,3 +238,59 @@ host-amended-around s qs ps xs ys d e f k l q l′ =
     (start-longest (changesDesk s cs))
     (subst (λ (x : Desk). MadeAll HostMadeStep x qs xs d) (desk-is s) l)
     (subst (λ (x : Desk). MadeAll HostMadeStep x ps ys f) (q .leaves ∙ migrated-starts s cs d (host-amended-keeps s qs xs d l .0)) l′)
+
+-- ## Minutes that pass at once
+
+-- so many minutes on the desk d, lent: the calls that they count as, by how many have passed, the answers to these, and the desk after them
+pub data HostAdvances (d : Desk) : List Call → List Answer → Desk → Type 0 where
+  onLent : (n : ℕ) {a : Advanced} {e : Desk} → HostLeavesAdvanced d n a e
+      → HostAdvances d (advanceCalls (a .minutes) (waitRefusalOn d n)) (advanceAnswers (refusedBy 0) (a .minutes) (a .answer)) e
+
+tick-made : (m : Model) → Valid m → m .settings .longest ≡ longestEstimate
+    → HostMade (mirror (store m)) tick (mirrorAnswer (answer (call m tick .reply))) (mirror (store (call m tick .model)))
+unfolding store
+tick-made m v w =
+    subst (λ (x : Model). HostMade (mirror (store m)) tick (mirrorAnswer (answer (call x tick .reply))) (mirror (store (call x tick .model)))) (desk-view m v w)
+    (onLent (leaves-given (mirror (store m)) tick (gives (mirror (store m)) tick) (mirror-handed (store m) w (stored-premise m v)) refl))
+
+wait-refused : (m : Model) (n : ℕ) → Valid m → m .settings .longest ≡ longestEstimate → accepts (waitRefusal m n) ≡ false
+    → HostMade (mirror (store m)) (unchanged (waitRefusal m n)) (mirrorAnswer (answer (refusing (waitRefusal m n)))) (mirror (store m))
+wait-refused m n v w a =
+    subst (λ (x : Model). HostMade (mirror (store m)) (unchanged (waitRefusal x n)) (mirrorAnswer (answer (refusing (waitRefusal x n)))) (mirror (store m)))
+    (desk-view m v w)
+    (waitRefused n refl (subst (λ (x : Model). accepts (waitRefusal x n) ≡ false) (sym (desk-view m v w)) a))
+
+-- where d mirrors a valid model, stored, these calls could have been made, with these answers
+ticks-made : (m : Model) → Valid m → m .settings .longest ≡ longestEstimate → {cs : List Call} {xs : List Answer} {e : Desk}
+    → HostAdvances (mirror (store m)) cs xs e → MadeAll HostMade (mirror (store m)) cs xs e
+ticks-made m v w (onLent n l) =
+    rw (l .leaves, l .answers, desk-view m v w)
+    (advance-made HostMade (λ x. mirror (store x)) (λ r. mirrorAnswer (answer r)) (λ S. S .longest ≡ longestEstimate) tick-made wait-refused m n v w)
+
+-- From every start: calls, corrected orders and minutes that pass at once are the steps that they count as
+pub host-counts-as : (s : HostStart) (qs : List Step) (xs : List Answer) (e : Desk) → MadeOnward HostMadeStep HostAdvances (deskBy s) qs xs e
+    → MadeAll HostMadeStep (deskBy s) qs xs e
+host-counts-as s qs xs e l =
+    counted HostMade HostAmended HostAdvances (λ m. mirror (store m)) (λ r. mirrorAnswer (answer r)) hostReply (λ S. S .longest ≡ longestEstimate)
+    (λ m c a d v w. made-is m v w) (λ m b a d v w. host-amended-is m v w b a d) reply-said amended-said (λ m cs ys d v w. ticks-made m v w)
+    (startOf (startBy s)) (start-valid (startBy s)) (start-longest s) (desk-is s) l
+
+-- so that the book of what was asked and of the answers received has the guarantees
+pub host-advanced-keeps : (s : HostStart) (qs : List Step) (xs : List Answer) (e : Desk) → MadeOnward HostMadeStep HostAdvances (deskBy s) qs xs e
+    → let m = startOf (startBy s) in
+    (e ≡ mirror (store (after call m (allSteps call m qs)))) × (xs ≡ map (λ (r : Reply). mirrorAnswer (answer r)) (replies call m qs))
+    × Guarantee (m .settings .kind) (m .settings) (bookOf m (saidFrom m qs (map hostReply xs)))
+host-advanced-keeps s qs xs e l = host-amended-keeps s qs xs e (host-counts-as s qs xs e l)
+
+-- and both lists around a change of kind
+pub host-advanced-around : (s : HostStart) (qs ps : List Step) (xs ys : List Answer) (d e f : Desk) → startOf (startBy s) .settings .kind ≡ Easy
+    → MadeOnward HostMadeStep HostAdvances (deskBy s) qs xs d → HostMigrates d e → MadeOnward HostMadeStep HostAdvances e ps ys f
+    → let m = startOf (startBy s) in
+    let t = startOf (start.changes (startBy s) (allSteps call m qs)) in
+    AroundChange (startBy s) (allSteps call m qs) (saidFrom m qs (map hostReply xs)) (allSteps call t ps) (saidFrom t ps (map hostReply ys))
+host-advanced-around s qs ps xs ys d e f k l q l′ =
+    let cs = allSteps call (startOf (startBy s)) qs in
+    let g = host-counts-as s qs xs d l in
+    let z = q .leaves ∙ migrated-starts s cs d (host-amended-keeps s qs xs d g .0) in
+    let h = host-counts-as (changesDesk s cs) ps ys f (subst (λ (x : Desk). MadeOnward HostMadeStep HostAdvances x ps ys f) z l′) in
+    host-amended-around s qs ps xs ys d e f k g q (subst (λ (x : Desk). MadeAll HostMadeStep x ps ys f) (sym z) h)

@@ -2,6 +2,7 @@ pub mod Mirror
 pub mod DeskPremise
 pub mod Checks
 pub mod CallContract
+pub mod AdvanceContract
 pub mod ListContract
 pub mod ProfileContract
 pub mod IndexContract

@@ -10,6 +10,7 @@ ghost use Rattle.lists.specs.Every.{every};
 ghost use Rattle.hingerota.specs.DeskPremise.{Handed, gives, opens, promiseOpening, looseOpening, restores, amendsOn};
 ghost use Rattle.hingerota.specs.Checks.{isZero, allZero, isJob, follows, inOrder, checkNumber};
 ghost use Rattle.hingerota.specs.CallContract.{HostLeaves, HostLeavesAmended};
+ghost use Rattle.hingerota.specs.AdvanceContract.{advancesOn, HostLeavesAdvanced};
 ghost use Rattle.hingerota.specs.ListContract.{mirrorShown};
 ghost use Rattle.hingerota.specs.ProfileContract.{mirrorPoint, pointsIn, pointAt, HostShowsPoints};
 ghost use Rattle.hingerota.specs.IndexContract.{mirrorBlock, blocksIn, blockAt, HostShowsBlocks};
@@ -109,6 +110,18 @@ pub struct Answer {
 
 pub struct Outcome {
     pub answer: Answer,
+    pub desk: Desk,
+}
+
+// What minutes that pass at once answer: the answer to the last of them, and how many have passed.
+#[repr(C)]
+pub struct Advanced {
+    pub answer: Answer,
+    pub minutes: u32,
+}
+
+pub struct AdvanceOutcome {
+    pub answer: Advanced,
     pub desk: Desk,
 }
 
@@ -536,6 +549,23 @@ fn tick(d: Desk) -> Outcome
     mirror_outcome(calls::tick(read(d)))
 }
 
+fn advance(d: Desk, minutes: u32) -> AdvanceOutcome
+    requires { ⌜ Handed d ⌝ }
+    ensures { λ r. ⌜ r ≡ advancesOn d minutes ⌝ }
+{
+    let o = advancing::advance(read(d), minutes);
+    let told = o.answer;
+    let answer = mirror_answer(told.answer);
+    let desk = mirror(o.scheduler);
+    AdvanceOutcome {
+        answer: Advanced {
+            answer: answer,
+            minutes: told.minutes,
+        },
+        desk: desk,
+    }
+}
+
 fn profile(d: Desk, room: usize) -> ProfileOutcome
     requires { ⌜ Handed d ⌝ }
     ensures { λ r. ⌜ r ≡ pointsIn d room ⌝ }
@@ -756,6 +786,17 @@ pub extern "C" fn hingerota_tick(d: &mut Desk) -> Answer
     ensures { λ r. ⌜ HostLeaves (now (d .entry)) calls.tick r (now (d .exit)) ⌝ }
 {
     let s = tick(*d);
+    *d = s.desk;
+    s.answer
+}
+
+// So many minutes pass, or fewer: up to the first in which something is due.
+#[no_mangle]
+pub extern "C" fn hingerota_advance(d: &mut Desk, minutes: u32) -> Advanced
+    requires { ⌜ Handed (now d) ⌝ }
+    ensures { λ r. ⌜ HostLeavesAdvanced (now (d .entry)) minutes r (now (d .exit)) ⌝ }
+{
+    let s = advance(*d, minutes);
     *d = s.desk;
     s.answer
 }

@@ -1,10 +1,13 @@
--- What the calls of this crate share: answers and a submission as flat types, `Outcome` and `Opened` as the struct of the answer and the scheduler,
--- `ProfileOutcome` as that of a count, the answer and the points (`Results.antt` of crate lent_lemmas).
+-- What the calls of this crate share: answers and a submission as flat types, `Outcome`, `AdvanceOutcome` and `Opened` as the struct of the answer and the
+-- scheduler, `ProfileOutcome` as that of a count, the answer and the points (`Results.antt` of crate lent_lemmas).
 -- Assumes nothing.
 use denote.Struct.Laws as LL
 use Rattle.lent_lemmas.proofs.Thin.{Flat, FlatLaws, struct-flat, enum-flat, Two}
 use Rattle.lent_lemmas.proofs.Fills.{Sheet}
 use Rattle.lent_lemmas.proofs.Results.{struct-laws, enum-laws, two-of, sheet-of}
+use Rattle.advancing.proofs.Advanced as Z
+use Rattle.advancing.proofs.Advanced.Laws as Z′
+use Rattle.advancing.proofs.AdvanceOutcome as T
 use Rattle.calls.proofs.Shown as W
 use Rattle.calls.proofs.Shown.Laws as W′
 use Rattle.calls.proofs.ProfileOutcome as P
@@ -54,6 +57,16 @@ amendment-laws = struct-laws A.the-type A′.the-laws A′.the-plain
 abbrev pub outcome-two : Two answer D.the-type D′.the-laws
 outcome-two = two-of N.the-type N′.the-laws N′.lowers (S.the-type .name) (S.the-type .D) (λ r. r .answer) D.the-type D′.the-laws D′.lowers (λ r. r .scheduler)
     (S.the-type .to-one)
+
+abbrev pub advanced : Flat
+advanced = struct-flat Z.the-type Z′.the-laws
+
+pub advanced-laws : FlatLaws advanced
+advanced-laws = struct-laws Z.the-type Z′.the-laws Z′.the-plain
+
+abbrev pub advance-two : Two advanced D.the-type D′.the-laws
+advance-two = two-of Z.the-type Z′.the-laws Z′.lowers (T.the-type .name) (T.the-type .D) (λ r. r .answer) D.the-type D′.the-laws D′.lowers (λ r. r .scheduler)
+    (T.the-type .to-one)
 
 abbrev pub refusal : Flat
 refusal = enum-flat F.the-type F′.the-laws

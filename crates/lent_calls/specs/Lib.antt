@@ -1,4 +1,5 @@
 pub mod CallContract
+pub mod AdvanceContract
 pub mod ListContract
 pub mod ProfileContract
 pub mod IndexContract

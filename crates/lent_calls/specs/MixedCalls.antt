@@ -3,7 +3,7 @@
 -- call on a lent desk counts as its by-value one, a `wait` as its steps or as one refused call"; "A profile leaves the desk as it is, and
 -- the points lent to it are no part of the desk".
 -- Assumes nothing.
-use mathlib.Core.Path.{_≡_, refl, ap, subst, _∙_}
+use mathlib.Core.Path.{_≡_, refl, sym, ap, subst, _∙_}
 use mathlib.Core.Bool.{false}
 use mathlib.Core.List.{List, map}
 use Prim.Native.Nat.{ℕ}
@@ -12,13 +12,14 @@ use Rattle.scheduler.specs.declared.Amendment.{Amendment}
 use Rattle.scheduler.specs.declared.Answer.{Answer}
 use Rattle.scheduler.specs.declared.Outcome.{Outcome}
 use Rattle.scheduler.specs.declared.Refusal.{Refusal}
+use Rattle.scheduler.specs.declared.Refusal.the-variants as refusal
 use Rattle.scheduler.specs.declared.Kind.the-variants.{Easy}
 use Rattle.scheduler.specs.declared.Scheduler.{Scheduler}
 use Rattle.scheduler.specs.Model.{Model, store, view}
 use Rattle.scheduler.specs.Answers.{accepts, answer, replyOf, outcome, refusedAnswer}
 use Rattle.scheduler.specs.Refusals.{waitRefusal}
 use Rattle.scheduler.specs.Opening.{opened}
-use Rattle.history.specs.Calls.{Call, unchanged, after, events, eventsOf}
+use Rattle.history.specs.Calls.{Call, tick, unchanged, after, events, eventsOf}
 use Rattle.history.specs.Guarantee.{Guarantee}
 use Rattle.guarantees.specs.Rules.{call}
 use Rattle.guarantees.specs.Premise.{Valid, valid-view, after-valid}
@@ -47,7 +48,13 @@ use Rattle.amend_rules.specs.Steps.{Step, allSteps, replies}
 use Rattle.amend_laws.specs.OneAnswer.{amended-back}
 use Rattle.amend_laws.specs.Steps.{saidFrom, MadeStep, steps-keep, steps-around}
 use Rattle.calls.specs.AmendCall.{amends}
+use Rattle.advance_rules.specs.Advance.{advanceCalls, advanceAnswers}
+use Rattle.advancing.specs.declared.Advanced.{Advanced}
+use Rattle.advancing.specs.declared.AdvanceOutcome.{AdvanceOutcome}
+use Rattle.advancing.specs.Advances.{advances}
+use Rattle.advancing.specs.Counting.{MadeOnward, advance-made, counted}
 use Rattle.lent_calls.specs.CallContract.{Leaves, LeavesAmended}
+use Rattle.lent_calls.specs.AdvanceContract.{LeavesAdvanced}
 use Rattle.lent_calls.specs.ProfileContract.{ShowsPoints}
 use Rattle.lent_calls.specs.IndexContract.{ShowsBlocks}
 
@@ -176,3 +183,55 @@ amended-around s qs ps xs ys d e f k l q l′ =
     steps-around Made Amended store answer replyOf (λ S. Unit {0}) (λ m c a d v w. made-is m v) (λ m b a d v w. amended-is m v) reply-back amended-back s k tt tt
     (subst (λ (x : Scheduler). MadeAll MadeMixed x qs xs d) (started-is s) l)
     (subst (λ (x : Scheduler). MadeAll MadeMixed x ps ys f) (q ∙ migrated-starts s cs d (amended-keeps s qs xs d l .0)) l′)
+
+-- ## Minutes that pass at once
+
+-- so many minutes on d, by value or on what is lent: the calls that they count as, by how many have passed, the answers to these, and the scheduler after
+-- them
+pub data Advances (d : Scheduler) : List Call → List Answer → Scheduler → Type 0 where
+  byValue : (n : ℕ) {o : AdvanceOutcome} → o ≡ advances d n
+      → Advances d (advanceCalls (o .answer .minutes) (waitRefusal (view d) n)) (advanceAnswers (refusedAnswer refusal.None) (o .answer .minutes) (o .answer .answer))
+      (o .scheduler)
+  onLent : (n : ℕ) {a : Advanced} {e : Scheduler} → LeavesAdvanced d n a e
+      → Advances d (advanceCalls (a .minutes) (waitRefusal (view d) n)) (advanceAnswers (refusedAnswer refusal.None) (a .minutes) (a .answer)) e
+
+tick-made : (m : Model) → Valid m → Made (store m) tick (answer (call m tick .reply)) (store (call m tick .model))
+tick-made m v = byValue (ap (λ (x : Model). outcome (call x tick)) (sym (valid-view m v)))
+
+wait-refused : (m : Model) (n : ℕ) → Valid m → accepts (waitRefusal m n) ≡ false
+    → Made (store m) (unchanged (waitRefusal m n)) (refusedAnswer (waitRefusal m n)) (store m)
+wait-refused m n v a = waitRefused n (ap (λ (x : Model). waitRefusal x n) (sym (valid-view m v))) a
+
+-- where d is a valid model, stored, these calls could have been made, with these answers
+ticks-made : (m : Model) → Valid m → {cs : List Call} {xs : List Answer} {e : Scheduler} → Advances (store m) cs xs e → MadeAll Made (store m) cs xs e
+ticks-made m v (byValue n q) =
+    rw (q, valid-view m v) (advance-made Made store answer (λ S. Unit {0}) (λ x y z. tick-made x y) (λ x k y z. wait-refused x k y) m n v tt)
+ticks-made m v (onLent n l) =
+    rw (l .leaves, l .answers, valid-view m v)
+    (advance-made Made store answer (λ S. Unit {0}) (λ x y z. tick-made x y) (λ x k y z. wait-refused x k y) m n v tt)
+
+-- From every start: calls, corrected orders and minutes that pass at once are the steps that they count as
+pub counts-as : (s : Start) (qs : List Step) (xs : List Answer) (e : Scheduler) → MadeOnward MadeMixed Advances (started s) qs xs e
+    → MadeAll MadeMixed (started s) qs xs e
+counts-as s qs xs e l =
+    counted Made Amended Advances store answer replyOf (λ S. Unit {0}) (λ m c a d v w. made-is m v) (λ m b a d v w. amended-is m v) reply-back amended-back
+    (λ m cs ys d v w. ticks-made m v) (startOf s) (start-valid s) tt (started-is s) l
+
+-- so that the book of what was asked and of the answers received has the guarantees
+pub advanced-keeps : (s : Start) (qs : List Step) (xs : List Answer) (e : Scheduler) → MadeOnward MadeMixed Advances (started s) qs xs e
+    → (e ≡ store (after call (startOf s) (allSteps call (startOf s) qs))) × (xs ≡ map answer (replies call (startOf s) qs))
+    × Guarantee (startOf s .settings .kind) (startOf s .settings) (bookOf (startOf s) (saidFrom (startOf s) qs (map replyOf xs)))
+advanced-keeps s qs xs e l = amended-keeps s qs xs e (counts-as s qs xs e l)
+
+-- and both lists around a change of kind
+pub advanced-around : (s : Start) (qs ps : List Step) (xs ys : List Answer) (d e f : Scheduler) → startOf s .settings .kind ≡ Easy
+    → MadeOnward MadeMixed Advances (started s) qs xs d → e ≡ migrating d → MadeOnward MadeMixed Advances e ps ys f
+    → let cs = allSteps call (startOf s) qs in
+    let t = changes s cs in
+    AroundChange s cs (saidFrom (startOf s) qs (map replyOf xs)) (allSteps call (startOf t) ps) (saidFrom (startOf t) ps (map replyOf ys))
+advanced-around s qs ps xs ys d e f k l q l′ =
+    let cs = allSteps call (startOf s) qs in
+    let g = counts-as s qs xs d l in
+    let z = q ∙ migrated-starts s cs d (amended-keeps s qs xs d g .0) in
+    let h = counts-as (changes s cs) ps ys f (subst (λ (x : Scheduler). MadeOnward MadeMixed Advances x ps ys f) z l′) in
+    amended-around s qs ps xs ys d e f k g q (subst (λ (x : Scheduler). MadeAll MadeMixed x ps ys f) (sym z) h)

@@ -8,10 +8,12 @@ ghost use Rattle.guarantees.specs.Premise.{Premise};
 ghost use Rattle.calls.specs.LongestCall.{longestOf};
 ghost use Rattle.calls.specs.TextCall.{ShowsPage, ShowsText, ShowsWhy};
 ghost use Rattle.lent_calls.specs.CallContract.{Leaves, LeavesAmended};
+ghost use Rattle.lent_calls.specs.AdvanceContract.{LeavesAdvanced};
 ghost use Rattle.lent_calls.specs.ProfileContract.{ShowsPoints};
 ghost use Rattle.lent_calls.specs.IndexContract.{ShowsBlocks};
 ghost use Rattle.lent_calls.specs.RestoreContract.{Restores};
 ghost use Rattle.lent_calls.specs.MigrateContract.{Migrates};
+use advancing::Advanced;
 use calls::Shown;
 use scheduler::Amendment;
 use scheduler::Answer;
@@ -66,6 +68,16 @@ pub fn tick(d: &mut Scheduler) -> Answer
     ensures { λ r. ⌜ Leaves (now (d .entry)) calls.tick r (now (d .exit)) ⌝ }
 {
     let o = calls::tick(*d);
+    *d = o.scheduler;
+    o.answer
+}
+
+// So many minutes pass, or fewer: up to the first in which something is due.
+pub fn advance(d: &mut Scheduler, minutes: u32) -> Advanced
+    requires { ⌜ Premise (now d) ⌝ }
+    ensures { λ r. ⌜ LeavesAdvanced (now (d .entry)) minutes r (now (d .exit)) ⌝ }
+{
+    let o = advancing::advance(*d, minutes);
     *d = o.scheduler;
     o.answer
 }

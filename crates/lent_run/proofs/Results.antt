@@ -1,4 +1,4 @@
--- How the results of this crate are made: `Outcome` and `Opened` of the answer and the scheduler, `ListOfNone`, `ListOfFour` and `ListOfTwo` of the answer and the
+-- How the results of this crate are made: `Outcome`, `AdvanceOutcome` and `Opened` of the answer and the scheduler, `ListOfNone`, `ListOfFour` and `ListOfTwo` of the answer and the
 -- list
 -- (`Thin.antt` and `OwnSlice_ds.antt` of crate lent_lemmas).
 -- Assumes nothing.
@@ -21,10 +21,12 @@ use Rattle.scheduler.proofs.Opened as O
 use Rattle.scheduler.proofs.Opened.Laws as O′
 use Rattle.scheduler.proofs.Outcome as S
 use Rattle.scheduler.proofs.Outcome.Laws as S′
+use Rattle.advancing.proofs.AdvanceOutcome as T
+use Rattle.advancing.proofs.AdvanceOutcome.Laws as T′
 use Rattle.calls.specs.declared.Shown.{Shown}
 use Rattle.lent_lemmas.proofs.Thin.{rowOf, Built}
 use Rattle.lent_lemmas.proofs.OwnSlice_ds.{HoldsArray}
-use Rattle.lent_calls.proofs.FlatTypes.{answer, outcome-two, refusal, opened-two, shown}
+use Rattle.lent_calls.proofs.FlatTypes.{answer, outcome-two, advanced, advance-two, refusal, opened-two, shown}
 use Rattle.lent_run.proofs.ListOfNone as N
 use Rattle.lent_run.proofs.ListOfNone.Laws as N′
 use Rattle.lent_run.proofs.ListOfFour as F
@@ -37,6 +39,13 @@ outcome-built = record {
   make = λ a e. record { answer = a; scheduler = e };
   is-made = λ a e isa ise. LL.owes S.the-type S′.the-laws (record { answer = a; scheduler = e }) (isa, (ise, tt));
   makes = λ 𝓤 H A W. LL.makes S.the-type S′.the-plain 𝓤 H A;
+}
+
+abbrev pub advance-built : Built advanced D.the-type D′.the-laws advance-two
+advance-built = record {
+  make = λ a e. record { answer = a; scheduler = e };
+  is-made = λ a e isa ise. LL.owes T.the-type T′.the-laws (record { answer = a; scheduler = e }) (isa, (ise, tt));
+  makes = λ 𝓤 H A W. LL.makes T.the-type T′.the-plain 𝓤 H A;
 }
 
 abbrev pub opened-built : Built refusal D.the-type D′.the-laws opened-two

@@ -8,10 +8,12 @@ ghost use Rattle.history.specs.Calls as calls;
 ghost use Rattle.guarantees.specs.Premise.{Premise};
 ghost use Rattle.calls.specs.TextCall.{ShowsPage, ShowsText, ShowsWhy};
 ghost use Rattle.lent_calls.specs.CallContract.{Leaves, LeavesAmended};
+ghost use Rattle.lent_calls.specs.AdvanceContract.{LeavesAdvanced};
 ghost use Rattle.lent_calls.specs.ProfileContract.{ShowsPoints};
 ghost use Rattle.lent_calls.specs.IndexContract.{ShowsBlocks};
 ghost use Rattle.lent_calls.specs.RestoreContract.{Restores};
 ghost use Rattle.lent_calls.specs.MigrateContract.{Migrates};
+use advancing::AdvanceOutcome;
 use calls::Shown;
 use libc::STDOUT_FILENO;
 use scheduler::Amendment;
@@ -85,6 +87,18 @@ fn lent_tick(d: Scheduler) -> Outcome
     let mut e = d;
     let a = lent_calls::tick(&mut e);
     Outcome {
+        answer: a,
+        scheduler: e,
+    }
+}
+
+fn lent_advance(d: Scheduler, minutes: u32) -> AdvanceOutcome
+    requires { ⌜ Premise d ⌝ }
+    ensures { λ r. ⌜ LeavesAdvanced d minutes (r .answer) (r .scheduler) ⌝ }
+{
+    let mut e = d;
+    let a = lent_calls::advance(&mut e, minutes);
+    AdvanceOutcome {
         answer: a,
         scheduler: e,
     }
@@ -290,6 +304,19 @@ fn tick(d: Scheduler) -> Scheduler
     let o = lent_tick(d);
     let e = o.scheduler;
     print_answer(e.clock, o.answer);
+    e
+}
+
+// How many minutes have passed, and what the last of them gave.
+fn advance(d: Scheduler, minutes: u32) -> Scheduler
+    requires { ⌜ Premise d ⌝ }
+    ensures { λ r. ⌜ Premise r ⌝ }
+{
+    let o = lent_advance(d, minutes);
+    let e = o.scheduler;
+    let told = o.answer;
+    print(told.minutes);
+    print_answer(e.clock, told.answer);
     e
 }
 
@@ -692,6 +719,39 @@ fn corrected_orders() {
     print_lines(u5);
 }
 
+// Minutes that pass at once, of a job that runs, one in cleanup and two that wait. Refused by 2: none, and too many.
+fn advance_past(kind: Kind) {
+    let s = open(kind, 10, 0, 2, 63);
+    let s1 = submit(s, 6, 5, Tenant::A);
+    let s2 = submit(s1, 8, 5, Tenant::A);
+    let s3 = submit(s2, 4, 10, Tenant::B);
+    let s4 = advance(s3, 0);
+    let s5 = advance(s4, 10081);
+    // up to the minute before the first end, to that end, to the minute before its nodes are free, and far beyond: to the next start
+    let s6 = advance(s5, 4);
+    let s7 = advance(s6, 1);
+    let s8 = advance(s7, 1);
+    let s9 = advance(s8, 10080);
+    // its end, the start of the last, its end, its release, and then nothing is due any more
+    let s10 = advance(s9, 10080);
+    let s11 = advance(s10, 2);
+    let s12 = advance(s11, 10);
+    let s13 = advance(s12, 3);
+    let s14 = advance(s13, 10080);
+    print_lines(s14);
+}
+
+// The last minute: one beyond it is refused by 6, and then every one.
+fn advance_to_last(kind: Kind) {
+    let s = open_up_to(kind, 10, 999930, 0, 63, 60);
+    let s1 = submit(s, 10, 5, Tenant::A);
+    let s2 = advance(s1, 71);
+    let s3 = advance(s2, 70);
+    let s4 = advance(s3, 65);
+    let s5 = advance(s4, 1);
+    print_lines(s5);
+}
+
 fn main() {
     // conservative: the list is longer than the profile, then as long, then too short
     let d = open(Kind::Conservative, 10, 0, 0, 63);
@@ -832,4 +892,8 @@ fn main() {
     let r11 = migrate(r10);
     show(r11);
     corrected_orders();
+    advance_past(Kind::Conservative);
+    advance_past(Kind::Easy);
+    advance_to_last(Kind::Conservative);
+    advance_to_last(Kind::Easy);
 }

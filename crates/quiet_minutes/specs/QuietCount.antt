@@ -1,13 +1,13 @@
 -- How many of the next minutes are quiet, as the code finds it: slot by slot.
 -- Assumes nothing.
-use Prim.Native.Nat.{ℕ, _+_, _-_, _≤_, _<_}
+use Prim.Native.Nat.{ℕ, suc, _+_, _-_, _≤_, _<_}
 use native.Mathlib.Omega.{arith}
 use native.Mathlib.Numerals.{add-one}
-use mathlib.Core.Path.{_≡_, refl, ap, subst}
+use mathlib.Core.Path.{_≡_, refl, ap, subst, _∙_}
 use mathlib.Core.List.{[], _∷_}
 use lib.ListN.{length, getD, take}
 use lib.Seq.{take-suc, take-all}
-use borrow.Author.Tests.{ne-eqb}
+use borrow.Author.Tests.{ne-eqb, eq-eqb}
 use Rattle.lists.specs.Lists.{All, all-of, all-in, all-append, keep-in}
 use Rattle.scheduler.specs.declared.State.{State}
 use Rattle.scheduler.specs.declared.State.the-variants.{Unused, Waiting, Running, Cleanup}
@@ -24,7 +24,7 @@ use Rattle.jobs.specs.Soundness.{Sound}
 use Rattle.jobs.specs.Premise.{Holds}
 use Rattle.jobs.specs.Slots.{Low, Orderly, slots-all, slots-low, slots-orderly}
 use Rattle.guarantees.specs.Premise.{Premise, premise-sound}
-use Rattle.quiet_minutes.specs.DueMinutes.{QuietTo, Quiet, Until}
+use Rattle.quiet_minutes.specs.DueMinutes.{QuietTo, Quiet, DueAfter, Until}
 
 -- r of the next minutes, at most `most`, are quiet and lie by the last minute
 pub record Ahead (d : Scheduler) (most r : ℕ) : Type 0 where
@@ -50,6 +50,16 @@ pub cleaning-quiet : (S : Settings) (clock last : ℕ) (j : Job) → j .state �
 cleaning-quiet S clock last j e u t a b =
     let f = until-cleaning S j (ap cleaning? e) in
     rw (ap running? e, ap cleaning? e, ap waiting? e, ne-eqb (until S j) t (λ q. omega (arith, f, u (omega (arith, f)))))
+
+-- and when something is due for it, by its state
+pub waiting-due : (S : Settings) (r last : ℕ) (j : Job) → j .state ≡ Waiting → (r < last → j .start ≡ suc r) → DueAfter S r last j
+waiting-due S r last j e u l = rw (ap running? e, ap cleaning? e, ap waiting? e, eq-eqb (j .start) (suc r) (u l))
+
+pub running-due : (S : Settings) (r last : ℕ) (j : Job) → j .state ≡ Running → (r < last → j .start + runTime S (j .estimate) ≡ suc r) → DueAfter S r last j
+running-due S r last j e u l = rw (ap running? e, eq-eqb (endOf S j) (suc r) (end-is S j ∙ u l))
+
+pub cleaning-due : (S : Settings) (r last : ℕ) (j : Job) → j .state ≡ Cleanup → (r < last → j .end + cleanup S ≡ suc r) → DueAfter S r last j
+cleaning-due S r last j e u l = rw (ap running? e, ap cleaning? e, eq-eqb (until S j) (suc r) (until-cleaning S j (ap cleaning? e) ∙ u l))
 
 -- one that starts later is quiet, whatever its state
 pub later-quiet : (S : Settings) (clock last : ℕ) (j : Job) → Orderly S j → last < j .start → QuietTo S clock last j

@@ -17,14 +17,27 @@ use Rattle.scheduler.specs.Jobs.{endsAt, releasedAt}
 use Rattle.scheduler.specs.Limits.{horizon}
 use Rattle.scheduler.specs.Model.{Model, store, view}
 use Rattle.scheduler.specs.Answers.{Result, refusing}
+use Rattle.scheduler.specs.Refusals.{tickRefusal}
 use Rattle.history.specs.Calls.{tick, after}
+use Rattle.conservative_laws.specs.Sentences as conservative-sentences
 use Rattle.conservative_laws.specs.Sentences.{startsAt}
+use Rattle.easy_laws.specs.Sentences as easy-sentences
 use Rattle.guarantees.specs.Rules.{rulesOf, call}
 use Rattle.guarantees.specs.Premise.{Valid, ValidBy, Premise, call-valid}
 use Rattle.guarantees.specs.Chain.{handed, handed-is}
 use Rattle.easy_laws.specs.QuietTick as easy
-use Rattle.quiet_minutes.specs.DueMinutes.{dueAt, Quiet}
+use Rattle.advance_rules.specs.Advance.{dueAt}
+use Rattle.quiet_minutes.specs.DueMinutes.{Quiet}
 use Rattle.quiet_minutes.specs.ConservativeTick as conservative
+
+-- a tick is judged alike by both kinds
+pub tick-refusal : (m : Model) → call m tick .reply .refusal ≡ tickRefusal m
+unfolding tickRefusal
+tick-refusal m = by (m .settings .kind)
+  where
+    by : (k : Kind) → rulesOf k m tick .reply .refusal ≡ tickRefusal m
+    by Conservative = conservative-sentences.tick-refusal m
+    by Easy = easy-sentences.refusal-is m tick
 
 -- k minutes later, with the same jobs
 abbrev pub passed : Model → ℕ → Model

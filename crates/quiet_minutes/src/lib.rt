@@ -1,9 +1,10 @@
 // Minutes in which nothing is due: their ticks only move the clock, so that they can be passed over. A program that passes over them asks the slots
 // of its scheduler one after another, in place.
-ghost use Prim.Native.Nat.{_+_, _≤_};
+ghost use mathlib.Core.Path.{_≡_};
+ghost use Prim.Native.Nat.{suc, _+_, _≤_, _<_};
 ghost use Rattle.scheduler.specs.Limits.{horizon};
 ghost use Rattle.jobs.specs.Slots.{Low, Orderly};
-ghost use Rattle.quiet_minutes.specs.DueMinutes.{Until, QuietTo};
+ghost use Rattle.quiet_minutes.specs.DueMinutes.{Until, QuietTo, DueAfter};
 use scheduler::Job;
 use scheduler::Scheduler;
 use scheduler::Settings;
@@ -23,7 +24,7 @@ pub fn latest(clock: u32, most: u32) -> u32
 // The last minute before `minute`, at most `last`; a `minute` that is past does not count.
 fn before(minute: u32, clock: u32, last: u32) -> u32
     requires { ⌜ clock ≤ last ⌝ }
-    ensures { λ r. ⌜ (clock ≤ r) × (r ≤ last) × Until minute clock r ⌝ }
+    ensures { λ r. ⌜ (clock ≤ r) × (r ≤ last) × Until minute clock r × (r < last → minute ≡ suc r) ⌝ }
 {
     if minute <= clock {
         return last;
@@ -38,7 +39,7 @@ fn before(minute: u32, clock: u32, last: u32) -> u32
 // wall time is worked out only if the estimate is over by then.)
 pub fn quiet_of(job: Job, settings: Settings, clock: u32, last: u32) -> u32
     requires { ⌜ Low job × Orderly settings job × (clock ≤ last) ⌝ }
-    ensures { λ r. ⌜ (clock ≤ r) × (r ≤ last) × QuietTo settings clock r job ⌝ }
+    ensures { λ r. ⌜ (clock ≤ r) × (r ≤ last) × QuietTo settings clock r job × DueAfter settings r last job ⌝ }
 {
     if last < job.start {
         return last;

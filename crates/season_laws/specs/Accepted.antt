@@ -30,6 +30,7 @@ use Rattle.easy_laws.specs.Sentences as easy
 use Rattle.easy_laws.specs.Course.{course-rest}
 use Rattle.guarantees.specs.Rules.{rulesOf, call}
 use Rattle.guarantees.specs.Premise.{Valid, ValidBy, valid-sound}
+use Rattle.quiet_minutes.specs.QuietTicks.{tick-refusal}
 
 module _ (m : Model) where
   -- who waits has its start before it, and gives its nodes back by the last minute
@@ -53,15 +54,9 @@ module _ (m : Model) where
       by Running q = held (ap holding? q)
       by Cleanup q = held (ap holding? q)
 
-  -- a tick is judged alike by both kinds
-  tick-by : (k : Kind) → rulesOf k m tick .reply .refusal ≡ tickRefusal m
-  unfolding tickRefusal
-  tick-by Conservative = conservative.tick-refusal m
-  tick-by Easy = easy.refusal-is m tick
-
   pub tick-taken : m .clock < horizon → accepts (call m tick .reply .refusal) ≡ true
   unfolding tickRefusal verdict
-  tick-taken l = ap accepts (tick-by (m .settings .kind)) ∙ rw (le-ltb horizon (suc (m .clock)) l)
+  tick-taken l = ap accepts (tick-refusal m) ∙ rw (le-ltb horizon (suc (m .clock)) l)
 
   complete-by : (k : Kind) (t : ℕ) → rulesOf k m (complete t) .reply .refusal ≡ departRefusal m Complete t
   unfolding departRefusal

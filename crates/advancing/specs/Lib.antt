@@ -1,0 +1,4 @@
+pub mod Minutes
+pub mod Advances
+pub mod DueSlots
+pub mod Counting
