@@ -42,11 +42,25 @@ impl Page {
     }
 
     pub fn no(&mut self, refusal: Refusal) {
-        self.text += &format!("no\t{}\n", refusal.0);
+        self.row("no", [refusal.0]);
     }
 
-    fn row(&mut self, word: &str, first: u32, second: u32) {
-        self.text += &format!("{word}\t{first}\t{second}\n");
+    /// A word and its numbers.
+    fn row<const N: usize>(&mut self, word: &str, numbers: [u32; N]) {
+        self.text += word;
+        for number in numbers {
+            self.text.push('\t');
+            self.decimal(number);
+        }
+        self.text.push('\n');
+    }
+
+    /// Digit by digit: `format!` takes some 600 instructions a row.
+    fn decimal(&mut self, number: u32) {
+        if number >= 10 {
+            self.decimal(number / 10);
+        }
+        self.text.push(char::from(b'0' + (number % 10) as u8));
     }
 
     /// Of a call or a tick that left the desk so. Document 01: "`took` ticket promise (`-` on the Loose Desk); `over` ticket minute;
@@ -55,18 +69,22 @@ impl Page {
         taken(answer.refusal)?;
         if answer.ticket != 0 {
             match desk.kind() {
-                Kind::Promise => self.row("took", answer.ticket, answer.promise),
-                Kind::Loose => self.text += &format!("took\t{}\t-\n", answer.ticket),
+                Kind::Promise => self.row("took", [answer.ticket, answer.promise]),
+                Kind::Loose => {
+                    self.text += "took\t";
+                    self.decimal(answer.ticket);
+                    self.text += "\t-\n";
+                }
             }
         }
         for ticket in answer.ended.as_slice() {
-            self.row("over", *ticket, desk.clock());
+            self.row("over", [*ticket, desk.clock()]);
         }
         for ticket in answer.started.as_slice() {
-            self.row("start", *ticket, desk.clock());
+            self.row("start", [*ticket, desk.clock()]);
         }
         if let Some((ticket, forecast)) = answer.new_head() {
-            self.row("head", ticket, forecast);
+            self.row("head", [ticket, forecast]);
         }
         Ok(())
     }
@@ -76,30 +94,30 @@ impl Page {
     pub fn migration(&mut self, before: Kind, desk: &Desk) {
         if before == Kind::Loose {
             for record in desk.records().iter().filter(|record| record.waits()) {
-                self.row("took", record.ticket, record.promise);
+                self.row("took", [record.ticket, record.promise]);
             }
         }
     }
 
     pub fn points(&mut self, points: &[Point]) {
         for point in points {
-            self.row("free", point.minute, point.free);
+            self.row("free", [point.minute, point.free]);
         }
     }
 
     pub fn blocks(&mut self, blocks: &[Block]) {
         for block in blocks {
-            self.row("block", block.fewest, block.most);
+            self.row("block", [block.fewest, block.most]);
         }
     }
 
     pub fn reads(&mut self, reads: u32) {
-        self.text += &format!("reads\t{reads}\n");
+        self.row("reads", [reads]);
     }
 
     pub fn earliest_start(&mut self, ticket: u32, earliest: &Earliest) -> Done {
         taken(earliest.refusal)?;
-        self.row("soonest", ticket, earliest.minute);
+        self.row("soonest", [ticket, earliest.minute]);
         Ok(())
     }
 
@@ -114,8 +132,23 @@ impl Page {
         match (desk.kind(), longest.estimate) {
             (Kind::Loose, _) => {}
             (Kind::Promise, 0) => self.text += "longest\t-\n",
-            (Kind::Promise, estimate) => self.text += &format!("longest\t{estimate}\n"),
+            (Kind::Promise, estimate) => self.row("longest", [estimate]),
         }
         Ok(())
+    }
+}
+
+#[cfg(test)]
+mod tests {
+    use super::*;
+
+    #[test]
+    fn numbers_are_decimal() {
+        let mut page = Page::default();
+        for number in (0..=1_001).chain([9_999, 10_000, 999_999, 1_000_000, u32::MAX - 1, u32::MAX]) {
+            page.text.clear();
+            page.row("no", [number, number]);
+            assert_eq!(page.text(), format!("no\t{number}\t{number}\n"));
+        }
     }
 }
