@@ -79,11 +79,11 @@ enum {
 enum {
     HINGEROTA_TAKEN = 0,
     HINGEROTA_NODES_OUT_OF_RANGE = 1,    /* an opening outside 1 to 1,024; a job with 0, or more than the machine has */
-    HINGEROTA_MINUTES_OUT_OF_RANGE = 2,  /* an estimate or a wait outside 1 to 10,080 */
+    HINGEROTA_MINUTES_OUT_OF_RANGE = 2,  /* an estimate, a wait or an advance outside 1 to 10,080 */
     HINGEROTA_OPENING_OUT_OF_RANGE = 3,  /* a first minute above 1,000,000, or a first ticket outside 1 to 999,999 */
     /* 4 is no longer given: 15 stands in its place */
     HINGEROTA_NO_TICKET_LEFT = 5,        /* ticket 999,999 has been given */
-    HINGEROTA_PAST_LAST_MINUTE = 6,      /* a job whose nodes could be taken after minute 1,000,000; a tick or a wait past it */
+    HINGEROTA_PAST_LAST_MINUTE = 6,      /* a job whose nodes could be taken after minute 1,000,000; a tick, a wait or an advance past it */
     HINGEROTA_NOT_RUNNING = 7,           /* no running job has the ticket; a job in cleanup does not run */
     /* 8 is no longer given: a profile never has more than 129 points */
     HINGEROTA_TOO_SHORT = 10,            /* the points, the blocks, the page, the text or the sentences do not fit into what is lent */
@@ -186,6 +186,12 @@ typedef struct {
     hingerota_tickets started; /* in the order of starting; on a Promise Desk, ascending */
 } hingerota_answer; /* 552 bytes */
 
+/* What minutes that pass at once give. */
+typedef struct {
+    hingerota_answer answer; /* to the last of the minutes that have passed */
+    uint32_t minutes;        /* how many have passed; 0 if the call is refused */
+} hingerota_advanced; /* 560 bytes */
+
 /* What an opening, or a text that is read back, gives. */
 typedef struct {
     uint32_t refusal;
@@ -256,6 +262,14 @@ hingerota_answer hingerota_amend(hingerota_desk *d, hingerota_amendment amendmen
  * 1,000,000. */
 hingerota_answer hingerota_tick(hingerota_desk *d);
 
+/* So many minutes pass at once, or fewer: up to the first in which something is due. That is so of a minute in which a run ends, nodes are
+ * free again after a cleanup, or a job of a Promise Desk starts as planned. It is what so many ticks would give, without their cost: `answer`
+ * is that of the last minute that has passed, and every minute before it would have answered nothing. `minutes` says how many have passed.
+ * To let all of them pass, call it again with those that are left. In a list of calls it counts as so many ticks. Refused by 2 or 6, the
+ * first that applies, as a wait of `minutes` is (see hingerota_wait_refusal), also where something is due before the last of them: then no
+ * minute has passed, and the call counts as one refused call. */
+hingerota_advanced hingerota_advance(hingerota_desk *d, uint32_t minutes);
+
 /* A Loose Desk becomes a Promise Desk while jobs run; a Promise Desk stays as it is. The call is never refused, and no job ends or starts.
  * Jobs that run or are in cleanup keep their starts, which become their promises, and their ends. Waiting jobs are planned one after another,
  * in ticket order, like submissions to a Promise Desk. Each gets the smallest minute from which its nodes are free for its estimate rounded up
@@ -276,7 +290,7 @@ hingerota_shown hingerota_profile(const hingerota_desk *d, hingerota_point *poin
 hingerota_shown hingerota_index(const hingerota_desk *d, hingerota_block *blocks, size_t room);
 
 /* The number by which a wait of `minutes` is refused, 2 or 6, the first that applies. 0 means that it is not refused: then it is that number
- * of ticks. The desk is only read. */
+ * of ticks, which hingerota_advance makes at once. The desk is only read. */
 uint32_t hingerota_wait_refusal(const hingerota_desk *d, uint32_t minutes);
 
 /* The earliest minute at which a waiting job can start. It is the smallest minute, now or later, at which its nodes would be free if every

@@ -1,7 +1,9 @@
 //! The structs of `raw.rs` have the sizes and offsets of those in `include/hingerota.h`, as a C compiler lays them out, and the lengths of
 //! `lib.rs` are the header's.
 
-use crate::raw::{Amendment, Answer, Block, Desk, Earliest, Inquiry, Longest, Opened, Opening, Order, Point, Record, Shown, Tickets};
+use crate::raw::{
+    Advanced, Amendment, Answer, Block, Desk, Earliest, Inquiry, Longest, Opened, Opening, Order, Point, Record, Shown, Tickets,
+};
 use std::mem::{offset_of, size_of};
 use std::path::Path;
 use std::process::Command;
@@ -48,6 +50,7 @@ fn layouts_are_those_of_the_header() {
         "hingerota_desk" Desk { kind nodes cleanup quota_a quota_b clock next jobs }
         "hingerota_tickets" Tickets { count list }
         "hingerota_answer" Answer { refusal ticket promise reads head forecast ended started }
+        "hingerota_advanced" Advanced { answer minutes }
         "hingerota_opened" Opened { refusal desk }
         "hingerota_point" Point { minute free }
         "hingerota_block" Block { fewest most }
@@ -95,6 +98,7 @@ fn sizes_are_as_stated() {
         ("hingerota_desk", size_of::<Desk>()),
         ("hingerota_tickets", size_of::<Tickets>()),
         ("hingerota_answer", size_of::<Answer>()),
+        ("hingerota_advanced", size_of::<Advanced>()),
         ("hingerota_opened", size_of::<Opened>()),
         ("hingerota_point", size_of::<Point>()),
         ("hingerota_block", size_of::<Block>()),

@@ -8,7 +8,7 @@ mod layout;
 mod raw;
 
 pub use raw::Desk as Numbers;
-pub use raw::{Amendment, Answer, Block, Earliest, Inquiry, Longest, Opening, Order, Point, Record, Shown, Tickets};
+pub use raw::{Advanced, Amendment, Answer, Block, Earliest, Inquiry, Longest, Opening, Order, Point, Record, Shown, Tickets};
 
 /// The list of points that always suffices.
 pub const MOST_POINTS: usize = 129;
@@ -123,6 +123,13 @@ impl Desk {
         unsafe { raw::hingerota_tick(&mut self.raw) }
     }
 
+    /// So many minutes pass, or fewer: up to the first in which something is due, that is a job ends, its cleanup is over or its planned
+    /// start has come. The answer is that of the last minute that has passed, as a tick gives it; the minutes before it have nothing to
+    /// answer. Refused by 2 or 6, as [`Desk::wait_refusal`] says it.
+    pub fn advance(&mut self, minutes: u32) -> Advanced {
+        unsafe { raw::hingerota_advance(&mut self.raw, minutes) }
+    }
+
     /// A Loose Desk becomes a Promise Desk while jobs run; a Promise Desk stays as it is. It is never refused, and no job ends or starts.
     /// Waiting jobs are planned in ticket order, and each is promised the minute for which it is planned. The first job's promise is no later
     /// than its forecast was, and every promise is no later than the job's bound was.
@@ -142,6 +149,7 @@ impl Desk {
     }
 
     /// The number by which a wait of `minutes` is refused, 2 or 6. 0 means that it is not refused: then it is that number of ticks.
+    /// [`Desk::advance`] makes these ticks at once.
     pub fn wait_refusal(&self, minutes: u32) -> u32 {
         unsafe { raw::hingerota_wait_refusal(&self.raw, minutes) }
     }

@@ -115,6 +115,17 @@ pub struct Answer {
     pub started: Tickets,
 }
 
+/// Of minutes that pass at once.
+#[repr(C)]
+#[derive(Clone, Copy, PartialEq, Eq, Debug)]
+#[must_use = "a call may be refused"]
+pub struct Advanced {
+    /// To the last of the minutes that have passed.
+    pub answer: Answer,
+    /// So many have; 0 where it is refused.
+    pub minutes: u32,
+}
+
 #[repr(C)]
 pub struct Opened {
     pub refusal: u32,
@@ -170,6 +181,7 @@ extern "C" {
     pub fn hingerota_cancel(d: *mut Desk, ticket: u32) -> Answer;
     pub fn hingerota_amend(d: *mut Desk, amendment: Amendment) -> Answer;
     pub fn hingerota_tick(d: *mut Desk) -> Answer;
+    pub fn hingerota_advance(d: *mut Desk, minutes: u32) -> Advanced;
     pub fn hingerota_migrate(d: *mut Desk);
     pub fn hingerota_profile(d: *const Desk, points: *mut Point, room: usize) -> Shown;
     pub fn hingerota_index(d: *const Desk, blocks: *mut Block, room: usize) -> Shown;

@@ -81,7 +81,7 @@ fn play(desk: &Model, calls: impl IntoIterator<Item = (Call, Answer)>) -> Result
     Ok(book)
 }
 
-pub fn finds(found: Result<Book, String>, claim: &str) {
+pub fn finds<T>(found: Result<T, String>, claim: &str) {
     let found = found.err().unwrap_or_else(|| panic!("not found out: {claim}"));
     assert!(found.contains(claim), "{claim}: {found}");
 }

@@ -1,11 +1,13 @@
 //! Random lists of calls, on the library and on a model written from document 01's words: after every call the answers, every field of the
 //! desk and of its 64 records, the points, the blocks and an earliest start are compared, and now and then how long a job may be, the
 //! status page, the desk's lines, which are read back, and why jobs wait; the guarantees are watched by the calls and their answers, the
-//! rule on gaps by the records and the points, and corrected orders by the records and by the calls that they count as. Each list starts
-//! from an opening, and then once more from a desk that no calls need have made, read back from lines or found in memory; every second
-//! Loose Desk becomes a Promise Desk in the middle. The lists are the same in every run; LISTS says how many, and LIST plays one alone.
+//! rule on gaps by the records and the points, corrected orders by the records and by the calls that they count as, and minutes that pass at
+//! once by the ticks that they count as. Each list starts from an opening, and then once more from a desk that no calls need have made, read
+//! back from lines or found in memory; every second Loose Desk becomes a Promise Desk in the middle. The lists are the same in every run;
+//! LISTS says how many, and LIST plays one alone.
 
 mod acceptance;
+mod advance;
 mod board;
 mod book;
 mod broken_changes;
@@ -26,6 +28,7 @@ mod text;
 mod why;
 
 use acceptance::CONDITIONS;
+use advance::Advances;
 use book::{Book, Call, Tried};
 use correction::Corrections;
 use hingerota_host::{
@@ -59,6 +62,9 @@ const WHYS: u32 = 5;
 /// And after so many a copy of the desk changes its kind.
 const CHANGES: u32 = 3;
 
+/// Of a hundred times that minutes pass, so many times they pass at once.
+const ADVANCES: u32 = 40;
+
 /// Of a list from a desk that no calls need have made, at most so many calls.
 const CALLS_GOING_ON: u32 = 20;
 
@@ -82,7 +88,7 @@ struct Plan {
     calls: u32,
     estimates: Estimates,
     /// Of a hundred calls, so many are submissions, completions, withdrawals, corrections, profiles and waits that are only judged; the
-    /// others are ticks.
+    /// others are ticks, and minutes that pass at once.
     submissions: u32,
     completions: u32,
     withdrawals: u32,
@@ -200,6 +206,7 @@ struct Count {
     withdrawals: u64,
     corrections: Corrections,
     ticks: u64,
+    advances: Advances,
     profiles: u64,
     points: u64,
     indexes: u64,
@@ -273,6 +280,7 @@ impl Count {
         self.withdrawals += other.withdrawals;
         self.corrections.add(&other.corrections);
         self.ticks += other.ticks;
+        self.advances.add(&other.advances);
         self.profiles += other.profiles;
         self.points += other.points;
         self.indexes += other.indexes;
@@ -746,6 +754,9 @@ fn step(plan: &Plan, played: &mut Played, random: &mut Random) -> Result<(), Str
             _ => random.between(1, 10_080),
         };
         played.wait_refusal(minutes)
+    } else if random.percent(ADVANCES) {
+        let minutes = advance::some_minutes(played, random);
+        played.advance(minutes, random)
     } else {
         // Some minutes, or as many as it takes until a job that is due ends, starts or leaves, or comes to its least or the minute before.
         let (clock, cleanup) = (played.model.clock, played.model.cleanup);
@@ -850,6 +861,8 @@ fn main() {
         None => (0, number("LISTS").unwrap_or(LISTS)),
     };
     book::finds_broken_claims();
+    advance::finds_broken_advances();
+    advance::at_the_edges();
     gaps::finds_gaps();
     board::finds_broken_pages();
     broken_lines::are_found();
@@ -895,6 +908,7 @@ fn main() {
         "{} lists, {} calls: {} submissions, {} completions, {} withdrawals, {} ticks, {} profiles with {} points, {} waits judged",
         all.lists, all.calls, all.submissions, all.completions, all.withdrawals, all.ticks, all.profiles, all.points, all.waits
     );
+    print!("and {}", all.advances);
     println!(
         "and {} earliest starts asked for: {earliest_given} given, {} of these later than now, {earliest_risen} larger than before",
         all.earliest_starts, all.earliest_starts_later

@@ -339,6 +339,32 @@ impl Model {
         answer
     }
 
+    /// In this minute a run ends, nodes are free again after their clearing, or a planned start has come.
+    pub fn is_due(&self, minute: u32) -> bool {
+        self.jobs.iter().any(|j| match j.state {
+            State::Waiting => j.start == minute,
+            State::Running => j.ends() == minute,
+            State::Cleanup => self.freed(j) == minute,
+        })
+    }
+
+    /// Minute by minute, up to the first in which something is due: how many have passed, and what the last of them answers.
+    pub fn advance(&mut self, minutes: u32) -> (u32, Answer) {
+        let refusal = self.wait_refusal(minutes);
+        if refusal != 0 {
+            return (0, refused(refusal));
+        }
+        let mut passed = 0;
+        loop {
+            let due = self.is_due(self.clock + 1);
+            let answer = self.tick();
+            passed += 1;
+            if due || passed == minutes {
+                return (passed, answer);
+            }
+        }
+    }
+
     /// Document 02, No. 12: "Running and clearing stacks keep starts, now their promises, and ends; waiting ones are planned in ticket order
     /// by the Promise Desk's intake rule and receive promises then. [...] Tickets and clock go on." What intake answers of each that waits.
     /// A Promise Desk stays as it is.

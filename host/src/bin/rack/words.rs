@@ -58,13 +58,16 @@ const WORDS: &[Word] = &[
         form: "wait MINUTES",
         does: "lets MINUTES pass",
         play: |rack, fields, page| {
-            let [minutes] = numbers(fields)?;
-            taken(rack.desk.wait_refusal(minutes))?;
-            for _ in 0..minutes {
-                let answer = rack.desk.tick();
-                page.answer(&rack.desk, &answer)?;
+            let [mut minutes] = numbers(fields)?;
+            // Up to what is due, and on until all have passed. Where it is refused, the first call is.
+            loop {
+                let advanced = rack.desk.advance(minutes);
+                page.answer(&rack.desk, &advanced.answer)?;
+                minutes -= advanced.minutes;
+                if minutes == 0 {
+                    return Ok(());
+                }
             }
-            Ok(())
         },
     },
     Word {
