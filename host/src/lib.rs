@@ -6,9 +6,11 @@
 #[cfg(test)]
 mod layout;
 mod raw;
+pub mod refusal;
 
 pub use raw::Desk as Numbers;
 pub use raw::{Advanced, Amendment, Answer, Block, Earliest, Inquiry, Longest, Opening, Order, Point, Record, Shown, Tickets};
+pub use refusal::reason;
 
 /// The list of points that always suffices.
 pub const MOST_POINTS: usize = 129;
@@ -280,30 +282,5 @@ impl Answer {
 impl Tickets {
     pub fn as_slice(&self) -> &[u32] {
         &self.list[..self.count]
-    }
-}
-
-/// What the number of a refusal says.
-pub fn reason(refusal: u32) -> &'static str {
-    match refusal {
-        0 => "taken",
-        1 => "nodes out of range",
-        2 => "an estimate or a wait outside 1 to 10,080",
-        3 => "opened past minute 1,000,000, or with a first ticket outside 1 to 999,999",
-        5 => "ticket 999,999 has been given",
-        6 => "past the last minute, 1,000,000",
-        7 => "the ticket is not running",
-        10 => "the list, the page or the text is too short",
-        11 => "the ticket is not waiting",
-        12 => "opened with a cleanup above 30",
-        13 => "opened with places that are not 64 together, or with none for a house",
-        14 => "neither house A nor house B",
-        15 => "the house's places are all live",
-        19 => "the least is above the most",
-        20 => "the end is before the least",
-        21 => "the minute asked for is past",
-        22 => "a line lacks the form or is unclosed, or there is none",
-        23 => "one of the conditions of a desk is broken",
-        _ => "no such refusal",
     }
 }

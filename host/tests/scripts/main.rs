@@ -218,11 +218,14 @@ fn arguments() {
         "  reread  ",
         "rack --from FILE <SCRIPT",
         "rack --check <LINES",
+        "rack DIR open promise|loose NODES [--clearing C] [--places A B] [--minute M] [--ticket T] [--since TIME]",
+        "rack DIR repair --to-line K",
+        "Status: 0 taken; 1 refused, or a line of the script was; 2 wrong usage; 3 cannot read or write",
     ] {
         assert!(help.output.contains(word), "{word}");
     }
-    let from = [&["--from"][..], &["--from=desk"], &["--from", "desk", "more"], &["desk", "--from"], &["--from", "desk", "--check"]];
-    let others = [&["-h"][..], &["script"], &["--help", "--help"], &[""], &["--check", "desk"], &["--check", "--check"]];
+    let from = [&["--from"][..], &["--from=desk"], &["--from", "desk", "more"], &["--from", "desk", "--check"]];
+    let others = [&["-h"][..], &["--help", "--help"], &[""], &["", "open"], &["--check", "desk"], &["--check", "--check"]];
     for wrong in from.into_iter().chain(others) {
         let ended = of(wrong);
         assert_eq!((ended.status, ended.output.as_str()), (Some(2), ""), "{wrong:?}");

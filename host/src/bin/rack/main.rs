@@ -1,13 +1,15 @@
 //! `rack`: plays a script of lines from standard input on a desk, which the first line opens or the lines of a file give, or says whether
-//! lines give a desk. What a line prints is written before the next line is read. Everything that is decided, refusals too, is decided by
-//! the library: this reads lines and writes answers.
+//! lines give a desk. What a line prints is written before the next line is read. Or it keeps a desk in a folder (`desk`). Everything that
+//! is decided, refusals too, is decided by the library: this reads lines and writes answers.
 
+mod desk;
 mod fields;
 mod lines;
 mod page;
 mod script;
 mod words;
 
+use desk::Ended;
 use lines::Lines;
 use page::Page;
 use script::Script;
@@ -67,6 +69,21 @@ fn help() -> Result<(), Failure> {
     write(&mut file(io::stdout())?, &words::usage())
 }
 
+/// A command on a folder, by its own statuses.
+fn on_folder(path: &OsString, rest: &[OsString]) -> ExitCode {
+    let (status, said) = match desk::run(path, rest) {
+        Ok(Ended::Taken) => (0, None),
+        Ok(Ended::Refused) => (1, None),
+        Ok(Ended::Declined(why)) => (1, Some(why)),
+        Ok(Ended::Misused(why)) => (2, Some(format!("{why} ('rack --help' says more)"))),
+        Err(failure) => (3, Some(failure)),
+    };
+    if let Some(said) = said {
+        eprintln!("rack: {said}");
+    }
+    ExitCode::from(status)
+}
+
 fn main() -> ExitCode {
     let arguments: Vec<OsString> = std::env::args_os().skip(1).collect();
     let done = match arguments.as_slice() {
@@ -74,6 +91,7 @@ fn main() -> ExitCode {
         [option, path] if option == "--from" => play_from(Path::new(path)),
         [only] if only == "--check" => check(),
         [only] if only == "--help" => help(),
+        [path, rest @ ..] if !path.is_empty() && !path.as_encoded_bytes().starts_with(b"-") => return on_folder(path, rest),
         _ => {
             eprint!("{}", words::usage());
             return ExitCode::from(2);

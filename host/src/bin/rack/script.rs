@@ -25,6 +25,11 @@ impl Rack {
         Rack { desk, reads: 0 }
     }
 
+    /// With the desk that a text's lines give.
+    pub fn restored(text: &[u8]) -> Result<Rack, Refusal> {
+        Ok(Rack::new(restored(text)?))
+    }
+
     /// Document 02, No. 11: "A desk must be written out and read back."
     pub fn reread(&mut self) -> Done {
         self.desk = restored(&self.desk.text())?;
@@ -40,7 +45,7 @@ fn restored(text: &[u8]) -> Result<Desk, Refusal> {
 impl Script {
     /// On the desk that a text's lines give: all lines of the script are later ones.
     pub fn from(text: &[u8]) -> Result<Script, Refusal> {
-        Ok(Script::Playing(Box::new(Rack::new(restored(text)?))))
+        Ok(Script::Playing(Box::new(Rack::restored(text)?)))
     }
 
     pub fn is_over(&self) -> bool {
@@ -79,7 +84,7 @@ impl Script {
 
 /// "First line: `desk`, `promise` or `loose`, nodes, minute, ticket." Document 02, No. 4: "the `desk` line always has the clearing, then the
 /// places of A and of B".
-fn open(fields: &[&[u8]]) -> Result<Rack, Refusal> {
+pub fn open(fields: &[&[u8]]) -> Result<Rack, Refusal> {
     let [b"desk", kind, rest @ ..] = fields else {
         return Err(LACKS_THE_FORM);
     };

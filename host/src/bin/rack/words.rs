@@ -1,5 +1,6 @@
 //! The words of later lines. A word is an entry of `WORDS`, and stands nowhere else.
 
+use crate::desk;
 use crate::fields::{letter, number, numbers};
 use crate::page::{taken, Done, Page, Refusal, LACKS_THE_FORM};
 use crate::script::Rack;
@@ -9,6 +10,8 @@ struct Word {
     /// The word, and the fields after it as the usage shows them.
     form: &'static str,
     does: &'static str,
+    /// A call, which changes the desk where it is taken; others ask.
+    is_call: bool,
     /// Asks the rack, by the fields after the word, and prints what it gives.
     play: fn(&mut Rack, &[&[u8]], &mut Page) -> Done,
 }
@@ -17,6 +20,7 @@ const WORDS: &[Word] = &[
     Word {
         form: "in NODES [LEAST] MOST HOUSE",
         does: "submits a job of house A or B that runs for LEAST (or 0) to MOST minutes",
+        is_call: true,
         play: |rack, fields, page| {
             let (house, rest) = fields.split_last().ok_or(LACKS_THE_FORM)?;
             let ([nodes, least, estimate], tenant) = (order(rest)?, letter(house)?);
@@ -29,6 +33,7 @@ const WORDS: &[Word] = &[
     Word {
         form: "end TICKET",
         does: "ends a running job early, at its least or later",
+        is_call: true,
         play: |rack, fields, page| {
             let [ticket] = numbers(fields)?;
             let answer = rack.desk.complete(ticket);
@@ -38,6 +43,7 @@ const WORDS: &[Word] = &[
     Word {
         form: "drop TICKET",
         does: "withdraws a waiting job",
+        is_call: true,
         play: |rack, fields, page| {
             let [ticket] = numbers(fields)?;
             let answer = rack.desk.cancel(ticket);
@@ -47,6 +53,7 @@ const WORDS: &[Word] = &[
     Word {
         form: "correct TICKET NODES [LEAST] MOST",
         does: "corrects a waiting job's order; it gets a new ticket if NODES or MOST, rounded up, grow",
+        is_call: true,
         play: |rack, fields, page| {
             let (ticket, rest) = fields.split_first().ok_or(LACKS_THE_FORM)?;
             let (ticket, [nodes, least, estimate]) = (number(ticket)?, order(rest)?);
@@ -57,6 +64,7 @@ const WORDS: &[Word] = &[
     Word {
         form: "wait MINUTES",
         does: "lets MINUTES pass",
+        is_call: true,
         play: |rack, fields, page| {
             let [mut minutes] = numbers(fields)?;
             // Up to what is due, and on until all have passed. Where it is refused, the first call is.
@@ -73,6 +81,7 @@ const WORDS: &[Word] = &[
     Word {
         form: "change",
         does: "turns a Loose Desk into a Promise Desk; prints took TICKET PROMISE for each waiting job",
+        is_call: true,
         play: |rack, fields, page| {
             let [] = numbers(fields)?;
             let kind = rack.desk.kind();
@@ -84,6 +93,7 @@ const WORDS: &[Word] = &[
     Word {
         form: "profile",
         does: "prints one line per point: free MINUTE NODES (Promise Desk)",
+        is_call: false,
         play: |rack, fields, page| {
             let [] = numbers(fields)?;
             let mut points = [Point { minute: 0, free: 0 }; MOST_POINTS];
@@ -96,6 +106,7 @@ const WORDS: &[Word] = &[
     Word {
         form: "index",
         does: "prints one line per 16 points: block FEWEST MOST, the free nodes (Promise Desk)",
+        is_call: false,
         play: |rack, fields, page| {
             let [] = numbers(fields)?;
             let mut blocks = [Block { fewest: 0, most: 0 }; MOST_BLOCKS];
@@ -108,6 +119,7 @@ const WORDS: &[Word] = &[
     Word {
         form: "reads",
         does: "prints reads NUMBER: how many points the search for the last accepted job read",
+        is_call: false,
         play: |rack, fields, page| {
             let [] = numbers(fields)?;
             page.reads(rack.reads);
@@ -117,6 +129,7 @@ const WORDS: &[Word] = &[
     Word {
         form: "soonest TICKET",
         does: "prints soonest TICKET MINUTE: the waiting job never starts before MINUTE",
+        is_call: false,
         play: |rack, fields, page| {
             let [ticket] = numbers(fields)?;
             page.earliest_start(ticket, &rack.desk.earliest_start(ticket))
@@ -125,6 +138,7 @@ const WORDS: &[Word] = &[
     Word {
         form: "board",
         does: "prints the status page: 66 lines, a heading and one line per job",
+        is_call: false,
         play: |rack, fields, page| {
             let [] = numbers(fields)?;
             let mut bytes = [0; PAGE_BYTES];
@@ -137,6 +151,7 @@ const WORDS: &[Word] = &[
     Word {
         form: "longest NODES HOUSE MINUTE",
         does: "prints longest ESTIMATE: the longest job that starts by MINUTE, - if none (Promise Desk)",
+        is_call: false,
         play: |rack, fields, page| {
             let [nodes, house, minute] = fields else {
                 return Err(LACKS_THE_FORM);
@@ -148,6 +163,7 @@ const WORDS: &[Word] = &[
     Word {
         form: "why",
         does: "prints one sentence per waiting job: who holds nodes just before its start (Promise Desk)",
+        is_call: false,
         play: |rack, fields, page| {
             let [] = numbers(fields)?;
             page.written(&rack.desk.sentences());
@@ -157,6 +173,7 @@ const WORDS: &[Word] = &[
     Word {
         form: "text",
         does: "prints the desk's lines, for --check and --from",
+        is_call: false,
         play: |rack, fields, page| {
             let [] = numbers(fields)?;
             page.written(&rack.desk.text());
@@ -166,6 +183,7 @@ const WORDS: &[Word] = &[
     Word {
         form: "reread",
         does: "writes the desk out, reads it back and goes on from its lines",
+        is_call: false,
         play: |rack, fields, _| {
             let [] = numbers(fields)?;
             rack.reread()
@@ -187,11 +205,25 @@ impl Word {
     }
 }
 
+fn find(name: &[u8]) -> Option<&'static Word> {
+    WORDS.iter().find(|word| word.name() == name)
+}
+
 /// What a later line asks.
 pub fn play(rack: &mut Rack, fields: &[&[u8]], page: &mut Page) -> Done {
     let (name, rest) = fields.split_first().ok_or(LACKS_THE_FORM)?;
-    let word = WORDS.iter().find(|word| word.name() == *name).ok_or(LACKS_THE_FORM)?;
+    let word = find(name).ok_or(LACKS_THE_FORM)?;
     (word.play)(rack, rest, page)
+}
+
+/// Whether a line changes the desk where it is taken.
+pub fn is_call(fields: &[&[u8]]) -> bool {
+    fields.first().and_then(|name| find(name)).is_some_and(|word| word.is_call)
+}
+
+/// The form of lines that begin with this word, if it is one.
+pub fn form(name: &[u8]) -> Option<&'static str> {
+    find(name).map(|word| word.form)
 }
 
 pub fn usage() -> String {
@@ -201,6 +233,11 @@ pub fn usage() -> String {
 usage: rack <SCRIPT
        rack --from FILE <SCRIPT
        rack --check <LINES
+       rack DIR open promise|loose NODES [--clearing C] [--places A B] [--minute M] [--ticket T] [--since TIME]
+       rack DIR WORD FIELD..
+       rack DIR <SCRIPT
+       rack DIR close|prune|audit|follow
+       rack DIR repair --to-line K
        rack --help
 
 Plays a script on a desk, and prints what a line gives before it reads the next.
@@ -223,7 +260,10 @@ Later lines:
   head TICKET FORECAST                    on a Loose Desk: the job now waits first, and starts by FORECAST
   no NUMBER                               the line is refused; 9 if it lacks the form
 A refused first line ends the script.
-"
+Status: 0 played, refused lines too; 1 cannot read or write; 2 wrong usage.
+
+{}",
+        desk::USAGE
     )
 }
 

@@ -1,0 +1,232 @@
+//! The commands on a folder: what each does in its turn, and what it prints after.
+
+use super::arguments::{asked, Asked, Command};
+use super::clock::Since;
+use super::folder::Folder;
+use super::follow::follow;
+use super::generations;
+use super::held::Held;
+use super::repair::repair;
+use super::say::{refused_opening, Sayer};
+use super::turn::Turn;
+use crate::fields::{fields, number};
+use crate::lines::{Line, Lines};
+use crate::page::{Page, Refusal, LACKS_THE_FORM};
+use crate::script;
+use crate::{file, Failure};
+use std::ffi::OsString;
+use std::fs::File;
+use std::io::{self, BufReader, ErrorKind, IsTerminal, Write};
+use std::os::fd::{AsFd, BorrowedFd};
+use std::path::Path;
+
+/// How a command ended that could read and write.
+pub enum Ended {
+    Taken,
+    /// It was refused, a line of its script too; the number was printed.
+    Refused,
+    /// It was refused for what no number says.
+    Declined(String),
+    /// The arguments are wrong, and why.
+    Misused(String),
+}
+
+/// Standard output.
+pub struct Output {
+    file: File,
+    /// Whether sentences are printed too.
+    pub words: bool,
+}
+
+impl Output {
+    fn new(words: bool) -> Result<Output, Failure> {
+        Ok(Output { file: file(io::stdout())?, words: words || io::stdout().is_terminal() })
+    }
+
+    fn print(&mut self, text: &str) -> Result<(), Failure> {
+        self.file.write_all(text.as_bytes()).map_err(|e| format!("the printout cannot be written: {e}; what was taken is kept"))
+    }
+
+    /// Whether somebody reads it still.
+    pub fn told(&mut self, text: &str) -> Result<bool, Failure> {
+        match self.file.write_all(text.as_bytes()) {
+            Err(e) if e.kind() == ErrorKind::BrokenPipe => Ok(false),
+            Err(e) => Err(format!("the printout cannot be written: {e}")),
+            Ok(()) => Ok(true),
+        }
+    }
+
+    pub fn descriptor(&self) -> BorrowedFd<'_> {
+        self.file.as_fd()
+    }
+}
+
+/// A folder, and the desk in it once it was read.
+struct Session {
+    folder: Folder,
+    held: Option<Held>,
+    output: Output,
+}
+
+impl Session {
+    /// The desk as it stands, with the minutes that have passed, in its turn: and what these printed.
+    fn held(&mut self, page: &mut Page) -> Result<&mut Held, Failure> {
+        let held = match self.held.take() {
+            Some(mut held) => {
+                held.refresh(&mut Page::default())?;
+                held
+            }
+            None => Held::load(self.folder.clone())?,
+        };
+        let held = self.held.insert(held);
+        held.let_minutes_pass(page)?;
+        Ok(held)
+    }
+
+    /// Plays a line and prints what it gives. Whether it was taken.
+    fn line(&mut self, fields: &[&[u8]]) -> Result<bool, Failure> {
+        let (text, taken) = self.played(fields)?;
+        self.output.print(&text)?;
+        Ok(taken)
+    }
+
+    /// In its turn, which is over once what was taken is kept and before anything is printed.
+    fn played(&mut self, fields: &[&[u8]]) -> Result<(String, bool), Failure> {
+        let (words, _turn) = (self.output.words, Turn::take(&self.folder)?);
+        let (mut passed, mut page) = (Page::default(), Page::default());
+        let held = self.held(&mut passed)?;
+        let done = held.play(fields, &mut page)?;
+        if let Err(refusal) = done {
+            page.no(refusal);
+        }
+        let mut text = passed.text().to_string() + page.text();
+        if words {
+            let sayer = Sayer { desk: &held.rack.desk, since: held.since.as_ref() };
+            text += &sayer.taken(&[], passed.text());
+            text += &match done {
+                Ok(()) => sayer.taken(fields, page.text()),
+                Err(refusal) => sayer.refused(fields, refusal),
+            };
+        }
+        Ok((text, done.is_ok()))
+    }
+
+    /// Plays the lines on standard input, each in a turn of its own.
+    fn script(&mut self) -> Result<Ended, Failure> {
+        let mut lines = Lines::new(BufReader::new(file(io::stdin())?));
+        let mut ended = Ended::Taken;
+        while let Some(line) = lines.next().map_err(|e| format!("the script cannot be read: {e}"))? {
+            let fields = match line {
+                Line::Closed(bytes) => fields(bytes),
+                Line::Formless => Vec::new(),
+            };
+            if !self.line(&fields)? {
+                ended = Ended::Refused;
+            }
+        }
+        Ok(ended)
+    }
+
+    /// Does something with the desk in its turn, and prints a sentence that it gives.
+    fn once(&mut self, act: impl FnOnce(&mut Held) -> Result<String, Failure>) -> Result<Ended, Failure> {
+        let mut page = Page::default();
+        let said = {
+            let _turn = Turn::take(&self.folder)?;
+            act(self.held(&mut page)?)?
+        };
+        self.output.print(page.text())?;
+        self.say(&said)?;
+        Ok(Ended::Taken)
+    }
+
+    fn say(&mut self, sentence: &str) -> Result<(), Failure> {
+        if self.output.words {
+            self.output.print(&format!("{sentence}\n"))?;
+        }
+        Ok(())
+    }
+
+    /// Compares what is there, and changes nothing: no minute passes.
+    fn audit(&mut self) -> Result<Ended, Failure> {
+        let (generations, calls) = {
+            let _turn = Turn::take(&self.folder)?;
+            generations::audit(&self.folder)?
+        };
+        self.output.print(&format!("ok\t{calls}\n"))?;
+        self.say(&format!("{calls} calls of {generations} generations give what is there"))?;
+        Ok(Ended::Taken)
+    }
+
+    fn repair(&mut self, to_line: u64) -> Result<Ended, Failure> {
+        let repaired = {
+            let _turn = Turn::take(&self.folder)?;
+            repair(&self.folder, to_line)?
+        };
+        let Some(repaired) = repaired else {
+            return Ok(Ended::Declined("no line is damaged; nothing was changed".to_string()));
+        };
+        let (journal, kept) = (repaired.journal.display(), repaired.kept.display());
+        eprintln!("rack: {journal} goes on after line {to_line}; {} lines were taken out, and {kept} has all that it held", repaired.lines);
+        Ok(Ended::Taken)
+    }
+}
+
+/// Opens a desk and makes its folder.
+fn open(path: &Path, shared: bool, given: &[Vec<u8>], since: &Option<String>, output: &mut Output) -> Result<Ended, Failure> {
+    let fields: Vec<&[u8]> = given.iter().map(Vec::as_slice).collect();
+    let rack = match script::open(&fields) {
+        Err(LACKS_THE_FORM) => return Ok(Ended::Misused("numbers of 'open' have 1 to 7 digits".to_string())),
+        Err(refusal) => {
+            output.print(Page::refused(refusal).text())?;
+            if output.words {
+                output.print(&refused_opening(&fields, refusal))?;
+            }
+            return Ok(Ended::Refused);
+        }
+        Ok(rack) => rack,
+    };
+    let minute = number(fields[3]).map_err(|Refusal(n)| n.to_string())?;
+    let since = match since.as_ref().map(|time| Since::new(time, minute)).transpose() {
+        Err(misused) => return Ok(Ended::Misused(misused)),
+        Ok(since) => since,
+    };
+    if generations::is_there(path) {
+        return Ok(Ended::Declined(format!("{} is there already; nothing was changed", path.display())));
+    }
+    generations::make(path, shared, &rack, &since)?;
+    if output.words {
+        let now = Sayer { desk: &rack.desk, since: since.as_ref() }.now();
+        output.print(&format!("the desk in {} is open: it is {now}\n", path.display()))?;
+    }
+    Ok(Ended::Taken)
+}
+
+/// Runs a command by the name of its folder and the arguments after it.
+pub fn run(path: &OsString, rest: &[OsString]) -> Result<Ended, Failure> {
+    let Asked { path, words, shared, command } = match asked(path, rest) {
+        Ok(asked) => asked,
+        Err(misused) => return Ok(Ended::Misused(misused)),
+    };
+    let mut output = Output::new(words)?;
+    if let Command::Open { fields, since } = &command {
+        return open(&path, shared, fields, since, &mut output);
+    }
+    let folder = Folder::at(&path)?;
+    if folder.others_may_write && !shared {
+        return Ok(Ended::Declined(format!("others may write {}: 'chmod o-w' forbids it, and --shared allows it", path.display())));
+    }
+    let mut session = Session { folder, held: None, output };
+    match command {
+        Command::Open { .. } => Ok(Ended::Taken),
+        Command::Line(fields) => {
+            let fields: Vec<&[u8]> = fields.iter().map(Vec::as_slice).collect();
+            Ok(if session.line(&fields)? { Ended::Taken } else { Ended::Refused })
+        }
+        Command::Script => session.script(),
+        Command::Close => session.once(|held| held.begin_next().map(|()| format!("generation {} begins", held.number()))),
+        Command::Prune => session.once(|held| generations::prune(&held.folder).map(|gone| format!("{gone} generations were removed"))),
+        Command::Audit => session.audit(),
+        Command::Repair { to_line } => session.repair(to_line),
+        Command::Follow => follow(session.folder, &mut session.output).map(|()| Ended::Taken),
+    }
+}

@@ -1,0 +1,65 @@
+//! `rack DIR follow`: who is over and who starts, as it comes, for a controller at the other end of a pipe.
+
+use super::commands::Output;
+use super::folder::Folder;
+use super::held::Held;
+use super::say::Sayer;
+use super::system::{asked_to_end, end_when_asked, sleep_until_closed};
+use super::turn::Turn;
+use crate::page::Page;
+use crate::Failure;
+use std::time::Duration;
+
+/// So often it looks whether somebody has called, or a minute has passed.
+const PAUSE: Duration = Duration::from_millis(50);
+
+/// Until it is asked to end or the reader of the pipe is gone. Between turns others have theirs.
+pub fn follow(folder: Folder, output: &mut Output) -> Result<(), Failure> {
+    end_when_asked();
+    let mut held = {
+        let _turn = Turn::take(&folder)?;
+        Held::load(folder)?
+    };
+    loop {
+        match look(&mut held) {
+            Ok(page) => {
+                let told = told(&page);
+                let sentences = if output.words {
+                    Sayer { desk: &held.rack.desk, since: held.since.as_ref() }.taken(&[b"follow"], &told)
+                } else {
+                    String::new()
+                };
+                if !output.told(&(told + &sentences))? {
+                    return Ok(());
+                }
+            }
+            // A turn that was waited for when the signal came.
+            Err(_) if asked_to_end() => return Ok(()),
+            Err(failure) => return Err(failure),
+        }
+        while !held.is_behind()? {
+            if asked_to_end() || sleep_until_closed(output.descriptor(), PAUSE) {
+                return Ok(());
+            }
+        }
+        if asked_to_end() {
+            return Ok(());
+        }
+    }
+}
+
+/// What came since the last look.
+fn look(held: &mut Held) -> Result<Page, Failure> {
+    let mut page = Page::default();
+    let _turn = Turn::take(&held.folder)?;
+    held.refresh(&mut page)?;
+    held.let_minutes_pass(&mut page)?;
+    held.flush()?;
+    Ok(page)
+}
+
+/// "prints `over`, `start`, `head` lines".
+fn told(page: &Page) -> String {
+    let told = |line: &&str| ["over\t", "start\t", "head\t"].iter().any(|word| line.starts_with(word));
+    page.text().split_inclusive('\n').filter(told).collect()
+}
