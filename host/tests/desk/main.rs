@@ -1,12 +1,20 @@
 //! A desk that lives in a folder, `rack DIR ..`, run as a program and compared with the model of `../lists`: killed at random moments, with its
 //! journal cut off at every byte, with writing, flushing and renaming made to fail, with four processes at once, with its desk damaged, with
-//! the machine's clock set. Each test prints its count. DESK names one test alone; KILLS, CUTS, CALLS, BYTES say how many there are, where
-//! 0 leaves none out.
+//! the machine's clock set. Each test prints its count. DESK names one test alone. KILLS, CALLS and CLOCKS say how many there are of these;
+//! CUTS, BYTES, FAULTS and SCRIPTS that only every so many-th is tried.
 
 #[path = "../lists/acceptance.rs"]
 #[allow(dead_code)]
 mod acceptance;
+mod clocks;
+mod commands;
+mod crowd;
+mod cuts;
+mod damage;
+mod faults;
 mod folders;
+mod followers;
+mod full;
 mod kills;
 #[path = "../lists/model.rs"]
 #[allow(dead_code)]
@@ -21,12 +29,31 @@ mod random;
 #[path = "../lists/text.rs"]
 #[allow(dead_code)]
 mod text;
+mod words;
 
+use std::sync::atomic::{AtomicUsize, Ordering};
 use std::time::Instant;
 
 type Test = (&'static str, fn() -> String);
 
-const TESTS: &[Test] = &[("kills", kills::at_random_moments)];
+/// Most of their time tests wait for the disk.
+const AT_ONCE: usize = 3;
+
+const TESTS: &[Test] = &[
+    ("kills", kills::at_random_moments),
+    ("cuts", cuts::at_every_byte),
+    ("commands", commands::statuses_and_printouts),
+    ("clocks", clocks::forward_back_and_over),
+    ("damage", damage::in_every_byte),
+    ("faults", faults::at_every_call),
+    ("folders", folders::groups_modes_and_turns),
+    ("full", full::of_the_file_system),
+    ("crowd", crowd::four_at_once),
+    ("follow", followers::follow),
+    ("words", words::sentences),
+    ("generations", folders::generations),
+    ("repair", folders::repairs),
+];
 
 /// How many, unless the environment says.
 fn count(name: &str, full: u64) -> u64 {
@@ -34,12 +61,25 @@ fn count(name: &str, full: u64) -> u64 {
 }
 
 fn main() {
-    let alone = std::env::var("DESK").ok();
-    for (name, test) in TESTS {
-        if alone.as_ref().is_none_or(|alone| alone == name) {
-            let began = Instant::now();
-            let said = test();
-            println!("{name}: {said} ({:.1} s)", began.elapsed().as_secs_f64());
+    let arguments: Vec<String> = std::env::args().collect();
+    if let [_, inside, folder] = &arguments[..] {
+        if inside == full::INSIDE {
+            return full::inside(folder);
         }
     }
+    let alone = std::env::var("DESK").ok();
+    let asked: Vec<&Test> = TESTS.iter().filter(|(name, _)| alone.as_ref().is_none_or(|alone| alone == name)).collect();
+    assert!(!asked.is_empty(), "DESK names no test");
+    let next = AtomicUsize::new(0);
+    std::thread::scope(|threads| {
+        for _ in 0..AT_ONCE {
+            threads.spawn(|| {
+                while let Some((name, test)) = asked.get(next.fetch_add(1, Ordering::Relaxed)) {
+                    let began = Instant::now();
+                    let said = test();
+                    println!("{name}: {said} ({:.1} s)", began.elapsed().as_secs_f64());
+                }
+            });
+        }
+    });
 }

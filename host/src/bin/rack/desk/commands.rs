@@ -69,8 +69,8 @@ struct Session {
 }
 
 impl Session {
-    /// The desk as it stands, with the minutes that have passed, in its turn: and what these printed.
-    fn held(&mut self, page: &mut Page) -> Result<&mut Held, Failure> {
+    /// The desk as it stands, in its turn.
+    fn held(&mut self) -> Result<&mut Held, Failure> {
         let held = match self.held.take() {
             Some(mut held) => {
                 held.refresh(&mut Page::default())?;
@@ -78,9 +78,7 @@ impl Session {
             }
             None => Held::load(self.folder.clone())?,
         };
-        let held = self.held.insert(held);
-        held.let_minutes_pass(page)?;
-        Ok(held)
+        Ok(self.held.insert(held))
     }
 
     /// Plays a line and prints what it gives. Whether it was taken.
@@ -94,7 +92,8 @@ impl Session {
     fn played(&mut self, fields: &[&[u8]]) -> Result<(String, bool), Failure> {
         let (words, _turn) = (self.output.words, Turn::take(&self.folder)?);
         let (mut passed, mut page) = (Page::default(), Page::default());
-        let held = self.held(&mut passed)?;
+        let held = self.held()?;
+        let minutes_passed = held.let_minutes_pass(&mut passed)?;
         let done = held.play(fields, &mut page)?;
         if let Err(refusal) = done {
             page.no(refusal);
@@ -102,7 +101,9 @@ impl Session {
         let mut text = passed.text().to_string() + page.text();
         if words {
             let sayer = Sayer { desk: &held.rack.desk, since: held.since.as_ref() };
-            text += &sayer.taken(&[], passed.text());
+            if minutes_passed {
+                text += &sayer.passed(passed.text());
+            }
             text += &match done {
                 Ok(()) => sayer.taken(fields, page.text()),
                 Err(refusal) => sayer.refused(fields, refusal),
@@ -132,7 +133,9 @@ impl Session {
         let mut page = Page::default();
         let said = {
             let _turn = Turn::take(&self.folder)?;
-            act(self.held(&mut page)?)?
+            let held = self.held()?;
+            held.let_minutes_pass(&mut page)?;
+            act(held)?
         };
         self.output.print(page.text())?;
         self.say(&said)?;

@@ -23,13 +23,11 @@ pub fn follow(folder: Folder, output: &mut Output) -> Result<(), Failure> {
     loop {
         match look(&mut held) {
             Ok(page) => {
-                let told = told(&page);
-                let sentences = if output.words {
-                    Sayer { desk: &held.rack.desk, since: held.since.as_ref() }.taken(&[b"follow"], &told)
-                } else {
-                    String::new()
-                };
-                if !output.told(&(told + &sentences))? {
+                let mut text = told(&page);
+                if output.words {
+                    text += &Sayer { desk: &held.rack.desk, since: held.since.as_ref() }.lines(&text);
+                }
+                if !output.told(&text)? {
                     return Ok(());
                 }
             }

@@ -97,6 +97,7 @@ pub fn audit(folder: &Folder) -> Result<(usize, u64), Failure> {
             if *next != number + 1 {
                 return Err(format!("{} is missing, and {} is there", folder.desk(number + 1).display(), folder.desk(*next).display()));
             }
+            restored(folder, *next)?;
             compare(folder, *number, &text, &folder.read(&folder.desk(*next))?)?;
         }
     }
@@ -124,7 +125,7 @@ fn compare(folder: &Folder, number: u64, given: &[u8], next: &[u8]) -> Result<()
     }
     let lines = |text: &[u8]| String::from_utf8_lossy(text).lines().map(|line| line.replace('\t', " ")).collect::<Vec<_>>();
     let (given, next) = (lines(given), lines(next));
-    let place = (0..).find(|place| given.get(*place) != next.get(*place)).unwrap_or(0);
+    let place = given.iter().zip(&next).take_while(|(given, next)| given == next).count();
     let line = |lines: &[String]| lines.get(place).map_or("no line".to_string(), |line| format!("'{line}'"));
     let (desk, calls) = (folder.desk(number + 1), folder.calls(number));
     Err(format!("{}, line {}, is {}, and {} gives {}", desk.display(), place + 1, line(&next), calls.display(), line(&given)))

@@ -154,13 +154,13 @@ impl Held {
         Ok(())
     }
 
-    /// Lets the minutes pass that have passed on the machine's clock, if the desk follows it.
-    pub fn let_minutes_pass(&mut self, page: &mut Page) -> Result<(), Failure> {
-        let Some(since) = self.since.clone() else {
-            return Ok(());
+    /// Lets the minutes pass that have passed on the machine's clock, if the desk follows it. Whether there were any.
+    pub fn let_minutes_pass(&mut self, page: &mut Page) -> Result<bool, Failure> {
+        let Some(since) = &self.since else {
+            return Ok(false);
         };
         let due = since.minute_at(clock::now()?);
-        let to = due.min(LAST_MINUTE);
+        let (from, to) = (self.rack.desk.clock(), due.min(LAST_MINUTE));
         loop {
             let minutes = (to - i64::from(self.rack.desk.clock())).min(LONGEST_WAIT);
             if minutes <= 0 {
@@ -170,7 +170,7 @@ impl Held {
             done.map_err(|Refusal(n)| format!("{minutes} minutes have passed, and the desk refuses them, no {n}: {}", reason(n)))?;
         }
         self.say_of_clock(due);
-        Ok(())
+        Ok(self.rack.desk.clock() > from)
     }
 
     fn say_of_clock(&mut self, due: i64) {

@@ -37,6 +37,16 @@ impl Sayer<'_> {
         }
     }
 
+    /// Of lines that tell who is over, who starts and who is head.
+    pub fn lines(&self, printed: &str) -> String {
+        printed.lines().filter_map(|line| self.line(&Vec::new(), line)).map(|sentence| sentence + "\n").collect()
+    }
+
+    /// Of minutes that passed by the clock, and printed this.
+    pub fn passed(&self, printed: &str) -> String {
+        format!("{}it is {}\n", self.lines(printed), self.now())
+    }
+
     /// Of a line that was taken and printed this, a sentence a line.
     pub fn taken(&self, fields: &[&[u8]], printed: &str) -> String {
         let asked = text(fields);
@@ -81,8 +91,8 @@ impl Sayer<'_> {
             ["soonest", ticket, minute] => Some(format!("stack {ticket} starts no sooner than {}", self.minute(minute))),
             ["longest", "-"] => Some(format!("no stack of so many nodes would start by {}", self.minute(asked.last()?))),
             ["longest", minutes] => Some(format!("up to {minutes} minutes would start by {}", self.minute(asked.last()?))),
-            [line] if asked[0] == "why" => self.waits(line),
-            [line] if asked[0] == "board" => self.job(line),
+            [line] if asked.first() == Some(&"why") => self.waits(line),
+            [line] if asked.first() == Some(&"board") => self.job(line),
             _ => None,
         }
     }
