@@ -40,14 +40,14 @@ const CASES: &[Case] = &[
     Case { name: "repair", arguments: &["repair", "--to-line", "1"], journal: Some("wait\t1\nend\t9\n"), ..CALL },
 ];
 
-struct Shim {
-    library: PathBuf,
+pub struct Shim {
+    pub library: PathBuf,
     count: PathBuf,
     clock: PathBuf,
 }
 
 impl Shim {
-    fn compiled(place: &Place) -> Shim {
+    pub fn compiled(place: &Place) -> Shim {
         let source = Path::new(env!("CARGO_MANIFEST_DIR")).join("tests/desk/shim.c");
         let library = place.path.join("shim.so");
         let flags = ["-shared", "-fPIC", "-O1", "-Wall", "-Wextra", "-Werror"];

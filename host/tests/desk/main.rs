@@ -19,6 +19,7 @@ mod kills;
 #[path = "../lists/model.rs"]
 #[allow(dead_code)]
 mod model;
+mod orders;
 mod played;
 #[path = "../scripts/program.rs"]
 #[allow(dead_code)]
@@ -50,6 +51,7 @@ const TESTS: &[Test] = &[
     ("full", full::of_the_file_system),
     ("crowd", crowd::four_at_once),
     ("follow", followers::follow),
+    ("orders", orders::of_writing_and_printing),
     ("words", words::sentences),
     ("generations", folders::generations),
     ("repair", folders::repairs),

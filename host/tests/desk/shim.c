@@ -4,6 +4,7 @@
  *             kill: killed before      after: killed after                    torn: of a write half is done, and then it is killed
  * FAULT_ERRNO how it fails
  * FAULT_COUNT a file that gets the number of calls when the process ends
+ * FAULT_TRACE a file that gets a line for each call: its name, and the file's
  * Standard error is left alone, so that a sentence can be read. */
 #define _GNU_SOURCE
 #include <dlfcn.h>
@@ -11,6 +12,7 @@
 #include <fcntl.h>
 #include <signal.h>
 #include <stdarg.h>
+#include <stdio.h>
 #include <stdlib.h>
 #include <string.h>
 #include <sys/stat.h>
@@ -37,6 +39,29 @@ static void killed(void) {
         pause();
 }
 
+#define REAL(name) ((__typeof__(&name))dlsym(RTLD_NEXT, #name))
+
+/* Writes a line of the trace. */
+static void trace(const char *call, const char *path) {
+    const char *file = getenv("FAULT_TRACE"), *name = strrchr(path, '/');
+    char line[512];
+    if (!file)
+        return;
+    int length = snprintf(line, sizeof line, "%s %s\n", call, name ? name + 1 : path);
+    int fd = REAL(open64)(file, O_WRONLY | O_CREAT | O_APPEND, 0600);
+    if (REAL(write)(fd, line, (size_t)length) < 0)
+        _exit(99);
+    close(fd);
+}
+
+/* The same of a file that is open. */
+static void trace_open(const char *call, int fd) {
+    char link[64], path[512] = "";
+    snprintf(link, sizeof link, "/proc/self/fd/%d", fd);
+    if (readlink(link, path, sizeof path - 1) >= 0)
+        trace(call, path);
+}
+
 /* Whether this call fails. */
 static int fails(void) {
     long at = number("FAULT_AT");
@@ -58,11 +83,10 @@ static void done(void) {
         killed();
 }
 
-#define REAL(name) ((__typeof__(&name))dlsym(RTLD_NEXT, #name))
-
 ssize_t write(int fd, const void *bytes, size_t count) {
     if (fd == 2)
         return REAL(write)(fd, bytes, count);
+    trace_open("write", fd);
     if (fails()) {
         if (!mode("half") || calls > number("FAULT_AT") || count < 2)
             return -1;
@@ -76,21 +100,22 @@ ssize_t write(int fd, const void *bytes, size_t count) {
     return written;
 }
 
-#define CALL(type, name, parameters, arguments) \
-    type name parameters {                      \
-        if (fails())                            \
-            return -1;                          \
-        type result = REAL(name) arguments;     \
-        done();                                 \
-        return result;                          \
+#define CALL(type, name, parameters, arguments, traced) \
+    type name parameters {                              \
+        traced;                                         \
+        if (fails())                                    \
+            return -1;                                  \
+        type result = REAL(name) arguments;             \
+        done();                                         \
+        return result;                                  \
     }
 
-CALL(int, fsync, (int fd), (fd))
-CALL(int, fdatasync, (int fd), (fd))
-CALL(int, ftruncate64, (int fd, off64_t length), (fd, length))
-CALL(int, rename, (const char *from, const char *to), (from, to))
-CALL(int, unlink, (const char *path), (path))
-CALL(int, mkdir, (const char *path, mode_t bits), (path, bits))
+CALL(int, fsync, (int fd), (fd), trace_open("fsync", fd))
+CALL(int, fdatasync, (int fd), (fd), trace_open("fdatasync", fd))
+CALL(int, ftruncate64, (int fd, off64_t length), (fd, length), trace_open("ftruncate", fd))
+CALL(int, rename, (const char *from, const char *to), (from, to), trace("rename", to))
+CALL(int, unlink, (const char *path), (path), trace("unlink", path))
+CALL(int, mkdir, (const char *path, mode_t bits), (path, bits), trace("mkdir", path))
 
 int open64(const char *path, int flags, ...) {
     va_list rest;
@@ -99,6 +124,7 @@ int open64(const char *path, int flags, ...) {
     va_end(rest);
     if (!(flags & O_CREAT))
         return REAL(open64)(path, flags, bits);
+    trace("create", path);
     if (fails())
         return -1;
     int result = REAL(open64)(path, flags, bits);
