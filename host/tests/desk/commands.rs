@@ -140,6 +140,7 @@ fn statuses() -> u64 {
     assert_eq!(desk.journal(), ["in\t1\t5\tA"], "what was taken is kept");
     ends(Ended::of(desk.command(&[]).stdin(File::open(&place.path).unwrap())), 3, "the script cannot be read");
     ends(Desk { path: desk.file("desk-1") }.run(&["board"]), 3, "is no folder");
-    ends(Desk { path: place.path.clone() }.run(&["board"]), 3, "lock cannot be opened");
+    ends(Desk { path: place.path.clone() }.run(&["board"]), 3, "has no desk: it is no folder of a rack");
+    assert!(!place.path.join("lock").exists());
     count
 }

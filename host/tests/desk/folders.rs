@@ -87,16 +87,19 @@ impl Desk {
         lines
     }
 
-    /// Another folder with the same files.
+    /// Another folder beside it with the same files.
     pub fn copy(&self, name: &str) -> Desk {
-        let path = self.path.with_file_name(name);
-        let _ = fs::remove_dir_all(&path);
-        fs::create_dir(&path).unwrap();
+        self.copied(&self.path.with_file_name(name))
+    }
+
+    pub fn copied(&self, path: &Path) -> Desk {
+        let _ = fs::remove_dir_all(path);
+        fs::create_dir(path).unwrap();
         for entry in fs::read_dir(&self.path).unwrap() {
             let entry = entry.unwrap();
             fs::copy(entry.path(), path.join(entry.file_name())).unwrap();
         }
-        Desk { path }
+        Desk { path: path.to_owned() }
     }
 }
 
@@ -115,11 +118,10 @@ pub fn groups_modes_and_turns() -> String {
         let group = fs::metadata(&desk.path).unwrap().gid();
         desk.taken(&["wait", "1"]);
         desk.taken(&["close"]);
-        let last = desk.generations().len();
-        let names = [format!("desk-{last}"), format!("calls-{last}"), format!("calls-{}", last - 1), "lock".to_string()];
-        for name in names {
-            let found = fs::metadata(desk.file(&name)).unwrap();
-            assert_eq!((found.mode() & 0o777, found.gid()), (mode & 0o666, group), "{name} in {mode:o}");
+        for entry in fs::read_dir(&desk.path).unwrap() {
+            let entry = entry.unwrap();
+            let found = entry.metadata().unwrap();
+            assert_eq!((found.mode() & 0o777, found.gid()), (mode & 0o666, group), "{:?} in {mode:o}", entry.file_name());
         }
         modes += 1;
     }
@@ -135,6 +137,10 @@ pub fn groups_modes_and_turns() -> String {
         desk.taken(&["wait", "1", "--shared"]);
         modes += 1;
     }
+    // A lock that is missing is made again, in the folder of a desk.
+    fs::remove_file(desk.file("lock")).unwrap();
+    desk.taken(&["wait", "1", "--shared"]);
+    assert!(desk.file("lock").exists());
     let groups = if is_root { "groups and modes" } else { "modes, and not groups, which only root can give," };
     format!("{groups} of {modes} folders; {}; {}", a_reader(is_root), who_holds_it())
 }

@@ -116,7 +116,7 @@ fn kill_script(desk: &Desk, model: &mut Model, kept: &mut Vec<String>, random: &
             let _ = input.write_all(script.as_bytes());
         });
         let reader = threads.spawn(|| output.read_to_string(&mut printed));
-        let killed = kill(&mut child, random.below(12_000));
+        let killed = kill(&mut child, random.below(30_000));
         reader.join().unwrap().unwrap();
         killed
     });

@@ -16,6 +16,7 @@ mod folders;
 mod followers;
 mod full;
 mod kills;
+mod measure;
 #[path = "../lists/model.rs"]
 #[allow(dead_code)]
 mod model;
@@ -70,6 +71,9 @@ fn main() {
         }
     }
     let alone = std::env::var("DESK").ok();
+    if alone.as_deref() == Some("measure") {
+        return println!("{}", measure::all());
+    }
     let asked: Vec<&Test> = TESTS.iter().filter(|(name, _)| alone.as_ref().is_none_or(|alone| alone == name)).collect();
     assert!(!asked.is_empty(), "DESK names no test");
     let next = AtomicUsize::new(0);

@@ -8,7 +8,7 @@ use super::generations;
 use super::held::Held;
 use super::repair::repair;
 use super::say::{refused_opening, Sayer};
-use super::turn::Turn;
+use super::turn::Lock;
 use crate::fields::{fields, number};
 use crate::lines::{Line, Lines};
 use crate::page::{Page, Refusal, LACKS_THE_FORM};
@@ -64,6 +64,7 @@ impl Output {
 /// A folder, and the desk in it once it was read.
 struct Session {
     folder: Folder,
+    lock: Lock,
     held: Option<Held>,
     output: Output,
 }
@@ -90,7 +91,7 @@ impl Session {
 
     /// In its turn, which is over once what was taken is kept and before anything is printed.
     fn played(&mut self, fields: &[&[u8]]) -> Result<(String, bool), Failure> {
-        let (words, _turn) = (self.output.words, Turn::take(&self.folder)?);
+        let (words, _turn) = (self.output.words, self.lock.take()?);
         let (mut passed, mut page) = (Page::default(), Page::default());
         let held = self.held()?;
         let minutes_passed = held.let_minutes_pass(&mut passed)?;
@@ -132,7 +133,7 @@ impl Session {
     fn once(&mut self, act: impl FnOnce(&mut Held) -> Result<String, Failure>) -> Result<Ended, Failure> {
         let mut page = Page::default();
         let said = {
-            let _turn = Turn::take(&self.folder)?;
+            let _turn = self.lock.take()?;
             let held = self.held()?;
             held.let_minutes_pass(&mut page)?;
             act(held)?
@@ -152,17 +153,18 @@ impl Session {
     /// Compares what is there, and changes nothing: no minute passes.
     fn audit(&mut self) -> Result<Ended, Failure> {
         let (generations, calls) = {
-            let _turn = Turn::take(&self.folder)?;
+            let _turn = self.lock.take()?;
             generations::audit(&self.folder)?
         };
         self.output.print(&format!("ok\t{calls}\n"))?;
-        self.say(&format!("{calls} calls of {generations} generations give what is there"))?;
+        let plural = if generations == 1 { "" } else { "s" };
+        self.say(&format!("{calls} calls of {generations} generation{plural} give what is there"))?;
         Ok(Ended::Taken)
     }
 
     fn repair(&mut self, to_line: u64) -> Result<Ended, Failure> {
         let repaired = {
-            let _turn = Turn::take(&self.folder)?;
+            let _turn = self.lock.take()?;
             repair(&self.folder, to_line)?
         };
         let Some(repaired) = repaired else {
@@ -218,7 +220,8 @@ pub fn run(path: &OsString, rest: &[OsString]) -> Result<Ended, Failure> {
     if folder.others_may_write && !shared {
         return Ok(Ended::Declined(format!("others may write {}: 'chmod o-w' forbids it, and --shared allows it", path.display())));
     }
-    let mut session = Session { folder, held: None, output };
+    let lock = Lock::open(&folder)?;
+    let mut session = Session { folder, lock, held: None, output };
     match command {
         Command::Open { .. } => Ok(Ended::Taken),
         Command::Line(fields) => {
@@ -230,6 +233,6 @@ pub fn run(path: &OsString, rest: &[OsString]) -> Result<Ended, Failure> {
         Command::Prune => session.once(|held| generations::prune(&held.folder).map(|gone| format!("{gone} generations were removed"))),
         Command::Audit => session.audit(),
         Command::Repair { to_line } => session.repair(to_line),
-        Command::Follow => follow(session.folder, &mut session.output).map(|()| Ended::Taken),
+        Command::Follow => follow(session.folder, session.lock, &mut session.output).map(|()| Ended::Taken),
     }
 }

@@ -82,9 +82,13 @@ impl Folder {
         Ok(bytes)
     }
 
-    /// Makes a file, empty whatever it held before.
+    /// Makes a file. One of this name is what a command left that was killed, perhaps another's, and goes.
     pub fn create(&self, path: &Path) -> Result<File, Failure> {
-        let made = File::options().write(true).create(true).truncate(true).mode(self.mode).open(path);
+        let make = || File::options().write(true).create_new(true).mode(self.mode).open(path);
+        let made = match make() {
+            Err(e) if e.kind() == ErrorKind::AlreadyExists => fs::remove_file(path).and_then(|()| make()),
+            made => made,
+        };
         let file = made.map_err(failed(path, "made"))?;
         self.hand_over(&file).map_err(failed(path, "made"))?;
         Ok(file)
@@ -105,16 +109,32 @@ impl Folder {
         Ok(())
     }
 
-    /// The same of a file that was there before the folder's group or mode was changed, if it is the caller's own.
-    pub fn hand_over_own(&self, path: &Path, file: &File) -> Result<(), Failure> {
-        let found = file.metadata().map_err(failed(path, "read"))?;
-        if found.gid() == self.group && found.mode() & FILE_MODE == self.mode {
+    /// Whether a file has another group or mode: the folder's were changed since.
+    fn differs(&self, found: &Metadata) -> bool {
+        found.gid() != self.group || found.mode() & FILE_MODE != self.mode
+    }
+
+    /// The same of a file that was there before. It is for its owner to do.
+    pub fn hand_over_own(&self, path: &Path) -> Result<(), Failure> {
+        let found = fs::metadata(path).map_err(failed(path, "read"))?;
+        if !self.differs(&found) {
             return Ok(());
         }
-        match self.hand_over(file) {
+        match File::open(path).and_then(|file| self.hand_over(&file)) {
             Err(e) if e.kind() != ErrorKind::PermissionDenied => Err(failed(path, "handed over")(e)),
             _ => Ok(()),
         }
+    }
+
+    /// And of all files, where the lock tells that the folder's group or mode was changed.
+    pub fn hand_over_all(&self, lock: &Metadata) -> Result<(), Failure> {
+        if !self.differs(lock) {
+            return Ok(());
+        }
+        for entry in fs::read_dir(&self.path).map_err(failed(&self.path, "read"))? {
+            self.hand_over_own(&entry.map_err(failed(&self.path, "read"))?.path())?;
+        }
+        Ok(())
     }
 
     /// A file that is there with all of its bytes or not at all: written under another name, flushed and renamed. It is there for good once

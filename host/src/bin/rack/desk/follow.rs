@@ -5,7 +5,7 @@ use super::folder::Folder;
 use super::held::Held;
 use super::say::Sayer;
 use super::system::{asked_to_end, end_when_asked, sleep_until_closed};
-use super::turn::Turn;
+use super::turn::Lock;
 use crate::page::Page;
 use crate::Failure;
 use std::time::Duration;
@@ -14,42 +14,40 @@ use std::time::Duration;
 const PAUSE: Duration = Duration::from_millis(50);
 
 /// Until it is asked to end or the reader of the pipe is gone. Between turns others have theirs.
-pub fn follow(folder: Folder, output: &mut Output) -> Result<(), Failure> {
+pub fn follow(folder: Folder, lock: Lock, output: &mut Output) -> Result<(), Failure> {
     end_when_asked();
+    match told_until_the_end(folder, lock, output) {
+        // A turn that was waited for when the signal came.
+        Err(_) if asked_to_end() => Ok(()),
+        ended => ended,
+    }
+}
+
+fn told_until_the_end(folder: Folder, mut lock: Lock, output: &mut Output) -> Result<(), Failure> {
     let mut held = {
-        let _turn = Turn::take(&folder)?;
+        let _turn = lock.take()?;
         Held::load(folder)?
     };
     loop {
-        match look(&mut held) {
-            Ok(page) => {
-                let mut text = told(&page);
-                if output.words {
-                    text += &Sayer { desk: &held.rack.desk, since: held.since.as_ref() }.lines(&text);
-                }
-                if !output.told(&text)? {
-                    return Ok(());
-                }
-            }
-            // A turn that was waited for when the signal came.
-            Err(_) if asked_to_end() => return Ok(()),
-            Err(failure) => return Err(failure),
+        let mut text = told(&look(&mut held, &mut lock)?);
+        if output.words {
+            text += &Sayer { desk: &held.rack.desk, since: held.since.as_ref() }.lines(&text);
+        }
+        if !output.told(&text)? || asked_to_end() {
+            return Ok(());
         }
         while !held.is_behind()? {
-            if asked_to_end() || sleep_until_closed(output.descriptor(), PAUSE) {
+            if sleep_until_closed(output.descriptor(), PAUSE) || asked_to_end() {
                 return Ok(());
             }
-        }
-        if asked_to_end() {
-            return Ok(());
         }
     }
 }
 
 /// What came since the last look.
-fn look(held: &mut Held) -> Result<Page, Failure> {
+fn look(held: &mut Held, lock: &mut Lock) -> Result<Page, Failure> {
     let mut page = Page::default();
-    let _turn = Turn::take(&held.folder)?;
+    let _turn = lock.take()?;
     held.refresh(&mut page)?;
     held.let_minutes_pass(&mut page)?;
     held.flush()?;

@@ -52,6 +52,9 @@ impl Held {
     /// In its turn.
     pub fn load(folder: Folder) -> Result<Held, Failure> {
         let (number, since) = (folder.last()?, folder.since()?);
+        for path in [folder.settings(), folder.desk(number), folder.calls(number)] {
+            folder.hand_over_own(&path)?;
+        }
         let (rack, journal) = (restored(&folder, number)?, Journal::open(&folder, number, true)?);
         let mut held = Held { folder, rack, since, journal, said: String::new() };
         held.catch_up(&mut Page::default())?;
@@ -69,7 +72,9 @@ impl Held {
             return self.load_anew(self.folder.last()?, page);
         }
         // Where it has been removed, as one of an old generation, what it got before is still there to be read.
-        self.catch_up(page)?;
+        if named != Named::Same {
+            self.catch_up(page)?;
+        }
         while self.folder.desk(self.number() + 1).exists() {
             self.load_anew(self.number() + 1, page)?;
         }
@@ -83,7 +88,7 @@ impl Held {
 
     /// Whether a turn would find something new: another's line, another generation, or a minute that has passed.
     pub fn is_behind(&self) -> Result<bool, Failure> {
-        if self.journal.has_news()? || self.journal.named()? != Named::Same || self.folder.desk(self.number() + 1).exists() {
+        if self.journal.named()? != Named::Same || self.folder.desk(self.number() + 1).exists() {
             return Ok(true);
         }
         let due = self.since.as_ref().map(|since| clock::now().map(|now| since.minute_at(now))).transpose()?;

@@ -12,6 +12,7 @@ pub struct Journal {
     pub number: u64,
     pub path: PathBuf,
     file: File,
+    identity: (u64, u64),
     /// So many lines and bytes this process has played or written.
     pub lines: u64,
     bytes: u64,
@@ -38,10 +39,13 @@ impl News {
     }
 }
 
-/// Whether the name still is that of the file that a process has open.
+/// What has the journal's name now.
 #[derive(PartialEq, Eq)]
 pub enum Named {
+    /// The file that this process has open, as far as it has played it.
     Same,
+    /// That file, with another length.
+    Longer,
     Another,
     None,
 }
@@ -52,25 +56,17 @@ impl Journal {
         let path = folder.calls(number);
         let opened = File::options().read(true).append(writes).open(&path);
         let file = opened.map_err(failed(&path, if writes { "read and written" } else { "read" }))?;
-        if writes {
-            folder.hand_over_own(&path, &file)?;
-        }
-        Ok(Journal { number, path, file, lines: 0, bytes: 0, unflushed: false })
+        let identity = identity(&file.metadata().map_err(failed(&path, "read"))?);
+        Ok(Journal { number, path, file, identity, lines: 0, bytes: 0, unflushed: false })
     }
 
     pub fn named(&self) -> Result<Named, Failure> {
         match fs::metadata(&self.path) {
-            Ok(found) if identity(&found) == identity(&self.file.metadata().map_err(failed(&self.path, "read"))?) => Ok(Named::Same),
-            Ok(_) => Ok(Named::Another),
+            Ok(found) if identity(&found) != self.identity => Ok(Named::Another),
+            Ok(found) => Ok(if found.len() == self.bytes { Named::Same } else { Named::Longer }),
             Err(e) if e.kind() == io::ErrorKind::NotFound => Ok(Named::None),
             Err(e) => Err(failed(&self.path, "read")(e)),
         }
-    }
-
-    /// Whether it has another length than what was played.
-    pub fn has_news(&self) -> Result<bool, Failure> {
-        let found = self.file.metadata().map_err(failed(&self.path, "read"))?;
-        Ok(found.len() != self.bytes)
     }
 
     /// What was written since it was last read.

@@ -7,34 +7,61 @@ use std::fs::{self, File, TryLockError};
 use std::io::{self, ErrorKind};
 use std::os::unix::fs::MetadataExt;
 use std::path::Path;
+use std::rc::Rc;
 use std::sync::mpsc::{channel, RecvTimeoutError};
 use std::time::Duration;
 
 /// After so long it is said who holds the lock.
 const PATIENCE: Duration = Duration::from_secs(5);
 
-/// The turn of this process, over once it is dropped. The system ends it too, however the process ends.
-pub struct Turn {
-    _lock: File,
+/// The lock file of a folder, open.
+pub struct Lock {
+    folder: Folder,
+    file: Rc<File>,
+    identity: (u64, u64),
 }
 
-impl Turn {
-    pub fn take(folder: &Folder) -> Result<Turn, Failure> {
+/// The turn of this process, over once it is dropped. The system ends it too, however the process ends.
+pub struct Turn {
+    lock: Rc<File>,
+}
+
+impl Drop for Turn {
+    fn drop(&mut self) {
+        let _ = self.lock.unlock();
+    }
+}
+
+impl Lock {
+    pub fn open(folder: &Folder) -> Result<Lock, Failure> {
         let path = folder.lock();
+        if !path.exists() {
+            // The folder of a desk gets another; one that is none gets nothing.
+            folder.last()?;
+            folder.create(&path)?;
+        }
+        let file = opened(&path).map_err(failed(&path, "opened"))?;
+        let found = file.metadata().map_err(failed(&path, "read"))?;
+        folder.hand_over_all(&found)?;
+        Ok(Lock { folder: folder.clone(), file: Rc::new(file), identity: identity(&found) })
+    }
+
+    pub fn take(&mut self) -> Result<Turn, Failure> {
+        let path = self.folder.lock();
         loop {
-            let lock = opened(&path).map_err(failed(&path, "opened"))?;
-            folder.hand_over_own(&path, &lock)?;
-            match lock.try_lock() {
+            match self.file.try_lock() {
                 Ok(()) => {}
-                Err(TryLockError::WouldBlock) => waited(&lock, folder).map_err(failed(&path, "locked"))?,
+                Err(TryLockError::WouldBlock) => waited(&self.file, &self.folder).map_err(failed(&path, "locked"))?,
                 Err(TryLockError::Error(e)) => return Err(failed(&path, "locked")(e)),
             }
+            let turn = Turn { lock: self.file.clone() };
             // The folder may have been put away and made anew meanwhile, with another lock.
             let named = fs::metadata(&path).map_err(failed(&path, "read"))?;
-            let held = lock.metadata().map_err(failed(&path, "read"))?;
-            if identity(&named) == identity(&held) {
-                return Ok(Turn { _lock: lock });
+            if identity(&named) == self.identity {
+                return Ok(turn);
             }
+            drop(turn);
+            *self = Lock::open(&self.folder)?;
         }
     }
 }
