@@ -146,7 +146,7 @@ fn settings() {
 fn walk(seed: u64) -> [u64; 4] {
     let random = &mut Random::new(seed ^ 0x636c_6f63);
     let kind = random.one_of(&[("promise", Kind::Promise), ("loose", Kind::Loose)]);
-    let minute = if seed % 4 == 0 { LAST_MINUTE - 2_000 } else { 0 };
+    let minute = if seed.is_multiple_of(4) { LAST_MINUTE - 2_000 } else { 0 };
     let desk = Clocked::open("clock-walk", &[kind.0, "10", "--minute", &minute.to_string()], "2026-11-17T08:00");
     let (refusal, mut model) = Model::open(kind.1, 10, minute, 1, 0, [63, 1]);
     assert_eq!(refusal, 0);

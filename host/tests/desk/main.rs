@@ -15,11 +15,13 @@ mod faults;
 mod folders;
 mod followers;
 mod full;
+mod generations;
 mod kills;
 mod measure;
 #[path = "../lists/model.rs"]
 #[allow(dead_code)]
 mod model;
+mod modes;
 mod orders;
 mod played;
 #[path = "../scripts/program.rs"]
@@ -28,6 +30,7 @@ mod program;
 #[path = "../lists/random.rs"]
 #[allow(dead_code)]
 mod random;
+mod repairs;
 #[path = "../lists/text.rs"]
 #[allow(dead_code)]
 mod text;
@@ -48,14 +51,14 @@ const TESTS: &[Test] = &[
     ("clocks", clocks::forward_back_and_over),
     ("damage", damage::in_every_byte),
     ("faults", faults::at_every_call),
-    ("folders", folders::groups_modes_and_turns),
+    ("modes", modes::groups_modes_and_turns),
     ("full", full::of_the_file_system),
     ("crowd", crowd::four_at_once),
     ("follow", followers::follow),
     ("orders", orders::of_writing_and_printing),
     ("words", words::sentences),
-    ("generations", folders::generations),
-    ("repair", folders::repairs),
+    ("generations", generations::begin_and_go),
+    ("repairs", repairs::of_damaged_journals),
 ];
 
 /// How many, unless the environment says.

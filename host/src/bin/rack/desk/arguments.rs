@@ -77,23 +77,32 @@ fn opening(arguments: &[&[u8]]) -> Result<Command, Misused> {
     if ![&b"promise"[..], b"loose"].contains(kind) {
         return Err(format!("'{}' is neither promise nor loose", kind.escape_ascii()));
     }
-    let (mut minute, mut ticket, mut clearing, mut places, mut since): (&[u8], &[u8], &[u8], [&[u8]; 2], _) =
-        (b"0", b"1", b"0", [b"63", b"1"], None);
-    let mut left = options;
-    while let [option, value, rest @ ..] = left {
-        left = rest;
-        match (*option, rest) {
-            (b"--minute", _) => minute = value,
-            (b"--ticket", _) => ticket = value,
-            (b"--clearing", _) => clearing = value,
-            (b"--since", _) => since = Some(utf8(value)?.to_string()),
-            (b"--places", [b, rest @ ..]) => (places, left) = ([*value, *b], rest),
+    let mut fields: [&[u8]; 8] = [b"desk", kind, nodes, b"0", b"1", b"0", b"63", b"1"];
+    let (mut since, mut left) = (None, options);
+    while let [option, rest @ ..] = left {
+        left = match (*option, rest) {
+            (b"--minute", [minute, rest @ ..]) => {
+                fields[3] = minute;
+                rest
+            }
+            (b"--ticket", [ticket, rest @ ..]) => {
+                fields[4] = ticket;
+                rest
+            }
+            (b"--clearing", [clearing, rest @ ..]) => {
+                fields[5] = clearing;
+                rest
+            }
+            (b"--places", [a, b, rest @ ..]) => {
+                (fields[6], fields[7]) = (a, b);
+                rest
+            }
+            (b"--since", [time, rest @ ..]) => {
+                since = Some(utf8(time)?.to_string());
+                rest
+            }
             _ => return Err(format!("'open' has no '{}', or it lacks a value", option.escape_ascii())),
-        }
+        };
     }
-    if let [option] = left {
-        return Err(format!("'open' has no '{}', or it lacks a value", option.escape_ascii()));
-    }
-    let fields = [b"desk", *kind, nodes, minute, ticket, clearing, places[0], places[1]];
     Ok(Command::Open { fields: fields.map(<[u8]>::to_vec).to_vec(), since })
 }

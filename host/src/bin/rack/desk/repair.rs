@@ -5,7 +5,7 @@ use super::held::{damaged, replay, restored};
 use super::journal::Journal;
 use crate::page::Page;
 use crate::Failure;
-use std::path::PathBuf;
+use std::path::{Path, PathBuf};
 
 /// What a repair left.
 pub struct Repaired {
@@ -48,9 +48,9 @@ pub fn repair(folder: &Folder, to_line: u64) -> Result<Option<Repaired>, Failure
 }
 
 /// A name beside a journal that nothing has.
-fn unused(journal: &PathBuf) -> PathBuf {
+fn unused(journal: &Path) -> PathBuf {
     let named = |place: u32| {
-        let mut name = journal.clone().into_os_string();
+        let mut name = journal.as_os_str().to_owned();
         name.push(format!(".cut-{place}"));
         PathBuf::from(name)
     };
