@@ -44,10 +44,13 @@ pub fn groups_modes_and_turns() -> String {
         desk.taken(&["wait", "1", "--shared"]);
         modes += 1;
     }
-    // A lock that is missing is made again, in the folder of a desk.
+    // A lock that is missing is not made again by itself.
     fs::remove_file(desk.file("lock")).unwrap();
+    let ended = desk.run(&["wait", "1", "--shared"]);
+    assert_eq!(ended.status, Some(3));
+    assert!(ended.error.contains("lock is missing"), "{}", ended.error);
+    File::create(desk.file("lock")).unwrap();
     desk.taken(&["wait", "1", "--shared"]);
-    assert!(desk.file("lock").exists());
     let groups = if is_root { "groups and modes" } else { "modes, and not groups, which only root can give," };
     format!("{groups} of {modes} folders; {}; {}", a_reader(is_root), who_holds_it())
 }

@@ -47,14 +47,15 @@ pub fn of_writing_and_printing() -> String {
     let shim = Shim::compiled(&place);
     let desk = Desk { path: place.path.join("orders/rack") };
     fs::create_dir(place.path.join("orders")).unwrap();
-    let trace = place.path.join("trace");
+    let (trace, clock) = (place.path.join("trace"), place.path.join("clock"));
     let mut count = 0;
     let mut does = |arguments: &[&str], lines: &str, input: &[u8], order: &[&str]| {
         let _ = fs::remove_file(&trace);
         let script = place.path.join("script");
         fs::write(&script, input).unwrap();
         let mut command = desk.command(arguments);
-        command.stdin(fs::File::open(script).unwrap()).env("LD_PRELOAD", &shim.library).env("FAULT_TRACE", &trace).env("RACK_LINES", lines);
+        command.stdin(fs::File::open(script).unwrap()).env("LD_PRELOAD", &shim.library).env("FAULT_TRACE", &trace);
+        command.env("RACK_LINES", lines).env("RACK_CLOCK", &clock);
         let ended = Ended::of(&mut command);
         assert!(ended.status.is_some_and(|status| status < 2), "{arguments:?}: {}", ended.error);
         let traced = fs::read_to_string(&trace).unwrap();
@@ -76,5 +77,10 @@ pub fn of_writing_and_printing() -> String {
     // What was never answered is cut off for good before anything else is written.
     fs::write(desk.file("calls-3"), [desk.bytes("calls-3"), b"in\t1".to_vec()].concat()).unwrap();
     does(&["end", "9"], "10000", b"", &["ftruncate calls-3", "fdatasync calls-3", "fdatasync calls-3", "print"]);
-    format!("{count} calls of {} commands in their order", ORDERS.len() + 3)
+    // Minutes that passed: the answer of each wait is printed before the next call is written. The first one's is that a job is over.
+    fs::write(desk.file("settings"), "since\t1970-01-01T00:00:00+00:00\t0\n").unwrap();
+    fs::write(&clock, (20_000 * 60).to_string()).unwrap();
+    let wait = ["write calls-3", "fdatasync calls-3"];
+    does(&["in", "1", "5", "A"], "10000", b"", &[&wait[..], &["print"], &wait, &wait, &["print"]].concat());
+    format!("{count} calls of {} commands in their order", ORDERS.len() + 4)
 }

@@ -82,35 +82,39 @@ impl Session {
         Ok(self.held.insert(held))
     }
 
-    /// Plays a line and prints what it gives. Whether it was taken.
-    fn line(&mut self, fields: &[&[u8]]) -> Result<bool, Failure> {
-        let (text, taken) = self.played(fields)?;
-        self.output.print(&text)?;
-        Ok(taken)
+    /// Does something with the desk in its turn, after the minutes that have passed. Each wait has a turn of its own, and what it gives is
+    /// printed before the next call: so at most one call is ever kept whose answer was not printed.
+    fn in_turn<T>(&mut self, act: impl FnOnce(&mut Held) -> Result<T, Failure>) -> Result<T, Failure> {
+        loop {
+            let (words, turn, mut page) = (self.output.words, self.lock.take()?, Page::default());
+            let held = self.held()?;
+            if !held.let_minutes_pass(&mut page)? {
+                return act(held);
+            }
+            let sentences = if words { held.sayer().passed(page.text()) } else { String::new() };
+            drop(turn);
+            self.output.print(&(page.text().to_string() + &sentences))?;
+        }
     }
 
-    /// In its turn, which is over once what was taken is kept and before anything is printed.
-    fn played(&mut self, fields: &[&[u8]]) -> Result<(String, bool), Failure> {
-        let (words, _turn) = (self.output.words, self.lock.take()?);
-        let (mut passed, mut page) = (Page::default(), Page::default());
-        let held = self.held()?;
-        let minutes_passed = held.let_minutes_pass(&mut passed)?;
-        let done = held.play(fields, &mut page)?;
-        if let Err(refusal) = done {
-            page.no(refusal);
-        }
-        let mut text = passed.text().to_string() + page.text();
-        if words {
-            let sayer = Sayer { desk: &held.rack.desk, since: held.since.as_ref() };
-            if minutes_passed {
-                text += &sayer.passed(passed.text());
+    /// Plays a line, and once its turn is over prints what it gives. Whether it was taken.
+    fn line(&mut self, fields: &[&[u8]]) -> Result<bool, Failure> {
+        let words = self.output.words;
+        let (text, taken) = self.in_turn(|held| {
+            let mut page = Page::default();
+            let done = held.play(fields, &mut page)?;
+            if let Err(refusal) = done {
+                page.no(refusal);
             }
-            text += &match done {
-                Ok(()) => sayer.taken(fields, page.text()),
-                Err(refusal) => sayer.refused(fields, refusal),
+            let sentences = match done {
+                _ if !words => String::new(),
+                Ok(()) => held.sayer().taken(fields, page.text()),
+                Err(refusal) => held.sayer().refused(fields, refusal),
             };
-        }
-        Ok((text, done.is_ok()))
+            Ok((page.text().to_string() + &sentences, done.is_ok()))
+        })?;
+        self.output.print(&text)?;
+        Ok(taken)
     }
 
     /// Plays the lines on standard input, each in a turn of its own.
@@ -131,14 +135,7 @@ impl Session {
 
     /// Does something with the desk in its turn, and prints a sentence that it gives.
     fn once(&mut self, act: impl FnOnce(&mut Held) -> Result<String, Failure>) -> Result<Ended, Failure> {
-        let mut page = Page::default();
-        let said = {
-            let _turn = self.lock.take()?;
-            let held = self.held()?;
-            held.let_minutes_pass(&mut page)?;
-            act(held)?
-        };
-        self.output.print(page.text())?;
+        let said = self.in_turn(act)?;
         self.say(&said)?;
         Ok(Ended::Taken)
     }

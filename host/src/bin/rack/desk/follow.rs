@@ -3,7 +3,6 @@
 use super::commands::Output;
 use super::folder::Folder;
 use super::held::Held;
-use super::say::Sayer;
 use super::system::{asked_to_end, end_when_asked, sleep_until_closed};
 use super::turn::Lock;
 use crate::page::Page;
@@ -31,7 +30,7 @@ fn told_until_the_end(folder: Folder, mut lock: Lock, output: &mut Output) -> Re
     loop {
         let mut text = told(&look(&mut held, &mut lock)?);
         if output.words {
-            text += &Sayer { desk: &held.rack.desk, since: held.since.as_ref() }.lines(&text);
+            text += &held.sayer().lines(&text);
         }
         if !output.told(&text)? || asked_to_end() {
             return Ok(());
@@ -44,7 +43,7 @@ fn told_until_the_end(folder: Folder, mut lock: Lock, output: &mut Output) -> Re
     }
 }
 
-/// What came since the last look.
+/// What came since the last look, and of the minutes that passed at most one wait: its answer is printed before the next is made.
 fn look(held: &mut Held, lock: &mut Lock) -> Result<Page, Failure> {
     let mut page = Page::default();
     let _turn = lock.take()?;

@@ -4,6 +4,7 @@ use super::clock::{self, Since};
 use super::folder::Folder;
 use super::generations;
 use super::journal::{Journal, Named};
+use super::say::Sayer;
 use crate::fields::fields;
 use crate::page::{Done, Page, Refusal, LACKS_THE_FORM};
 use crate::script::Rack;
@@ -65,6 +66,10 @@ impl Held {
         self.journal.number
     }
 
+    pub fn sayer(&self) -> Sayer<'_> {
+        Sayer { desk: &self.rack.desk, since: self.since.as_ref() }
+    }
+
     /// Plays what others have written since, in its turn. What these lines print goes to the page.
     pub fn refresh(&mut self, page: &mut Page) -> Result<(), Failure> {
         let (number, named) = (self.number(), self.journal.named()?);
@@ -97,6 +102,7 @@ impl Held {
 
     fn load_anew(&mut self, number: u64, page: &mut Page) -> Result<(), Failure> {
         let reads = self.rack.reads;
+        self.since = self.folder.since()?;
         self.rack = restored(&self.folder, number)?;
         self.rack.reads = reads;
         self.journal = Journal::open(&self.folder, number, true)?;
@@ -159,23 +165,21 @@ impl Held {
         Ok(())
     }
 
-    /// Lets the minutes pass that have passed on the machine's clock, if the desk follows it. Whether there were any.
+    /// Where minutes have passed on the clock that the desk follows, lets them pass, up to the longest wait: whether there were any. It is a call
+    /// like any, whose answer is to be printed before the next is made.
     pub fn let_minutes_pass(&mut self, page: &mut Page) -> Result<bool, Failure> {
         let Some(since) = &self.since else {
             return Ok(false);
         };
         let due = since.minute_at(clock::now()?);
-        let (from, to) = (self.rack.desk.clock(), due.min(LAST_MINUTE));
-        loop {
-            let minutes = (to - i64::from(self.rack.desk.clock())).min(LONGEST_WAIT);
-            if minutes <= 0 {
-                break;
-            }
-            let done = self.play(&[b"wait", minutes.to_string().as_bytes()], page)?;
-            done.map_err(|Refusal(n)| format!("{minutes} minutes have passed, and the desk refuses them, no {n}: {}", reason(n)))?;
+        let minutes = (due.min(LAST_MINUTE) - i64::from(self.rack.desk.clock())).min(LONGEST_WAIT);
+        if minutes <= 0 {
+            self.say_of_clock(due);
+            return Ok(false);
         }
-        self.say_of_clock(due);
-        Ok(self.rack.desk.clock() > from)
+        let done = self.play(&[b"wait", minutes.to_string().as_bytes()], page)?;
+        done.map_err(|Refusal(n)| format!("{minutes} minutes have passed, and the desk refuses them, no {n}: {}", reason(n)))?;
+        Ok(true)
     }
 
     fn say_of_clock(&mut self, due: i64) {

@@ -36,9 +36,9 @@ impl Lock {
     pub fn open(folder: &Folder) -> Result<Lock, Failure> {
         let path = folder.lock();
         if !path.exists() {
-            // The folder of a desk gets another; one that is none gets nothing.
+            // It is not made again by itself: whoever removed it may have done so while another had its turn.
             folder.last()?;
-            folder.create(&path)?;
+            return Err(format!("{0} is missing: once no other command runs, 'touch {0}' makes it again", path.display()));
         }
         let file = opened(&path).map_err(failed(&path, "opened"))?;
         let found = file.metadata().map_err(failed(&path, "read"))?;
