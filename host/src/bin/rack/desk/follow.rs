@@ -13,44 +13,44 @@ use std::time::Duration;
 const PAUSE: Duration = Duration::from_millis(50);
 
 /// Until it is asked to end or the reader of the pipe is gone. Between turns others have theirs.
-pub fn follow(folder: Folder, lock: Lock, output: &mut Output) -> Result<(), Failure> {
+pub fn follow(folder: Folder, mut lock: Lock, output: &mut Output) -> Result<(), Failure> {
     end_when_asked();
-    match told_until_the_end(folder, lock, output) {
-        // A turn that was waited for when the signal came.
-        Err(_) if asked_to_end() => Ok(()),
-        ended => ended,
-    }
-}
-
-fn told_until_the_end(folder: Folder, mut lock: Lock, output: &mut Output) -> Result<(), Failure> {
-    let mut held = {
-        let _turn = lock.take()?;
-        Held::load(folder)?
+    let Some(turn) = lock.take_unless_asked()? else {
+        return Ok(());
     };
-    loop {
-        let mut text = told(&look(&mut held, &mut lock)?);
+    let mut held = Held::load(folder)?;
+    drop(turn);
+    while let Some(page) = look(&mut held, &mut lock)? {
+        let mut text = told(&page);
         if output.words {
             text += &held.sayer().lines(&text);
         }
-        if !output.told(&text)? || asked_to_end() {
-            return Ok(());
+        if !output.told(&text)? {
+            break;
         }
-        while !held.is_behind()? {
-            if sleep_until_closed(output.descriptor(), PAUSE) || asked_to_end() {
+        while !asked_to_end() && !held.is_behind()? {
+            if sleep_until_closed(output.descriptor(), PAUSE) {
                 return Ok(());
             }
         }
+        if asked_to_end() {
+            break;
+        }
     }
+    Ok(())
 }
 
-/// What came since the last look, and of the minutes that passed at most one wait: its answer is printed before the next is made.
-fn look(held: &mut Held, lock: &mut Lock) -> Result<Page, Failure> {
+/// What came since the last look, and of the minutes that passed at most one wait: its answer is printed before the next is made. None where it
+/// was asked to end while it waited for its turn.
+fn look(held: &mut Held, lock: &mut Lock) -> Result<Option<Page>, Failure> {
     let mut page = Page::default();
-    let _turn = lock.take()?;
+    let Some(_turn) = lock.take_unless_asked()? else {
+        return Ok(None);
+    };
     held.refresh(&mut page)?;
     held.let_minutes_pass(&mut page)?;
     held.flush()?;
-    Ok(page)
+    Ok(Some(page))
 }
 
 /// "prints `over`, `start`, `head` lines".

@@ -46,6 +46,14 @@ impl Lock {
         Ok(Lock { folder: folder.clone(), file: Rc::new(file), identity: identity(&found) })
     }
 
+    /// None where the process was asked to end while it waited.
+    pub fn take_unless_asked(&mut self) -> Result<Option<Turn>, Failure> {
+        match self.take() {
+            Err(_) if asked_to_end() => Ok(None),
+            taken => taken.map(Some),
+        }
+    }
+
     pub fn take(&mut self) -> Result<Turn, Failure> {
         let path = self.folder.lock();
         loop {
