@@ -5,6 +5,7 @@ use crate::folders::Place;
 use crate::played::{line, opening, play};
 use crate::program::Ended;
 use crate::random::Random;
+use std::fs::File;
 use std::io::{BufRead, BufReader, Read, Write};
 use std::process::{Child, ChildStdout, Command, Stdio};
 use std::sync::mpsc::{channel, Receiver};
@@ -51,6 +52,7 @@ impl Follower {
 pub fn follow() -> String {
     by_the_clock();
     without_a_reader();
+    waiting_for_its_turn();
     let told = beside_a_script();
     format!("{told} lines told of scripts beside, with generations begun meanwhile; by the clock; ended by SIGTERM and by a closed pipe")
 }
@@ -96,7 +98,21 @@ fn without_a_reader() {
     assert_eq!((ended.status, ended.output.as_str()), (Some(3), ""));
 }
 
-/// Two scripts at once and a new generation every 20 lines: it tells what they print, all of it and in its order.
+/// SIGTERM ends it too while another has the turn and does not give it back.
+fn waiting_for_its_turn() {
+    let place = Place::new("follow-turn");
+    let desk = place.desk();
+    desk.taken(&["open", "promise", "10"]);
+    let lock = File::open(desk.file("lock")).unwrap();
+    lock.lock().unwrap();
+    let follower = Follower::spawn(desk.command(&["follow"]));
+    std::thread::sleep(Duration::from_millis(300));
+    assert_eq!(follower.ended(), "");
+    drop(lock);
+    desk.taken(&["wait", "1"]);
+}
+
+/// A script beside and a new generation every 20 lines: it tells what it prints, all of it and in its order.
 fn beside_a_script() -> usize {
     let mut count = 0;
     for seed in 0..4 {

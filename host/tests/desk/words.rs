@@ -3,6 +3,7 @@
 
 use crate::clocks::Clocked;
 use crate::folders::Place;
+use std::process::{Command, Stdio};
 
 /// A command, and what is printed: the script's lines, and then sentences.
 type Said = (&'static [&'static str], &'static str);
@@ -92,7 +93,22 @@ pub fn sentences() -> String {
         count += 6;
     }
     count += times();
-    format!("{count} commands with their sentences")
+    format!("{count} commands with their sentences; {}", on_a_terminal())
+}
+
+/// On a terminal they come by themselves. The command `script` makes one.
+fn on_a_terminal() -> &'static str {
+    let place = Place::new("words-terminal");
+    let desk = place.desk();
+    desk.taken(&["open", "promise", "10"]);
+    let line = format!("'{}' '{}' in 6 20 A", env!("CARGO_BIN_EXE_rack"), desk.path.display());
+    let Ok(ended) = Command::new("script").args(["-qec", &line, "/dev/null"]).stdin(Stdio::null()).output() else {
+        return "a terminal was not tested, since there is no command 'script'";
+    };
+    let printed = String::from_utf8(ended.stdout).unwrap().replace('\r', "");
+    assert_eq!(printed, PROMISE[0].1);
+    assert!(ended.status.success());
+    "on a terminal too"
 }
 
 const PLACES: &str = "no\t13\nno 13: places are 64 together and at least 1 a house, and not 4 and 4\n";

@@ -31,14 +31,17 @@ pub struct Since {
 }
 
 impl Since {
-    /// `now`, `@SECONDS` since 1970, or as `2026-11-17T08:00`, seconds and `Z` or an offset as `+02:00` after it where they are said; without
-    /// one it is UTC.
+    /// `now`, `@SECONDS` since 1970, or as `2026-11-17T08:00`, with seconds where they are said. After `now` and such a time `Z` or an offset as
+    /// `+02:00` may stand; without one it is UTC.
     pub fn new(time: &str, minute: u32) -> Result<Since, Failure> {
-        let (seconds, offset) = match time.strip_prefix('@') {
-            _ if time == "now" => (now()?, 0),
-            Some(digits) => (digits.parse().ok().filter(|n| (0..LAST).contains(n)).ok_or_else(|| form(time))?, 0),
-            None => read(time).ok_or_else(|| form(time))?,
+        let seconds_and_offset = if let Some(rest) = time.strip_prefix("now") {
+            offset(rest).map(|offset| now().map(|now| (now, offset))).transpose()?
+        } else if let Some(digits) = time.strip_prefix('@') {
+            digits.parse().ok().filter(|seconds| (0..LAST).contains(seconds)).map(|seconds| (seconds, 0))
+        } else {
+            read(time)
         };
+        let (seconds, offset) = seconds_and_offset.ok_or_else(|| form(time))?;
         Ok(Since { seconds, offset, minute })
     }
 
@@ -75,7 +78,7 @@ impl Since {
 }
 
 fn form(time: &str) -> Failure {
-    format!("'{time}' is no time: it is 'now', '@SECONDS' or as 2026-11-17T08:00, perhaps with seconds, and with Z or an offset as +02:00")
+    format!("'{time}' is no time: it is '@SECONDS', or 'now' or as 2026-11-17T08:00 with Z or an offset as +02:00 after it")
 }
 
 /// So many digits.
@@ -176,5 +179,7 @@ mod tests {
             (7, 8, 6)
         );
         assert_eq!(Since::new("@60", 0).unwrap().fields(), "1970-01-01T00:01:00+00:00\t0");
+        assert!(Since::new("now+02:00", 0).unwrap().fields().ends_with("+02:00\t0"));
+        assert!(Since::new("now ", 0).is_err());
     }
 }

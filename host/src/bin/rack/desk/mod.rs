@@ -23,9 +23,9 @@ A desk in a folder:
                                           that is taken is on the disk before its answer is printed
   open promise|loose NODES                opens the desk and makes the folder, which must not be there yet; at minute M (0),
                                           with first ticket T (1), CLEANUP C (0), and places A and B (63 and 1)
-    --since TIME                          the desk follows the machine's clock: it is at minute M at TIME, which is 'now',
-                                          '@SECONDS' since 1970, or as 2026-11-17T08:00, perhaps with seconds, and in UTC or
-                                          with an offset as +02:00. Every command first lets the minutes pass that have passed
+    --since TIME                          the desk follows the machine's clock: it is at minute M at TIME, which is
+                                          '@SECONDS' since 1970, or 'now' or as 2026-11-17T08:00, in UTC or with an offset as
+                                          +02:00 after it. Every command first lets the minutes pass that have passed
   WORD FIELD..                            a later line by its fields, as 'rack DIR in 6 20 A'
   (nothing)                               plays the later lines on standard input
   close                                   begins the next generation: desk-N has the desk's lines, calls-N the calls since.
