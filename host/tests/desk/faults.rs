@@ -5,9 +5,8 @@
 use crate::folders::{Desk, Place};
 use crate::program::Ended;
 use std::fs;
-use std::io::Write;
 use std::path::{Path, PathBuf};
-use std::process::{Command, Stdio};
+use std::process::Command;
 
 /// How a call fails: the shim's name for it, and the number of the error.
 const MODES: [(&str, &str); 6] = [("fail", "5"), ("from", "28"), ("half", "28"), ("kill", "0"), ("after", "0"), ("torn", "0")];
@@ -62,7 +61,8 @@ impl Shim {
         command.env("LD_PRELOAD", &self.library).env("FAULT_COUNT", &self.count).env("FAULT_AT", at.to_string());
         command.env("FAULT_MODE", mode).env("FAULT_ERRNO", number).env("RACK_CLOCK", &self.clock);
         command.env("RACK_LINES", if case.name == "full" { "2" } else { "10000" });
-        given(&mut command, case.script)
+        let lines: String = case.script.iter().map(|line| format!("{line}\n")).collect();
+        Ended::given(&mut command, lines.as_bytes())
     }
 
     fn counted(&self) -> u64 {
@@ -75,18 +75,6 @@ impl Shim {
         assert_eq!(ended.status, Some(0), "{}", ended.error);
         ended.output[ended.output.find("desk\t").unwrap()..].to_string()
     }
-}
-
-fn given(command: &mut Command, script: &[&str]) -> Ended {
-    if script.is_empty() {
-        return Ended::of(command);
-    }
-    let mut child = command.stdin(Stdio::piped()).stderr(Stdio::piped()).spawn().unwrap();
-    let lines: String = script.iter().map(|line| format!("{line}\n")).collect();
-    let _ = child.stdin.take().unwrap().write_all(lines.as_bytes());
-    let ended = child.wait_with_output().unwrap();
-    let text = |bytes| String::from_utf8(bytes).unwrap();
-    Ended { status: ended.status.code(), output: text(ended.stdout), error: text(ended.stderr) }
 }
 
 /// What a case gives without a fault: the desk before, and after each answer; and the answers.

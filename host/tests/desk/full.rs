@@ -67,7 +67,7 @@ fn cannot(ended: &Ended) {
 fn until_it_is_full(desk: &Desk) -> usize {
     let before = desk.journal().len();
     let script = "wait\t1\n".repeat(1_000);
-    let ended = played(&mut desk.command(&["--words"]), &script);
+    let ended = Ended::given(&mut desk.command(&["--words"]), script.as_bytes());
     assert_eq!(ended.status, Some(3), "{}", ended.error);
     assert!(ended.error.contains("nothing was changed"), "{}", ended.error);
     let answers = ended.output.lines().filter(|line| line.starts_with("it is minute")).count();
@@ -77,26 +77,13 @@ fn until_it_is_full(desk: &Desk) -> usize {
     answers
 }
 
-fn played(command: &mut Command, script: &str) -> Ended {
-    let mut child = command.stdin(Stdio::piped()).stderr(Stdio::piped()).spawn().unwrap();
-    let mut input = child.stdin.take().unwrap();
-    let ended = std::thread::scope(|threads| {
-        threads.spawn(move || {
-            let _ = input.write_all(script.as_bytes());
-        });
-        child.wait_with_output().unwrap()
-    });
-    let text = |bytes| String::from_utf8(bytes).unwrap();
-    Ended { status: ended.status.code(), output: text(ended.stdout), error: text(ended.stderr) }
-}
-
 /// Files of at most 1,024 bytes, by a limit of the shell's.
 fn limited(desk: &Desk) -> String {
     desk.taken(&["open", "promise", "10"]);
     let limited = |script: &str| {
         let mut command = Command::new("bash");
         command.args(["-c", "trap '' XFSZ; ulimit -f 1; exec \"$0\" \"$@\"", env!("CARGO_BIN_EXE_rack")]).arg(&desk.path).arg("--words");
-        played(command.stdout(Stdio::piped()), script)
+        Ended::given(command.stdout(Stdio::piped()), script.as_bytes())
     };
     let ended = limited(&"wait\t1\n".repeat(1_000));
     assert_eq!(ended.status, Some(3), "{}", ended.error);

@@ -2,7 +2,7 @@
 
 use std::io::Write;
 use std::path::Path;
-use std::process::{Command, Stdio};
+use std::process::{Command, Output, Stdio};
 
 pub fn rack(arguments: &[&str]) -> Command {
     let mut command = Command::new(env!("CARGO_BIN_EXE_rack"));
@@ -20,25 +20,32 @@ pub struct Ended {
 impl Ended {
     pub fn of(command: &mut Command) -> Ended {
         let child = command.stderr(Stdio::piped()).spawn().unwrap();
-        let ended = child.wait_with_output().unwrap();
+        Ended::at_last(child.wait_with_output().unwrap())
+    }
+
+    /// With these lines on standard input, sent while the printout is read; it need not read them to their end.
+    pub fn given(command: &mut Command, lines: &[u8]) -> Ended {
+        let mut child = command.stdin(Stdio::piped()).stderr(Stdio::piped()).spawn().unwrap();
+        let mut input = child.stdin.take().unwrap();
+        Ended::at_last(std::thread::scope(|threads| {
+            threads.spawn(move || {
+                let _ = input.write_all(lines);
+            });
+            child.wait_with_output().unwrap()
+        }))
+    }
+
+    fn at_last(ended: Output) -> Ended {
         let text = |bytes| String::from_utf8(bytes).unwrap();
         Ended { status: ended.status.code(), output: text(ended.stdout), error: text(ended.stderr) }
     }
 }
 
-/// What it prints for a script, or for the lines of a desk. These are sent while the printout is read; a script whose first line is refused
-/// need not be read to its end.
+/// What it prints for a script, or for the lines of a desk. A script whose first line is refused need not be read to its end.
 pub fn played(arguments: &[&str], script: &[u8]) -> Vec<u8> {
-    let mut child = rack(arguments).stdin(Stdio::piped()).stdout(Stdio::piped()).spawn().unwrap();
-    let mut input = child.stdin.take().unwrap();
-    let ended = std::thread::scope(|threads| {
-        threads.spawn(move || {
-            let _ = input.write_all(script);
-        });
-        child.wait_with_output().unwrap()
-    });
-    assert!(ended.status.success());
-    ended.stdout
+    let ended = Ended::given(rack(arguments).stdout(Stdio::piped()), script);
+    assert_eq!((ended.status, ended.error.as_str()), (Some(0), ""));
+    ended.output.into_bytes()
 }
 
 /// Fails at the first line that differs.

@@ -2,7 +2,7 @@
 
 use super::clock::Since;
 use super::folder::{failed, flush, settings_line, Folder};
-use super::held::{damaged, replay, restored};
+use super::held::{replay, restored};
 use super::journal::Journal;
 use crate::page::Page;
 use crate::script::Rack;
@@ -108,10 +108,7 @@ pub fn audit(folder: &Folder) -> Result<(usize, u64), Failure> {
 fn played(folder: &Folder, number: u64) -> Result<(Vec<u8>, u64), Failure> {
     let (mut rack, mut journal) = (restored(folder, number)?, Journal::open(folder, number, false)?);
     let news = journal.news()?;
-    for line in news.lines() {
-        replay(&mut rack, line, &mut Page::default()).map_err(|refusal| damaged(&journal, line, refusal))?;
-        journal.played(line);
-    }
+    replay(&mut rack, &mut journal, &news, &mut Page::default())?;
     if news.tail() > 0 {
         eprintln!("rack: {}: {} bytes after line {} were never answered", journal.path.display(), news.tail(), journal.lines);
     }

@@ -3,7 +3,7 @@
 use super::clock::{self, Since};
 use super::folder::Folder;
 use super::generations;
-use super::journal::{Journal, Named};
+use super::journal::{Journal, Named, News};
 use super::say::Sayer;
 use crate::fields::fields;
 use crate::page::{Done, Page, Refusal, LACKS_THE_FORM};
@@ -33,20 +33,22 @@ pub fn restored(folder: &Folder, number: u64) -> Result<Rack, Failure> {
     Rack::restored(&folder.read(&path)?).map_err(|Refusal(n)| format!("{} is damaged, no {n}: {}", path.display(), reason(n)))
 }
 
-/// Plays a line of a journal: a call that is taken, or the line is damaged.
-pub fn replay(rack: &mut Rack, line: &[u8], page: &mut Page) -> Done {
-    let fields = fields(line);
-    if !words::is_call(&fields) {
-        return Err(LACKS_THE_FORM);
+/// Plays the new lines of a journal, each a call that is taken; where one is not, it is damaged, and this says so.
+pub fn replay(rack: &mut Rack, journal: &mut Journal, news: &News, page: &mut Page) -> Result<(), Failure> {
+    for line in news.lines() {
+        let fields = fields(line);
+        let done = if words::is_call(&fields) { words::play(rack, &fields, page) } else { Err(LACKS_THE_FORM) };
+        done.map_err(|refusal| damaged(journal, line, refusal))?;
+        journal.played(line);
     }
-    words::play(rack, &fields, page)
+    Ok(())
 }
 
-/// What is said of a line that is damaged.
-pub fn damaged(journal: &Journal, line: &[u8], refusal: Refusal) -> Failure {
-    let (path, number, shown) = (journal.path.display(), journal.lines + 1, line.escape_ascii().to_string().replace("\\t", " "));
+fn damaged(journal: &Journal, line: &[u8], Refusal(number): Refusal) -> Failure {
+    let shown = line.escape_ascii().to_string().replace("\\t", " ");
     let shown = if shown.len() > 80 { format!("{}..", &shown[..80]) } else { shown };
-    format!("{path}, line {number}, is damaged: '{shown}' gives no {}, {}; nothing was written", refusal.0, reason(refusal.0))
+    let (path, place) = (journal.path.display(), journal.lines + 1);
+    format!("{path}, line {place}, is damaged: '{shown}' gives no {number}, {}; nothing was written", reason(number))
 }
 
 impl Held {
@@ -111,21 +113,16 @@ impl Held {
 
     fn catch_up(&mut self, page: &mut Page) -> Result<(), Failure> {
         let news = self.journal.news()?;
-        for line in news.lines() {
-            replay(&mut self.rack, line, page).map_err(|refusal| self.damage(line, refusal))?;
-            self.journal.played(line);
-        }
+        replay(&mut self.rack, &mut self.journal, &news, page).map_err(|damage| {
+            let (folder, lines) = (self.folder.path.display(), self.journal.lines);
+            format!("{damage}. 'rack {folder} repair --to-line {lines}' goes on after the lines before it")
+        })?;
         if news.tail() > 0 {
             let (path, lines) = (self.journal.path.display(), self.journal.lines);
             self.journal.cut().map_err(|e| format!("{path} cannot be cut off after line {lines}: {e}"))?;
             eprintln!("rack: {path}: {} bytes after line {lines} were never answered, and are cut off", news.tail());
         }
         Ok(())
-    }
-
-    fn damage(&self, line: &[u8], refusal: Refusal) -> Failure {
-        let (damaged, lines) = (damaged(&self.journal, line, refusal), self.journal.lines);
-        format!("{damaged}. 'rack {} repair --to-line {lines}' goes on after the lines before it", self.folder.path.display())
     }
 
     /// Plays a line in its turn. A call that is taken is kept before this returns; a refused one and a question are not written.

@@ -1,7 +1,7 @@
 //! A damaged journal goes on, by hand, after some of its lines. What it held stays beside it.
 
 use super::folder::Folder;
-use super::held::{damaged, replay, restored};
+use super::held::{replay, restored};
 use super::journal::Journal;
 use crate::page::Page;
 use crate::Failure;
@@ -21,24 +21,13 @@ pub fn repair(folder: &Folder, to_line: u64) -> Result<Option<Repaired>, Failure
     let number = folder.last()?;
     let (mut rack, mut journal) = (restored(folder, number)?, Journal::open(folder, number, false)?);
     let news = journal.news()?;
-    let (mut left, mut damage) = (Vec::new(), None);
-    for line in news.lines() {
-        if let Err(refusal) = replay(&mut rack, line, &mut Page::default()) {
-            damage = Some(damaged(&journal, line, refusal));
-            break;
-        }
-        journal.played(line);
-        if journal.lines <= to_line {
-            left.extend_from_slice(line);
-            left.push(b'\n');
-        }
-    }
-    let Some(damage) = damage else {
+    let Err(damage) = replay(&mut rack, &mut journal, &news, &mut Page::default()) else {
         return Ok(None);
     };
     if journal.lines < to_line {
         return Err(format!("{damage}. At most {} lines can be kept", journal.lines));
     }
+    let left: Vec<u8> = news.lines().take(to_line as usize).flat_map(|line| [line, b"\n"].concat()).collect();
     let kept = unused(&journal.path);
     folder.write_whole(&kept, &folder.read(&journal.path)?)?;
     folder.flush()?;
