@@ -20,7 +20,8 @@ use Rattle.history.specs.Calls.{Call, Rules, tick, unchanged, after}
 
 -- ## When something is due
 
--- a job ends, its nodes are released, or it starts as planned
+-- a job ends, its nodes are released, or it starts as planned. Document 01, of a minute step: "stacks whose end is now leave, waiting stacks whose
+-- planned start is now start"
 abbrev pub dueAt : Settings → (minute : ℕ) → Job → Bool
 dueAt S t j = endsAt S t j || releasedAt S t j || (isWaiting j && eqb (j .start) t)
 
@@ -34,14 +35,14 @@ isDue m t = any (dueAt (m .settings) t) (m .jobs)
 unfoldable pub advancesTo : Model → (n : ℕ) → ℕ
 advancesTo m n = least (isDue m) (n - 1) (suc (m .clock))
 
--- so many ticks: what the last one gives
-abbrev pub ticks : Rules → Model → ℕ → Result
-ticks R m zero = refuse m refusal.None
-ticks R m (suc k) = R (after R m (replicate k tick)) tick
-
 -- how many minutes pass, of n
 unfoldable pub advancedBy : Model → (n : ℕ) → ℕ
 advancedBy m n = cond (accepts (waitRefusal m n)) (advancesTo m n - m .clock) 0
+
+-- so many ticks: what the last one gives, and of none nothing
+abbrev pub ticks : Rules → Model → ℕ → Result
+ticks R m zero = refuse m refusal.None
+ticks R m (suc k) = R (after R m (replicate k tick)) tick
 
 -- and what the last of them gives
 unfoldable pub advanced : Rules → Model → (n : ℕ) → Result

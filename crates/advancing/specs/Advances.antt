@@ -2,9 +2,9 @@
 -- Assumes nothing.
 use Prim.Native.Nat.{ℕ, zero, suc, _+_, _-_, _≤_, _<_}
 use native.Mathlib.Omega.{arith}
-use mathlib.Core.Path.{_≡_, refl, sym, ap, subst, _∙_}
+use mathlib.Core.Path.{_≡_, refl, sym, ap, ap₂, subst, _∙_}
 use mathlib.Core.Bool.{true, false}
-use mathlib.Core.List.{List, [], _∷_, _++_}
+use mathlib.Core.List.{[], _∷_, _++_}
 use lib.ListN.{replicate, replicate-append-replicate}
 use borrow.Author.Tests.{le-ltb}
 use Rattle.lists.specs.Tests.{case}
@@ -13,7 +13,7 @@ use Rattle.scheduler.specs.declared.Refusal.the-variants as refusal
 use Rattle.scheduler.specs.declared.Scheduler.{Scheduler}
 use Rattle.scheduler.specs.Limits.{horizon}
 use Rattle.scheduler.specs.Model.{Model, store, view}
-use Rattle.scheduler.specs.Answers.{Result, accepts, verdict, outcome, refuse, refusing, refusedAnswer}
+use Rattle.scheduler.specs.Answers.{Result, accepts, verdict, answer, outcome, refuse, refusing, refusedAnswer}
 use Rattle.scheduler.specs.Refusals.{tickRefusal, waitRefusal}
 use Rattle.history.specs.Calls.{tick, after}
 use Rattle.guarantees.specs.Rules.{call}
@@ -26,10 +26,13 @@ use Rattle.quiet_minutes.specs.QuietTicks.{tick-refusal, passed, quiet-tick, pa
 use Rattle.advancing.specs.declared.AdvanceOutcome.{AdvanceOutcome}
 use Rattle.advancing.specs.Minutes.{wait-some, wait-within, wait-taken, passes-by, advances-from, advances-within, quiet-before, advances-due, advances-all}
 
+-- how many minutes have passed, and what the last of them gives
+abbrev pub advanceOutcome : (minutes : ℕ) → Result → AdvanceOutcome
+advanceOutcome k r = record { answer = record { answer = answer (r .reply); minutes = k }; scheduler = store (r .model) }
+
 -- what the call gives by value
 abbrev pub advances : Scheduler → (minutes : ℕ) → AdvanceOutcome
-advances d n = let o = outcome (advanced call (view d) n) in
-    record { answer = record { answer = o .answer; minutes = advancedBy (view d) n }; scheduler = o .scheduler }
+advances d n = advanceOutcome (advancedBy (view d) n) (advanced call (view d) n)
 
 -- ## Of a model
 
@@ -159,18 +162,14 @@ module _ (d : Scheduler) (n r : ℕ) (h : Premise d) (f : QuietFor d n r) (a : a
       let e : n ≡ r = omega (arith, f .few) in
       let g = advance-all (view d) n (h .holds) a (rw e (f .quiet)) in
       let k : r ≡ advancedBy (view d) n = sym (g .0 ∙ e) in
-      let p : passedOver d r ≡ passedOver d n = ap (passedOver d) (sym e) in
-      let s : passedOver d n ≡ store (passed (view d) n) = ap (λ (x : Scheduler). passedOver x n) (h .stored) in
-      (λ i. record { answer = record { answer = refusedAnswer refusal.None; minutes = k i }; scheduler = (p ∙ s) i })
-      ∙ ap (λ (x : Result). record { answer = record { answer = outcome x .answer; minutes = advancedBy (view d) n }; scheduler = outcome x .scheduler })
-      (sym (g .1))
+      let s : passedOver d r ≡ store (passed (view d) n) = ap (λ (x : Scheduler). passedOver x r) (h .stored) ∙ ap (λ (i : ℕ). store (passed (view d) i)) (sym e) in
+      (λ i. record { answer = record { answer = refusedAnswer refusal.None; minutes = k i }; scheduler = s i })
+      ∙ ap (advanceOutcome (advancedBy (view d) n)) (sym (g .1))
 
 -- refused
 pub given-refused : (d : Scheduler) (n : ℕ) → Premise d → accepts (waitRefusal (view d) n) ≡ false
     → _≡_ {A = AdvanceOutcome} (record { answer = record { answer = refusedAnswer (waitRefusal (view d) n); minutes = 0 }; scheduler = d }) (advances d n)
 given-refused d n h a =
     let g = advance-refused (view d) n a in
-    let k = sym (g .1) in
-    (λ i. record { answer = record { answer = refusedAnswer (waitRefusal (view d) n); minutes = k i }; scheduler = h .stored i })
-    ∙ ap (λ (x : Result). record { answer = record { answer = outcome x .answer; minutes = advancedBy (view d) n }; scheduler = outcome x .scheduler })
-    (sym (g .0))
+    ap (λ (x : Scheduler). record { answer = record { answer = refusedAnswer (waitRefusal (view d) n); minutes = 0 }; scheduler = x }) (h .stored)
+    ∙ ap₂ advanceOutcome (sym (g .1)) (sym (g .0))

@@ -3,7 +3,7 @@
 use Prim.Native.Nat.{ℕ, suc, _+_, _-_, _≤_, _<_}
 use native.Mathlib.Omega.{arith}
 use mathlib.Core.Path.{_≡_, refl, ap, subst}
-use mathlib.Core.Bool.{true, false}
+use mathlib.Core.Bool.{true}
 use lib.Dec.{ltb}
 use lib.ListN.{length, getD}
 use borrow.Author.Tests.{ltb-true, ltb-false}
@@ -20,7 +20,7 @@ use Rattle.scheduler.specs.Jobs.{unused, isLive}
 use Rattle.scheduler.specs.Model.{view}
 use Rattle.advance_rules.specs.Advance.{dueAt}
 use Rattle.quiet_minutes.specs.DueMinutes.{QuietTo, DueAfter}
-use Rattle.quiet_minutes.specs.QuietCount.{Ahead, Asked, asked-none, asked-more, asked-all}
+use Rattle.quiet_minutes.specs.QuietCount.{Asked, asked-none, asked-more, asked-all}
 use Rattle.advancing.specs.Advances.{QuietFor}
 
 -- something is due in that minute for a job of the slots before i

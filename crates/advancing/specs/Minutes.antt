@@ -2,15 +2,13 @@
 -- Assumes nothing.
 use Prim.Native.Nat.{ℕ, zero, suc, _+_, _-_, _≤_, _<_}
 use native.Mathlib.Omega.{arith}
-use mathlib.Core.Path.{_≡_, refl, ap, _∙_}
+use mathlib.Core.Path.{_≡_, refl}
 use mathlib.Core.Bool.{Bool, true, false}
-use mathlib.Core.List.{List, [], _∷_}
 use lib.Dec.{leb, ltb}
 use borrow.Author.Tests.{leb-true, leb-false, ltb-true, ltb-false}
 use Rattle.lists.specs.Tests.{case, true-false, neither}
 use Rattle.lists.specs.Least.{least, least-from, least-to, least-min}
-use Rattle.lists.specs.Lists.{In, any-none, none-any}
-use Rattle.scheduler.specs.declared.Job.{Job}
+use Rattle.lists.specs.Lists.{any-none, none-any}
 use Rattle.scheduler.specs.declared.Refusal.the-variants as refusal
 use Rattle.scheduler.specs.Limits.{horizon, longestWait, outside}
 use Rattle.scheduler.specs.Model.{Model}

@@ -9,7 +9,6 @@ use Prim.Native.Nat.{ℕ}
 use lib.Dec.{eqb}
 use lib.ListN.{length}
 use Rattle.scheduler.specs.declared.Kind.the-variants.{Easy}
-use Rattle.scheduler.specs.declared.Refusal.the-variants as refusal
 use Rattle.scheduler.specs.declared.Settings.{Settings}
 use Rattle.scheduler.specs.declared.Amendment as scheduler-amendment
 use Rattle.scheduler.specs.Limits.{longestEstimate}
@@ -35,7 +34,6 @@ use Rattle.amend_rules.specs.Steps.{Step, allSteps, replies}
 use Rattle.amend_laws.specs.OneAnswer.{amended-back}
 use Rattle.amend_laws.specs.Steps.{saidFrom, MadeStep, steps-keep, steps-around}
 use Rattle.advance_rules.specs.Advance.{advanceCalls, advanceAnswers}
-use Rattle.advancing.specs.Advances.{advances}
 use Rattle.advancing.specs.Counting.{MadeOnward, advance-made, counted}
 use Rattle.calls.specs.ListCall.{listRefusal}
 use Rattle.calls.specs.ProfileCall.{pointsOf}
@@ -56,7 +54,7 @@ use Rattle.hingerota.specs.declared.Shown.{Shown}
 use Rattle.hingerota.specs.Mirror.{mirror, mirrorTickets, mirrorAnswer, read, read-mirror, readAnswer, read-answer}
 use Rattle.hingerota.specs.DeskPremise.{opens, promiseOpening, looseOpening, restores, gives, mirror-handed, opening-longest, amendmentOf}
 use Rattle.hingerota.specs.CallContract.{HostLeaves, HostLeavesAmended, leaves-given}
-use Rattle.hingerota.specs.AdvanceContract.{HostLeavesAdvanced, advancesOn}
+use Rattle.hingerota.specs.AdvanceContract.{HostLeavesAdvanced}
 use Rattle.hingerota.specs.ProfileContract.{HostShowsPoints}
 use Rattle.hingerota.specs.IndexContract.{HostShowsBlocks}
 use Rattle.hingerota.specs.EarliestContract.{earliestOn}

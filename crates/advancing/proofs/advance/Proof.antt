@@ -1,6 +1,6 @@
 -- `advancing::advance` meets its contract: refused, or passed.
 -- Assumes nothing.
-use mathlib.Core.Path.{_≡_, sym, ap, _∙_}
+use mathlib.Core.Path.{sym, ap, _∙_}
 use Rattle.scheduler.specs.Answers.{accepts}
 use Rattle.advancing.specs.Advances.{given-refused}
 use borrow.Author.Needs.{needs}

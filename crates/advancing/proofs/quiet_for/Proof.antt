@@ -2,8 +2,6 @@
 -- Assumes nothing.
 use Prim.Native.Nat.{_+_, _-_}
 use native.Mathlib.Omega.{arith}
-use mathlib.Core.Path.{_≡_}
-use lib.ListN.{length}
 use Rattle.scheduler.specs.Limits.{slots}
 use Rattle.quiet_minutes.specs.QuietCount.{slots-whole, slot-ready}
 use Rattle.advancing.specs.DueSlots.{Found, found-none, found-more, found-all}
