@@ -63,6 +63,11 @@ abbrev pub refusalAt : (now : ℕ) → Departure → (state start least : ℕ) �
 refusalAt now h state start least =
     cond (eqb state (leavesFrom h)) (cond (earlyBy now h start least) refusal.BeforeLeast refusal.None) (notThere h)
 
+-- whether it stays in cleanup
+abbrev pub cleansBy : Departure → (clearing : ℕ) → Bool
+cleansBy Complete clearing = ltb 0 clearing
+cleansBy Cancel clearing = false
+
 -- where nothing is refused: what remains of the list, which places were left, and which tickets have ended
 pub record LeftAt (m : Model) (h : Departure) (t : ℕ) (gone ended : List ℕ) (after : List Job) : Type 0 where
   pub remain : remaining (m .settings) (m .clock) (select.Departing h t) (m .jobs) ≡ after

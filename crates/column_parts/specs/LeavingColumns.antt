@@ -9,8 +9,8 @@ use mathlib.Core.List.{List, [], _∷_}
 use lib.Dec.{eqb}
 use lib.ListN.{length, getD, set, take, length-set}
 use lib.Seq.{take-suc-set}
-use borrow.Author.Tests.{eq-eqb, ne-eqb}
-use Rattle.lists.specs.Tests.{case, true-false}
+use borrow.Author.Tests.{eq-eqb, ne-eqb, ltb-true, ltb-false}
+use Rattle.lists.specs.Tests.{case, true-false, on}
 use Rattle.lists.specs.Lists.{in-getD}
 use Rattle.lists.specs.Loops.{position}
 use Rattle.scheduler.specs.declared.Settings.{Settings}
@@ -33,14 +33,14 @@ use Rattle.jobs.specs.Soundness.{Sound}
 use Rattle.jobs.specs.Departing.{not-there}
 use Rattle.jobs.specs.Judgement.{accepts-none}
 use Rattle.jobs.specs.Slots.{sound-low}
-use Rattle.job_table.specs.Parts.{Own, judgedOwn, refusedOwn, leaving, withdrawnBy, departing}
+use Rattle.job_table.specs.Parts.{Own, judgedOwn, refusedOwn, leaving, withdrawnBy, departing, ends?}
 use Rattle.job_columns.specs.Removal.{removeAt, removes, Places}
 use Rattle.job_columns.specs.Columns.{Whole, column-at}
 use Rattle.job_columns.specs.JobColumns.{stateOf, startOf, leastOf, JobColumns}
 use Rattle.job_columns.specs.Searches.{hasTicket, placeOf, place-some, place-none}
 use Rattle.column_parts.specs.declared.Left.{Left}
 use Rattle.column_parts.specs.ColumnParts.{Listing, Gone, SoundColumns, Leaves}
-use Rattle.column_parts.specs.Departures.{refusalAt, earlyBy, leavesFrom, leaves-from, refused-nowhere, refused-there, found-inside, found-named, LeftAt, left-cleaning, left-over, left-withdrawn}
+use Rattle.column_parts.specs.Departures.{refusalAt, cleansBy, earlyBy, leavesFrom, leaves-from, refused-nowhere, refused-there, found-inside, found-named, LeftAt, left-cleaning, left-over, left-withdrawn}
 
 -- ## Numbers in lent lists
 
@@ -112,7 +112,7 @@ module _ (m : Model) (v : Sound m) (t at : ℕ) (p : position (hasTicket t) (m .
       let z : live - (live - 1) ≡ 1 = omega (arith, found-inside m (v .asc) Cancel t at p) in
       rw z (take-suc-set gone 0 at (omega arith))
 
-  pub leaves-cleaning : {tickets nodes states dues starts tenants estimates leasts : List ℕ} → departRefusal m Complete t ≡ refusal.None → 0 < cleanup (m .settings)
+  leaves-cleaning : {tickets nodes states dues starts tenants estimates leasts : List ℕ} → departRefusal m Complete t ≡ refusal.None → 0 < cleanup (m .settings)
       → JobColumns (m .settings) (set (m .jobs) at (cleaning (m .clock) leaver)) tickets nodes states dues starts tenants estimates leasts live
       → Leaves m Complete t live (record { refusal = refusal.None; live = live; ended = 1; withdrawn = 0 }) (set ended 0 t) gone tickets nodes states dues
       starts tenants estimates leasts
@@ -124,7 +124,7 @@ module _ (m : Model) (v : Sound m) (t at : ℕ) (p : position (hasTicket t) (m .
       (left-cleaning m (v .asc) Complete t at p e (rw (e, ne-eqb (cleanup (m .settings)) 0 (λ q. omega arith))))
       refl refl (list-one ended t we) (omega arith) (rw z) c
 
-  pub leaves-over : {tickets nodes states dues starts tenants estimates leasts : List ℕ} → departRefusal m Complete t ≡ refusal.None → cleanup (m .settings) ≡ 0
+  leaves-over : {tickets nodes states dues starts tenants estimates leasts : List ℕ} → departRefusal m Complete t ≡ refusal.None → cleanup (m .settings) ≡ 0
       → JobColumns (m .settings) (removeAt at (m .jobs)) tickets nodes states dues starts tenants estimates leasts (live - 1)
       → Leaves m Complete t live (record { refusal = refusal.None; live = live - 1; ended = 1; withdrawn = 0 }) (set ended 0 t) (set gone 0 at) tickets nodes
       states dues starts tenants estimates leasts
@@ -135,15 +135,32 @@ module _ (m : Model) (v : Sound m) (t at : ℕ) (p : position (hasTicket t) (m .
       (left-over m (v .asc) Complete t at p e (rw (e, eq-eqb (cleanup (m .settings)) 0 l)))
       refl refl (list-one ended t we) (omega arith) one-left c
 
-  pub leaves-withdrawn : {tickets nodes states dues starts tenants estimates leasts : List ℕ} → departRefusal m Cancel t ≡ refusal.None
+  leaves-withdrawn : {tickets nodes states dues starts tenants estimates leasts : List ℕ} → departRefusal m Cancel t ≡ refusal.None
       → JobColumns (m .settings) (removeAt at (m .jobs)) tickets nodes states dues starts tenants estimates leasts (live - 1)
-      → Leaves m Cancel t live (record { refusal = refusal.None; live = live - 1; ended = 0; withdrawn = t }) ended (set gone 0 at) tickets nodes states dues
-      starts tenants estimates leasts
+      → Leaves m Cancel t live (record { refusal = refusal.None; live = live - 1; ended = 0; withdrawn = t }) (set ended 0 t) (set gone 0 at) tickets nodes
+      states dues starts tenants estimates leasts
   leaves-withdrawn ok c =
-      given m v Cancel t at p ok few (set gone 0 at) (length-set gone 0 at ∙ wg) _ ended (at ∷ []) []
+      given m v Cancel t at p ok few (set gone 0 at) (length-set gone 0 at ∙ wg) _ (set ended 0 t) (at ∷ []) []
       (removeAt at (m .jobs))
       (left-withdrawn m (v .asc) Cancel t at p refl (rw (picked m v Cancel t at p ok)))
-      refl refl (list-none ended we) (omega arith) one-left c
+      refl refl (list-none (set ended 0 t) (length-set ended 0 t ∙ we)) (omega arith) one-left c
+
+  -- it stays in cleanup, or leaves
+  pub leaves-staying : {tickets nodes states dues starts tenants estimates leasts : List ℕ} (h : Departure) → departRefusal m h t ≡ refusal.None
+      → cleansBy h (cleanup (m .settings)) ≡ true
+      → JobColumns (m .settings) (set (m .jobs) at (cleaning (m .clock) leaver)) tickets nodes states dues starts tenants estimates leasts live
+      → Leaves m h t live (record { refusal = refusal.None; live = live; ended = 1; withdrawn = 0 }) (set ended 0 t) gone tickets nodes states dues starts
+      tenants estimates leasts
+  leaves-staying Complete ok e c = leaves-cleaning ok (ltb-true 0 (cleanup (m .settings)) e) c
+  leaves-staying Cancel ok e c = true-false false e refl
+
+  pub leaves-going : {tickets nodes states dues starts tenants estimates leasts : List ℕ} (h : Departure) → departRefusal m h t ≡ refusal.None
+      → cleansBy h (cleanup (m .settings)) ≡ false
+      → JobColumns (m .settings) (removeAt at (m .jobs)) tickets nodes states dues starts tenants estimates leasts (live - 1)
+      → Leaves m h t live (record { refusal = refusal.None; live = live - 1; ended = on (ends? h) 1; withdrawn = withdrawnBy h t }) (set ended 0 t)
+      (set gone 0 at) tickets nodes states dues starts tenants estimates leasts
+  leaves-going Complete ok e c = leaves-over ok (omega (arith, ltb-false 0 (cleanup (m .settings)) e)) c
+  leaves-going Cancel ok e c = leaves-withdrawn ok c
 
 -- a refused departure leaves the columns as they were
 abbrev pub refusedLeft : Refusal → ℕ → Left

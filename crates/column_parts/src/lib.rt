@@ -4,21 +4,25 @@ use scheduler::Refusal;
 use scheduler::Settings;
 use scheduler::Tenant;
 ghost use mathlib.Core.Path.{_≡_};
+ghost use mathlib.Core.Bool.{true, false};
 ghost use mathlib.Core.List.{List};
 ghost use Prim.Native.Nat.{ℕ, _-_, _≤_, _<_};
 ghost use lib.ListN.{length, set};
+ghost use Rattle.lists.specs.Tests.{on};
+ghost use Rattle.scheduler.specs.declared.Departure.{Departure};
 ghost use Rattle.scheduler.specs.declared.Job.{Job};
 ghost use Rattle.scheduler.specs.declared.Settings.{Settings};
 ghost use Rattle.scheduler.specs.Limits.{slots, horizon, longestEstimate, longestCleanup};
 ghost use Rattle.scheduler.specs.Settings.{cleanup as cleanupOf};
 ghost use Rattle.scheduler.specs.Refusals.{notThere};
 ghost use Rattle.scheduler.specs.Table.{liveOf};
+ghost use Rattle.job_table.specs.Parts.{ends?, withdrawnBy};
 ghost use Rattle.job_table.specs.Submitting.{Tells};
 ghost use Rattle.job_columns.specs.Columns.{Column, Whole};
 ghost use Rattle.job_columns.specs.Removal.{removeAt};
 ghost use Rattle.job_columns.specs.JobColumns.{tenantOf, JobColumns};
 ghost use Rattle.column_parts.specs.ColumnParts.{SoundColumns, Leaves, MinuteColumns, Expires};
-ghost use Rattle.column_parts.specs.Departures.{leavesFrom, earlyBy, refusalAt};
+ghost use Rattle.column_parts.specs.Departures.{leavesFrom, earlyBy, refusalAt, cleansBy};
 ghost use Rattle.column_parts.specs.LeavingColumns.{refusedLeft, Leavable};
 ghost use Rattle.column_parts.specs.SweptColumns.{DueColumns, Sweeping};
 ghost use Rattle.column_parts.specs.ToldReply.{refusedTold};
@@ -171,8 +175,67 @@ fn take_out(
     gone[count] = at as u32;
 }
 
-// The run of the job in this place is over: it leaves, or is in cleanup.
-fn complete(
+// Whether a job that leaves so stays in cleanup.
+fn cleans(how: Departure, cleanup: u32) -> bool
+    ensures { λ r. ⌜ r ≡ cleansBy how cleanup ⌝ }
+{
+    match how {
+        Departure::Complete => 0 < cleanup,
+        Departure::Cancel => false,
+    }
+}
+
+// How many runs end.
+fn ends(how: Departure) -> usize
+    ensures { λ r. ⌜ r ≡ on (ends? how) 1 ⌝ }
+{
+    match how {
+        Departure::Complete => 1,
+        Departure::Cancel => 0,
+    }
+}
+
+// The ticket if it is withdrawn, or 0.
+fn withdrawn(how: Departure, ticket: u32) -> u32
+    ensures { λ r. ⌜ r ≡ withdrawnBy how ticket ⌝ }
+{
+    match how {
+        Departure::Complete => 0,
+        Departure::Cancel => ticket,
+    }
+}
+
+// The run of the job in this place is over, and it is in cleanup.
+fn stay(
+    states: &mut [u32; 64],
+    dues: &mut [u32; 64],
+    ended: &mut [u32; 64],
+    live: usize,
+    at: usize,
+    ticket: u32,
+    clock: u32,
+    cleanup: u32,
+) -> Left
+    requires { ⌜ (at < live) × (live ≤ slots) × (clock ≤ horizon) × (cleanup ≤ longestCleanup) × Whole (now ended) ⌝ }
+    ensures { λ r.
+        ⌜ ((S : Settings) (h : Departure) (gone tickets nodes starts tenants estimates leasts : List ℕ)
+        (k : SoundColumns S clock tickets nodes (now (states .entry)) (now (dues .entry)) starts tenants estimates leasts live)
+        → Leavable (k .model) h ticket at → cleanup ≡ cleanupOf S → cleansBy h cleanup ≡ true → Whole gone
+        → Leaves (k .model) h ticket live r (now (ended .exit)) gone tickets nodes (now (states .exit)) (now (dues .exit)) starts tenants estimates
+        leasts) ⌝ }
+{
+    ended[0] = ticket;
+    job_columns::clean(states, dues, at, clock, cleanup);
+    Left {
+        refusal: Refusal::None,
+        live: live,
+        ended: 1,
+        withdrawn: 0,
+    }
+}
+
+// The job in this place leaves it, and those after it move up. (One call of `take_out` for both ways: with two, compiled code calls `shift`.)
+fn go(
     tickets: &mut [u32; 64],
     nodes: &mut [u32; 64],
     states: &mut [u32; 64],
@@ -185,25 +248,15 @@ fn complete(
     gone: &mut [u32; 64],
     live: usize,
     at: usize,
+    how: Departure,
     ticket: u32,
-    clock: u32,
-    cleanup: u32,
 ) -> Left
-    requires { ⌜ (at < live) × (live ≤ slots) × (clock ≤ horizon) × (cleanup ≤ longestCleanup) × Whole (now ended) × Whole (now gone) ⌝ }
+    requires { ⌜ (at < live) × (live ≤ slots) × Whole (now ended) × Whole (now gone) ⌝ }
     ensures { λ r.
-        ⌜ ((S : Settings) (k : SoundColumns S clock (now (tickets .entry)) (now (nodes .entry)) (now (states .entry)) (now (dues .entry)) (now (starts .entry)) (now (tenants .entry)) (now (estimates .entry)) (now (leasts .entry)) live) → Leavable (k .model) Departure.Complete ticket at → cleanup ≡ cleanupOf S
-        → Leaves (k .model) Departure.Complete ticket live r (now (ended .exit)) (now (gone .exit)) (now (tickets .exit)) (now (nodes .exit)) (now (states .exit)) (now (dues .exit)) (now (starts .exit)) (now (tenants .exit)) (now (estimates .exit)) (now (leasts .exit))) ⌝ }
+        ⌜ ((S : Settings) (clock : ℕ) (k : SoundColumns S clock (now (tickets .entry)) (now (nodes .entry)) (now (states .entry)) (now (dues .entry)) (now (starts .entry)) (now (tenants .entry)) (now (estimates .entry)) (now (leasts .entry)) live) → Leavable (k .model) how ticket at → cleansBy how (cleanupOf S) ≡ false
+        → Leaves (k .model) how ticket live r (now (ended .exit)) (now (gone .exit)) (now (tickets .exit)) (now (nodes .exit)) (now (states .exit)) (now (dues .exit)) (now (starts .exit)) (now (tenants .exit)) (now (estimates .exit)) (now (leasts .exit))) ⌝ }
 {
     ended[0] = ticket;
-    if 0 < cleanup {
-        job_columns::clean(states, dues, at, clock, cleanup);
-        return Left {
-            refusal: Refusal::None,
-            live: live,
-            ended: 1,
-            withdrawn: 0,
-        };
-    }
     take_out(
         tickets,
         nodes,
@@ -221,50 +274,8 @@ fn complete(
     Left {
         refusal: Refusal::None,
         live: live - 1,
-        ended: 1,
-        withdrawn: 0,
-    }
-}
-
-// The job in this place is withdrawn.
-fn cancel(
-    tickets: &mut [u32; 64],
-    nodes: &mut [u32; 64],
-    states: &mut [u32; 64],
-    dues: &mut [u32; 64],
-    starts: &mut [u32; 64],
-    tenants: &mut [u32; 64],
-    estimates: &mut [u32; 64],
-    leasts: &mut [u32; 64],
-    gone: &mut [u32; 64],
-    live: usize,
-    at: usize,
-    ticket: u32,
-) -> Left
-    requires { ⌜ (at < live) × (live ≤ slots) × Whole (now gone) ⌝ }
-    ensures { λ r.
-        ⌜ ((S : Settings) (clock : ℕ) (k : SoundColumns S clock (now (tickets .entry)) (now (nodes .entry)) (now (states .entry)) (now (dues .entry)) (now (starts .entry)) (now (tenants .entry)) (now (estimates .entry)) (now (leasts .entry)) live) → Leavable (k .model) Departure.Cancel ticket at → (ended : List ℕ) → Whole ended
-        → Leaves (k .model) Departure.Cancel ticket live r ended (now (gone .exit)) (now (tickets .exit)) (now (nodes .exit)) (now (states .exit)) (now (dues .exit)) (now (starts .exit)) (now (tenants .exit)) (now (estimates .exit)) (now (leasts .exit))) ⌝ }
-{
-    take_out(
-        tickets,
-        nodes,
-        states,
-        dues,
-        starts,
-        tenants,
-        estimates,
-        leasts,
-        gone,
-        0,
-        live,
-        at,
-    );
-    Left {
-        refusal: Refusal::None,
-        live: live - 1,
-        ended: 0,
-        withdrawn: ticket,
+        ended: ends(how),
+        withdrawn: withdrawn(how, ticket),
     }
 }
 
@@ -310,39 +321,26 @@ pub fn leave(
     if !why.is_none() {
         return refused(why, live);
     }
-    match how {
-        Departure::Complete => complete(
-            tickets,
-            nodes,
-            states,
-            dues,
-            starts,
-            tenants,
-            estimates,
-            leasts,
-            ended,
-            gone,
-            live,
-            at,
-            ticket,
-            clock,
-            settings.cleanup(),
-        ),
-        Departure::Cancel => cancel(
-            tickets,
-            nodes,
-            states,
-            dues,
-            starts,
-            tenants,
-            estimates,
-            leasts,
-            gone,
-            live,
-            at,
-            ticket,
-        ),
+    let cleanup = settings.cleanup();
+    if cleans(how, cleanup) {
+        return stay(states, dues, ended, live, at, ticket, clock, cleanup);
     }
+    go(
+        tickets,
+        nodes,
+        states,
+        dues,
+        starts,
+        tenants,
+        estimates,
+        leasts,
+        ended,
+        gone,
+        live,
+        at,
+        how,
+        ticket,
+    )
 }
 
 // What a minute has done: how many jobs are live then, how many tickets stand in the list of those ended, and how many waiting jobs are to start.
