@@ -2,7 +2,7 @@
 -- Assumes nothing.
 use Prim.Native.Nat.{ℕ, _+_, _-_, _≤_}
 use native.Mathlib.Omega.{arith}
-use mathlib.Core.Path.{_≡_, refl, ap, _∙_}
+use mathlib.Core.Path.{_≡_, refl, sym, ap, _∙_}
 use mathlib.Core.Bool.{Bool, true, false, cond, _&&_}
 use lib.Dec.{eqb}
 use borrow.Author.Tests.{eq-eqb, ne-eqb}
@@ -17,7 +17,7 @@ use Rattle.scheduler.specs.States.{waiting?, running?, cleaning?}
 use Rattle.scheduler.specs.Tenants.{number}
 use Rattle.scheduler.specs.Jobs.{isWaiting, isRunning, isCleaning, endsAt, releasedAt, jobAt, cleaning}
 use Rattle.scheduler.specs.Settings.{cleanup, runTime, endOf, until}
-use Rattle.scheduler.specs.Times.{end-is, until-cleaned}
+use Rattle.scheduler.specs.Times.{end-is, until-cleaning, until-cleaned}
 use Rattle.jobs.specs.Soundness.{running-clean, waiting-clean}
 use Rattle.job_columns.specs.JobColumns.{stateNumber, stateOf, never, dueOf}
 
@@ -39,6 +39,10 @@ pub tenant-back : (t : Tenant) → tenantAt (number t) ≡ t
 tenant-back Nobody = refl
 tenant-back A = refl
 tenant-back B = refl
+
+-- the end of its run: only a job in cleanup has one
+abbrev pub endAt : (state due clearing : ℕ) → ℕ
+endAt state due clearing = cond (eqb state 3) (due - clearing) 0
 
 -- what the number of a state says
 pub number-waiting : (s : State) → eqb (stateNumber s) 1 ≡ waiting? s
@@ -103,3 +107,15 @@ module _ (S : Settings) (j : Job) where
 
   pub due-cleaned : (t : ℕ) → dueOf S (cleaning t j) ≡ t + cleanup S
   due-cleaned t = until-cleaned S t j
+
+  -- it is due no sooner than the cleanup takes, and before that its run ended
+  pub due-after : stateOf j ≡ 3 → cleanup S ≤ dueOf S j
+  due-after e =
+      let c : isCleaning j ≡ true = sym (number-cleaning (j .state)) ∙ eq-eqb (stateOf j) 3 e in
+      omega (arith, due-cleaning c, until-cleaning S j c)
+
+  pub end-back : (isCleaning j ≡ false → j .end ≡ 0) → endAt (stateOf j) (dueOf S j) (cleanup S) ≡ j .end
+  end-back z =
+      case (isCleaning j)
+      (λ c. rw (due-cleaning c, number-cleaning (j .state), c) (omega (arith, until-cleaning S j c)))
+      (λ c. rw (number-cleaning (j .state), c) (sym (z c)))

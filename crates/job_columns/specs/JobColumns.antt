@@ -74,3 +74,13 @@ pub record JobColumns (S : Settings) (js : List Job) (tickets nodes states dues 
   pub tenants-are : Column tenantOf js tenants
   pub estimates-are : Column estimateOf js estimates
   pub leasts-are : Column leastOf js leasts
+
+-- ## The columns of every field
+
+pub record AllColumns (S : Settings) (js : List Job) (tickets nodes states dues starts tenants estimates leasts promises submitted ranks forecasts : List ℕ)
+    (live : ℕ) : Type 0 where
+  pub core : JobColumns S js tickets nodes states dues starts tenants estimates leasts live
+  pub promises-are : Column promiseOf js promises
+  pub submitted-are : Column submittedOf js submitted
+  pub ranks-are : Column rankOf js ranks
+  pub forecasts-are : Column forecastOf js forecasts

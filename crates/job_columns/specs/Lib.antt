@@ -5,3 +5,4 @@ pub mod JobColumns
 pub mod Searches
 pub mod Encoding
 pub mod ColumnChanges
+pub mod Gathering

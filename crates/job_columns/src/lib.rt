@@ -1,6 +1,7 @@
 // The live jobs of a scheduler in columns: lent lists of numbers, one for each field, in ticket order; the places after them are 0. Here are the
 // columns that both kinds have, and what becomes of them where a job comes in, begins, is in cleanup or leaves.
 use scheduler::Job;
+use scheduler::Scheduler;
 use scheduler::Settings;
 use scheduler::State;
 use scheduler::Tenant;
@@ -20,11 +21,16 @@ ghost use Rattle.scheduler.specs.Tenants.{number};
 ghost use Rattle.scheduler.specs.Jobs.{unused, isWaiting, jobAt, cleaning};
 ghost use Rattle.scheduler.specs.Settings.{runTime, cleanup as cleanupOf};
 ghost use Rattle.scheduler.specs.Table.{ticketOf, liveOf};
+ghost use Rattle.scheduler.specs.Model.{store, view};
+ghost use Rattle.jobs.specs.Soundness.{Sound};
+ghost use Rattle.jobs.specs.Premise.{Holds};
 ghost use Rattle.jobs.specs.Order.{Asc};
 ghost use Rattle.jobs.specs.Slots.{Low};
 ghost use Rattle.job_columns.specs.Removal.{removeAt, removes, Places};
 ghost use Rattle.job_columns.specs.Columns.{Column, Whole};
-ghost use Rattle.job_columns.specs.JobColumns.{stateNumber, stateOf, tenantOf, dueOf, never, JobColumns};
+ghost use Rattle.job_columns.specs.JobColumns.{stateNumber, stateOf, tenantOf, dueOf, never, JobColumns, AllColumns};
+ghost use Rattle.job_columns.specs.Encoding.{stateAt, tenantAt, endAt};
+ghost use Rattle.job_columns.specs.Gathering.{Blanks, RowFits, NoEnd, SchedulerColumns};
 ghost use Rattle.job_columns.specs.Searches.{placeOf, hasTicket, FirstDue, soonest};
 
 // A minute that no clock reaches.
@@ -102,6 +108,183 @@ pub fn append(
     tenants[at] = tenant_number(t);
     estimates[at] = j.estimate as u32;
     leasts[at] = j.least as u32;
+}
+
+// The columns of a scheduler, in lists that are all 0: how many jobs are live.
+pub fn spread(
+    d: Scheduler,
+    tickets: &mut [u32; 64],
+    nodes: &mut [u32; 64],
+    states: &mut [u32; 64],
+    dues: &mut [u32; 64],
+    starts: &mut [u32; 64],
+    tenants: &mut [u32; 64],
+    estimates: &mut [u32; 64],
+    leasts: &mut [u32; 64],
+    promises: &mut [u32; 64],
+    submitted: &mut [u32; 64],
+    ranks: &mut [u32; 64],
+    forecasts: &mut [u32; 64],
+) -> usize
+    requires { ⌜ Holds Sound d × Blanks (now tickets) (now nodes) (now states) (now dues) (now starts) (now tenants) (now estimates) (now leasts) (now promises) (now submitted) (now ranks) (now forecasts) ⌝ }
+    ensures { λ r. ⌜ AllColumns (d .settings) (view d .jobs) (now (tickets .exit)) (now (nodes .exit)) (now (states .exit)) (now (dues .exit)) (now (starts .exit)) (now (tenants .exit)) (now (estimates .exit)) (now (leasts .exit)) (now (promises .exit)) (now (submitted .exit)) (now (ranks .exit)) (now (forecasts .exit)) r ⌝ }
+{
+    let settings = d.settings;
+    let mut i: usize = 0;
+    while i < Scheduler::LIVE {
+        let j = d.jobs[i];
+        if !j.is_live() {
+            break;
+        }
+        append(
+            tickets,
+            nodes,
+            states,
+            dues,
+            starts,
+            tenants,
+            estimates,
+            leasts,
+            i,
+            j,
+            settings,
+        );
+        promises[i] = j.promise;
+        submitted[i] = j.submitted;
+        ranks[i] = j.rank;
+        forecasts[i] = j.forecast;
+        i += 1;
+    }
+    i
+}
+
+fn state_of(n: u32) -> State
+    ensures { λ r. ⌜ r ≡ stateAt n ⌝ }
+{
+    if n == 1 {
+        return State::Waiting;
+    }
+    if n == 2 {
+        return State::Running;
+    }
+    if n == 3 {
+        return State::Cleanup;
+    }
+    State::Unused
+}
+
+fn tenant_of(n: u32) -> Tenant
+    ensures { λ r. ⌜ r ≡ tenantAt n ⌝ }
+{
+    if n == 1 {
+        return Tenant::A;
+    }
+    if n == 2 {
+        return Tenant::B;
+    }
+    Tenant::Nobody
+}
+
+// The end of a run, by when its nodes are free; only a job in cleanup has one.
+fn end_of(state: u32, due: u32, cleanup: u32) -> u32
+    requires { ⌜ (state ≡ 3 → cleanup ≤ due) ⌝ }
+    ensures { λ r. ⌜ r ≡ endAt state due cleanup ⌝ }
+{
+    if state == 3 {
+        return due - cleanup;
+    }
+    0
+}
+
+// The job in this place.
+fn job_at(
+    tickets: &[u32; 64],
+    nodes: &[u32; 64],
+    states: &[u32; 64],
+    dues: &[u32; 64],
+    starts: &[u32; 64],
+    tenants: &[u32; 64],
+    estimates: &[u32; 64],
+    leasts: &[u32; 64],
+    promises: &[u32; 64],
+    submitted: &[u32; 64],
+    ranks: &[u32; 64],
+    forecasts: &[u32; 64],
+    i: usize,
+    cleanup: u32,
+) -> Job
+    requires { ⌜ (i < slots) × RowFits (now nodes) (now states) (now dues) (now estimates) (now leasts) i cleanup ⌝ }
+    ensures { λ r.
+        ⌜ ((S : Settings) (js : List Job) (live : ℕ) → AllColumns S js (now (tickets .entry)) (now (nodes .entry)) (now (states .entry)) (now (dues .entry)) (now (starts .entry)) (now (tenants .entry)) (now (estimates .entry)) (now (leasts .entry)) (now (promises .entry)) (now (submitted .entry)) (now (ranks .entry)) (now (forecasts .entry)) live
+        → i < live → cleanup ≡ cleanupOf S → NoEnd (getD js i unused) → r ≡ getD js i unused) ⌝ }
+{
+    Job {
+        ticket: tickets[i],
+        nodes: nodes[i] as u16,
+        estimate: estimates[i] as u16,
+        state: state_of(states[i]),
+        tenant: tenant_of(tenants[i]),
+        least: leasts[i] as u16,
+        start: starts[i],
+        promise: promises[i],
+        end: end_of(states[i], dues[i], cleanup),
+        submitted: submitted[i],
+        rank: ranks[i],
+        forecast: forecasts[i],
+    }
+}
+
+// The scheduler that the columns are of.
+pub fn gather(
+    tickets: &[u32; 64],
+    nodes: &[u32; 64],
+    states: &[u32; 64],
+    dues: &[u32; 64],
+    starts: &[u32; 64],
+    tenants: &[u32; 64],
+    estimates: &[u32; 64],
+    leasts: &[u32; 64],
+    promises: &[u32; 64],
+    submitted: &[u32; 64],
+    ranks: &[u32; 64],
+    forecasts: &[u32; 64],
+    live: usize,
+    settings: Settings,
+    clock: u32,
+    next: u32,
+) -> Scheduler
+    requires { ⌜ SchedulerColumns settings clock next (now tickets) (now nodes) (now states) (now dues) (now starts) (now tenants) (now estimates) (now leasts) (now promises) (now submitted) (now ranks) (now forecasts) live ⌝ }
+    ensures { λ r. ⌜ ((k : SchedulerColumns settings clock next (now (tickets .entry)) (now (nodes .entry)) (now (states .entry)) (now (dues .entry)) (now (starts .entry)) (now (tenants .entry)) (now (estimates .entry)) (now (leasts .entry)) (now (promises .entry)) (now (submitted .entry)) (now (ranks .entry)) (now (forecasts .entry)) live) → r ≡ store (k .model)) ⌝ }
+{
+    let none = Job::unused();
+    let mut jobs = [none; 64];
+    let cleanup = settings.cleanup();
+    let mut i: usize = 0;
+    while i < live {
+        jobs[i] = job_at(
+            tickets,
+            nodes,
+            states,
+            dues,
+            starts,
+            tenants,
+            estimates,
+            leasts,
+            promises,
+            submitted,
+            ranks,
+            forecasts,
+            i,
+            cleanup,
+        );
+        i += 1;
+    }
+    Scheduler {
+        settings: settings,
+        clock: clock,
+        next: next,
+        jobs: jobs,
+    }
 }
 
 // The place of a ticket, by halves; where no job has it, the place past the last.
