@@ -6,17 +6,19 @@ mod desk;
 mod fields;
 mod lines;
 mod page;
+mod picture;
 mod script;
 mod words;
 
-use desk::Ended;
+use desk::{Ended, Times};
 use lines::Lines;
 use page::Page;
-use script::Script;
+use script::{Rack, Script};
 use std::ffi::OsString;
 use std::fs::{self, File};
 use std::io::{self, BufReader, Read, Write};
 use std::os::fd::AsFd;
+use std::os::unix::ffi::OsStrExt;
 use std::path::Path;
 use std::process::ExitCode;
 
@@ -45,12 +47,33 @@ fn play(mut script: Script) -> Result<(), Failure> {
     Ok(())
 }
 
+fn lines_of(path: &Path) -> Result<Vec<u8>, Failure> {
+    fs::read(path).map_err(|e| format!("{} cannot be read: {e}", path.display()))
+}
+
 /// Plays a script on the desk whose lines a file has; if they are refused, says so and stops.
 fn play_from(path: &Path) -> Result<(), Failure> {
-    let text = fs::read(path).map_err(|e| format!("{} cannot be read: {e}", path.display()))?;
-    match Script::from(&text) {
+    match Script::from(&lines_of(path)?) {
         Ok(script) => play(script),
         Err(refusal) => write(&mut file(io::stdout())?, Page::refused(refusal).text()),
+    }
+}
+
+/// Draws the desk whose lines a file has; if they are refused, says so, and there is no picture.
+fn picture_from(path: &Path, rest: &[OsString]) -> Result<Ended, Failure> {
+    let arguments: Vec<&[u8]> = rest.iter().map(|argument| argument.as_bytes()).collect();
+    let until = match picture::until(&arguments) {
+        Ok(until) => until,
+        Err(misused) => return Ok(Ended::Misused(misused)),
+    };
+    let rack = match Rack::restored(&lines_of(path)?) {
+        Ok(rack) => rack,
+        Err(refusal) => return write(&mut file(io::stdout())?, Page::refused(refusal).text()).map(|()| Ended::Refused),
+    };
+    let times = Times { since: None, now: rack.desk.clock() };
+    match picture::picture(&rack.desk, times, until) {
+        Ok(drawn) => write(&mut file(io::stdout())?, &drawn).map(|()| Ended::Taken),
+        Err(why) => Ok(Ended::Declined(why)),
     }
 }
 
@@ -69,14 +92,14 @@ fn help() -> Result<(), Failure> {
     write(&mut file(io::stdout())?, &words::usage())
 }
 
-/// A command on a folder, by its own statuses.
-fn on_folder(path: &OsString, rest: &[OsString]) -> ExitCode {
-    let (status, said) = match desk::run(path, rest) {
+/// The status of a command that can be refused, and what is said of it; that of a failure is given.
+fn status(ended: Result<Ended, Failure>, failed: u8) -> ExitCode {
+    let (status, said) = match ended {
         Ok(Ended::Taken) => (0, None),
         Ok(Ended::Refused) => (1, None),
         Ok(Ended::Declined(why)) => (1, Some(why)),
         Ok(Ended::Misused(why)) => (2, Some(format!("{why} ('rack --help' says more)"))),
-        Err(failure) => (3, Some(failure)),
+        Err(failure) => (failed, Some(failure)),
     };
     if let Some(said) = said {
         eprintln!("rack: {said}");
@@ -89,9 +112,12 @@ fn main() -> ExitCode {
     let done = match arguments.as_slice() {
         [] => play(Script::First),
         [option, path] if option == "--from" => play_from(Path::new(path)),
+        [option, path, word, rest @ ..] if option == "--from" && word == "picture" => {
+            return status(picture_from(Path::new(path), rest), 1)
+        }
         [only] if only == "--check" => check(),
         [only] if only == "--help" => help(),
-        [path, rest @ ..] if !path.is_empty() && !path.as_encoded_bytes().starts_with(b"-") => return on_folder(path, rest),
+        [path, rest @ ..] if !path.is_empty() && !path.as_encoded_bytes().starts_with(b"-") => return status(desk::run(path, rest), 3),
         _ => {
             eprint!("{}", words::usage());
             return ExitCode::from(2);

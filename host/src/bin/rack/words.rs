@@ -232,11 +232,13 @@ pub fn usage() -> String {
         "\
 usage: rack <SCRIPT
        rack --from FILE <SCRIPT
+       rack --from FILE picture [--until MINUTE] >PICTURE
        rack --check <LINES
        rack DIR open promise|loose NODES [--clearing C] [--places A B] [--minute M] [--ticket T] [--since TIME]
        rack DIR WORD FIELD..
        rack DIR <SCRIPT
        rack DIR close|prune|audit|follow
+       rack DIR picture [--until MINUTE] >PICTURE
        rack DIR repair --to-line K
        rack --help
 
@@ -244,6 +246,7 @@ Plays a script on a desk, and prints what a line gives before it reads the next.
 Byte 10 closes a line, and one tab parts its fields.
   --from FILE                             goes on from the desk whose lines FILE has, as text prints them. The script
                                           has later lines only. If the lines are refused, it stops
+  --from FILE picture                     plays no script: prints a picture of that desk, as in a folder
   --check                                 plays no script: prints ok if the lines on standard input give a desk. Otherwise
                                           prints no NUMBER: 22 if a line lacks the form, 23 if they break a condition
 
@@ -260,7 +263,7 @@ Later lines:
   head TICKET FORECAST                    on a Loose Desk: the job now waits first, and starts by FORECAST
   no NUMBER                               the line is refused; 9 if it lacks the form
 A refused first line ends the script.
-Status: 0 played, refused lines too; 1 cannot read or write; 2 wrong usage.
+Status: 0 played, refused lines too; 1 cannot read or write, or no picture of refused lines; 2 wrong usage.
 
 {}",
         desk::USAGE

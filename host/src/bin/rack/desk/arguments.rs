@@ -1,6 +1,6 @@
 //! What the arguments after a folder's name ask for.
 
-use crate::words;
+use crate::{picture, words};
 use std::ffi::OsString;
 use std::os::unix::ffi::OsStrExt;
 use std::path::PathBuf;
@@ -28,6 +28,10 @@ pub enum Command {
         to_line: u64,
     },
     Follow,
+    /// Up to a minute, if it is said.
+    Picture {
+        until: Option<u32>,
+    },
 }
 
 /// Why arguments are wrong.
@@ -52,6 +56,7 @@ fn command(arguments: &[&[u8]]) -> Result<Command, Misused> {
         b"prune" => alone(Command::Prune),
         b"audit" => alone(Command::Audit),
         b"follow" => alone(Command::Follow),
+        b"picture" => Ok(Command::Picture { until: picture::until(rest)? }),
         b"repair" => match rest {
             [b"--to-line", line] => Ok(Command::Repair { to_line: count(line)? }),
             _ => Err("'repair' needs --to-line K".to_string()),

@@ -68,12 +68,47 @@ impl Since {
         }
     }
 
+    /// Minutes since 1970 by the clock on the wall, so that round ones are round times of day.
+    pub fn on_the_wall(&self, minute: i64) -> i64 {
+        (self.seconds + self.offset * MINUTE).div_euclid(MINUTE) + minute - i64::from(self.minute)
+    }
+
     /// The date and the time of day.
     fn shown(&self, seconds: i64) -> (String, String) {
         let local = seconds + self.offset * MINUTE;
         let (year, month, day) = date(local.div_euclid(DAY));
         let minutes = local.rem_euclid(DAY) / MINUTE;
         (format!("{year:04}-{month:02}-{day:02}"), format!("{:02}:{:02}", minutes / 60, minutes % 60))
+    }
+}
+
+/// How minutes are shown in a desk's present minute: with their times of day, where it follows the clock.
+#[derive(Clone, Copy)]
+pub struct Times<'a> {
+    pub since: Option<&'a Since>,
+    pub now: u32,
+}
+
+impl Times<'_> {
+    /// `20 (08:20)`.
+    pub fn short(&self, minute: u32) -> String {
+        match self.since {
+            Some(since) => format!("{minute} ({})", since.time_of(minute, Some(self.now))),
+            None => minute.to_string(),
+        }
+    }
+
+    /// `minute 20 (08:20)`.
+    pub fn minute(&self, minute: u32) -> String {
+        format!("minute {}", self.short(minute))
+    }
+
+    /// The present minute, with its date.
+    pub fn present(&self) -> String {
+        match self.since {
+            Some(since) => format!("minute {} ({})", self.now, since.time_of(self.now, None)),
+            None => self.minute(self.now),
+        }
     }
 }
 
@@ -178,6 +213,7 @@ mod tests {
             (since.minute_at(since.seconds + 59), since.minute_at(since.seconds + 60), since.minute_at(since.seconds - 1)),
             (7, 8, 6)
         );
+        assert_eq!((since.on_the_wall(7) % 1440, since.on_the_wall(17) % 1440), (23 * 60 + 50, 0));
         assert_eq!(Since::new("@60", 0).unwrap().fields(), "1970-01-01T00:01:00+00:00\t0");
         assert!(Since::new("now+02:00", 0).unwrap().fields().ends_with("+02:00\t0"));
         assert!(Since::new("now ", 0).is_err());

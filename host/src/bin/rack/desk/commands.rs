@@ -12,6 +12,7 @@ use super::turn::Lock;
 use crate::fields::{fields, number};
 use crate::lines::{Line, Lines};
 use crate::page::{Page, Refusal, LACKS_THE_FORM};
+use crate::picture::picture;
 use crate::script;
 use crate::{file, Failure};
 use std::ffi::OsString;
@@ -36,15 +37,26 @@ pub struct Output {
     file: File,
     /// Whether sentences are printed too.
     pub words: bool,
+    /// Whether it is a picture or a page, so that what minutes give that have passed goes to standard error.
+    whole: bool,
 }
 
 impl Output {
     fn new(words: bool) -> Result<Output, Failure> {
-        Ok(Output { file: file(io::stdout())?, words: words || io::stdout().is_terminal() })
+        Ok(Output { file: file(io::stdout())?, words: words || io::stdout().is_terminal(), whole: false })
     }
 
     fn print(&mut self, text: &str) -> Result<(), Failure> {
         self.file.write_all(text.as_bytes()).map_err(|e| format!("the printout cannot be written: {e}; what was taken is kept"))
+    }
+
+    /// What minutes gave that have passed.
+    fn print_passed(&mut self, text: &str) -> Result<(), Failure> {
+        if self.whole {
+            let _ = io::stderr().write_all(text.as_bytes());
+            return Ok(());
+        }
+        self.print(text)
     }
 
     /// Whether somebody reads it still.
@@ -93,7 +105,17 @@ impl Session {
             }
             let sentences = if words { held.sayer().passed(page.text()) } else { String::new() };
             drop(turn);
-            self.output.print(&(page.text().to_string() + &sentences))?;
+            self.output.print_passed(&(page.text().to_string() + &sentences))?;
+        }
+    }
+
+    /// Prints a picture of the desk, or says why there is none.
+    fn whole(&mut self, draw: impl FnOnce(&Held) -> Result<String, String>) -> Result<Ended, Failure> {
+        self.output.whole = true;
+        let drawn = self.in_turn(|held| held.flush().map(|()| draw(held)))?;
+        match drawn {
+            Ok(text) => self.output.print(&text).map(|()| Ended::Taken),
+            Err(why) => Ok(Ended::Declined(why)),
         }
     }
 
@@ -230,6 +252,7 @@ pub fn run(path: &OsString, rest: &[OsString]) -> Result<Ended, Failure> {
         Command::Prune => session.once(|held| generations::prune(&held.folder).map(|gone| format!("{gone} generations were removed"))),
         Command::Audit => session.audit(),
         Command::Repair { to_line } => session.repair(to_line),
+        Command::Picture { until } => session.whole(|held| picture(&held.rack.desk, held.times(), until)),
         Command::Follow => follow(session.folder, session.lock, &mut session.output).map(|()| Ended::Taken),
     }
 }

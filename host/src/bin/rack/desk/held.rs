@@ -1,6 +1,6 @@
 //! The desk of a folder as a process has it: `desk-N` read back, with the lines of `calls-N` played on it.
 
-use super::clock::{self, Since};
+use super::clock::{self, Since, Times};
 use super::folder::Folder;
 use super::generations;
 use super::journal::{Journal, Named, News};
@@ -70,6 +70,10 @@ impl Held {
 
     pub fn sayer(&self) -> Sayer<'_> {
         Sayer { desk: &self.rack.desk, since: self.since.as_ref() }
+    }
+
+    pub fn times(&self) -> Times<'_> {
+        Times { since: self.since.as_ref(), now: self.rack.desk.clock() }
     }
 
     /// Plays what others have written since, in its turn. What these lines print goes to the page.

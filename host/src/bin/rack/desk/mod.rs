@@ -14,6 +14,7 @@ mod say;
 mod system;
 mod turn;
 
+pub use clock::Times;
 pub use commands::{run, Ended};
 
 /// What the usage says of a folder.
@@ -35,6 +36,10 @@ A desk in a folder:
                                           they differ
   follow                                  prints over, start and head lines as they come, until it gets SIGTERM or the pipe
                                           is closed
+  picture                                 prints a picture of the plan, in SVG: a bar for each live job by the minute or the time
+                                          of day, the promises or the forecast, and on a Promise Desk the free nodes. What
+                                          came of minutes that have passed is then on standard error
+    --until MINUTE                        shows it up to MINUTE; without it, as far as most jobs go
   repair --to-line K                      of a damaged calls-N, leaves K lines and goes on; what it held stays beside it
   --words                                 prints plain sentences too, as on a terminal
   --shared                                allows a folder that others may write

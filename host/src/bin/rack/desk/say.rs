@@ -1,7 +1,7 @@
 //! Plain sentences for staff: what a line printed, and why it was refused. With a desk that follows the clock a minute has its time of day
 //! beside it. The words are document 01's and 02's.
 
-use super::clock::Since;
+use super::clock::{Since, Times};
 use crate::page::Refusal;
 use crate::words;
 use hingerota_host::refusal::sentence;
@@ -22,19 +22,16 @@ fn text<'a>(fields: &[&'a [u8]]) -> Fields<'a> {
 impl Sayer<'_> {
     /// `minute 20 (08:20)`.
     fn minute(&self, minute: &str) -> String {
-        match (self.since, minute.parse()) {
-            (Some(since), Ok(number)) => format!("minute {minute} ({})", since.time_of(number, Some(self.desk.clock()))),
-            _ => format!("minute {minute}"),
-        }
+        minute.parse().map_or_else(|_| format!("minute {minute}"), |minute| self.times().minute(minute))
+    }
+
+    fn times(&self) -> Times<'_> {
+        Times { since: self.since, now: self.desk.clock() }
     }
 
     /// The present minute, with its date.
     pub fn now(&self) -> String {
-        let clock = self.desk.clock();
-        match self.since {
-            Some(since) => format!("minute {clock} ({})", since.time_of(clock, None)),
-            None => format!("minute {clock}"),
-        }
+        self.times().present()
     }
 
     /// Of lines that tell who is over, who starts and who is head.

@@ -1,0 +1,38 @@
+//! Pictures and pages of desks, as `rack` prints them: compared with those that are stored, with the desk's record by a second way, and parsed as
+//! XML. Each test prints its count. PICTURES=write stores what is printed, to be looked at before it is kept.
+
+#[path = "../lists/acceptance.rs"]
+#[allow(dead_code)]
+mod acceptance;
+mod commands;
+mod desks;
+mod elements;
+#[path = "../desk/folders.rs"]
+#[allow(dead_code)]
+mod folders;
+#[path = "../lists/model.rs"]
+#[allow(dead_code)]
+mod model;
+mod places;
+#[path = "../scripts/program.rs"]
+#[allow(dead_code)]
+mod program;
+mod stored;
+#[path = "../lists/text.rs"]
+#[allow(dead_code)]
+mod text;
+
+use std::time::Instant;
+
+type Test = (&'static str, fn() -> String);
+
+const TESTS: &[Test] =
+    &[("stored", stored::as_printed), ("places", stored::second_way), ("xml", stored::parses), ("picture", commands::picture)];
+
+fn main() {
+    for (name, test) in TESTS {
+        let began = Instant::now();
+        let said = test();
+        println!("{name}: {said} ({:.1} s)", began.elapsed().as_secs_f64());
+    }
+}
