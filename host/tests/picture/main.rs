@@ -13,10 +13,12 @@ mod folders;
 #[path = "../lists/model.rs"]
 #[allow(dead_code)]
 mod model;
+mod pages;
 mod places;
 #[path = "../scripts/program.rs"]
 #[allow(dead_code)]
 mod program;
+mod screens;
 mod stored;
 #[path = "../lists/text.rs"]
 #[allow(dead_code)]
@@ -26,8 +28,14 @@ use std::time::Instant;
 
 type Test = (&'static str, fn() -> String);
 
-const TESTS: &[Test] =
-    &[("stored", stored::as_printed), ("places", stored::second_way), ("xml", stored::parses), ("picture", commands::picture)];
+const TESTS: &[Test] = &[
+    ("stored", stored::as_printed),
+    ("places", stored::second_way),
+    ("xml", stored::parses),
+    ("picture", commands::picture),
+    ("pages", pages::rows),
+    ("screen", screens::page_to_file),
+];
 
 fn main() {
     for (name, test) in TESTS {

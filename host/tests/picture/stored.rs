@@ -8,7 +8,7 @@ use std::path::{Path, PathBuf};
 use std::process::{Command, Stdio};
 
 /// What is stored of each desk: the ending, and the command.
-const KINDS: &[(&str, &[&str])] = &[("svg", &["picture"])];
+const KINDS: &[(&str, &[&str])] = &[("svg", &["picture"]), ("html", &["page"])];
 
 pub fn as_printed() -> String {
     let writes = std::env::var("PICTURES").is_ok_and(|said| said == "write");

@@ -6,6 +6,7 @@ mod desk;
 mod fields;
 mod lines;
 mod page;
+mod page_html;
 mod picture;
 mod script;
 mod words;

@@ -239,6 +239,7 @@ usage: rack <SCRIPT
        rack DIR <SCRIPT
        rack DIR close|prune|audit|follow
        rack DIR picture [--until MINUTE] >PICTURE
+       rack DIR page [--to FILE] >PAGE
        rack DIR repair --to-line K
        rack --help
 

@@ -1,7 +1,7 @@
 //! What the arguments after a folder's name ask for.
 
 use crate::{picture, words};
-use std::ffi::OsString;
+use std::ffi::{OsStr, OsString};
 use std::os::unix::ffi::OsStrExt;
 use std::path::PathBuf;
 
@@ -32,6 +32,10 @@ pub enum Command {
     Picture {
         until: Option<u32>,
     },
+    /// Into a file, in each minute, if it is said.
+    Page {
+        to: Option<PathBuf>,
+    },
 }
 
 /// Why arguments are wrong.
@@ -57,6 +61,11 @@ fn command(arguments: &[&[u8]]) -> Result<Command, Misused> {
         b"audit" => alone(Command::Audit),
         b"follow" => alone(Command::Follow),
         b"picture" => Ok(Command::Picture { until: picture::until(rest)? }),
+        b"page" => match rest {
+            [] => Ok(Command::Page { to: None }),
+            [b"--to", file] if !file.is_empty() => Ok(Command::Page { to: Some(OsStr::from_bytes(file).into()) }),
+            _ => Err("'page' has --to FILE, and nothing else".to_string()),
+        },
         b"repair" => match rest {
             [b"--to-line", line] => Ok(Command::Repair { to_line: count(line)? }),
             _ => Err("'repair' needs --to-line K".to_string()),

@@ -20,6 +20,11 @@ pub fn now() -> Result<i64, Failure> {
     })
 }
 
+/// The full minutes since 1970.
+pub fn minute(seconds: i64) -> i64 {
+    seconds.div_euclid(MINUTE)
+}
+
 /// That a desk stands at a minute since a time, and follows the clock of the machine from there.
 #[derive(Clone, PartialEq, Eq, Debug)]
 pub struct Since {

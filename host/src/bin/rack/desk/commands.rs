@@ -8,10 +8,12 @@ use super::generations;
 use super::held::Held;
 use super::repair::repair;
 use super::say::{refused_opening, Sayer};
+use super::screen::screen;
 use super::turn::Lock;
 use crate::fields::{fields, number};
 use crate::lines::{Line, Lines};
 use crate::page::{Page, Refusal, LACKS_THE_FORM};
+use crate::page_html::page;
 use crate::picture::picture;
 use crate::script;
 use crate::{file, Failure};
@@ -109,7 +111,7 @@ impl Session {
         }
     }
 
-    /// Prints a picture of the desk, or says why there is none.
+    /// Prints a picture or a page of the desk, or says why there is none.
     fn whole(&mut self, draw: impl FnOnce(&Held) -> Result<String, String>) -> Result<Ended, Failure> {
         self.output.whole = true;
         let drawn = self.in_turn(|held| held.flush().map(|()| draw(held)))?;
@@ -253,6 +255,8 @@ pub fn run(path: &OsString, rest: &[OsString]) -> Result<Ended, Failure> {
         Command::Audit => session.audit(),
         Command::Repair { to_line } => session.repair(to_line),
         Command::Picture { until } => session.whole(|held| picture(&held.rack.desk, held.times(), until)),
+        Command::Page { to: None } => session.whole(|held| Ok(page(&held.rack.desk, held.times()))),
+        Command::Page { to: Some(file) } => screen(session.folder, session.lock, &mut session.output, &file).map(|()| Ended::Taken),
         Command::Follow => follow(session.folder, session.lock, &mut session.output).map(|()| Ended::Taken),
     }
 }

@@ -106,6 +106,12 @@ impl Held {
         Ok(due.is_some_and(|due| due.min(LAST_MINUTE) > i64::from(self.rack.desk.clock())))
     }
 
+    /// The minute of the clock that the desk follows, or else of the machine's.
+    pub fn minute_of_clock(&self) -> Result<i64, Failure> {
+        let now = clock::now()?;
+        Ok(self.since.as_ref().map_or_else(|| clock::minute(now), |since| since.minute_at(now)))
+    }
+
     fn load_anew(&mut self, number: u64, page: &mut Page) -> Result<(), Failure> {
         let reads = self.rack.reads;
         self.since = self.folder.since()?;

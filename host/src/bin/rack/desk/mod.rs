@@ -11,6 +11,7 @@ mod held;
 mod journal;
 mod repair;
 mod say;
+mod screen;
 mod system;
 mod turn;
 
@@ -40,6 +41,9 @@ A desk in a folder:
                                           of day, the promises or the forecast, and on a Promise Desk the free nodes. What
                                           came of minutes that have passed is then on standard error
     --until MINUTE                        shows it up to MINUTE; without it, as far as most jobs go
+  page                                    prints a page in HTML that needs nothing else: clock, next ticket, queue and picture. A
+                                          browser loads it again every minute
+    --to FILE                             rewrites FILE with it in each minute, until it gets SIGTERM
   repair --to-line K                      of a damaged calls-N, leaves K lines and goes on; what it held stays beside it
   --words                                 prints plain sentences too, as on a terminal
   --shared                                allows a folder that others may write

@@ -9,6 +9,7 @@ mod steps;
 mod svg;
 
 pub use lanes::{lanes, Lane, State};
+pub use svg::escaped;
 
 use crate::desk::Times;
 use crate::fields::number;
