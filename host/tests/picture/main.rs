@@ -1,5 +1,5 @@
 //! Pictures and pages of desks, as `rack` prints them: compared with those that are stored, with the desk's record by a second way, and parsed as
-//! XML. Each test prints its count. PICTURES=write stores what is printed, to be looked at before it is kept.
+//! XML. Each test prints its count. PICTURE names one test alone. PICTURES=write stores what is printed, to be looked at before it is kept.
 
 #[path = "../lists/acceptance.rs"]
 #[allow(dead_code)]
@@ -38,7 +38,10 @@ const TESTS: &[Test] = &[
 ];
 
 fn main() {
-    for (name, test) in TESTS {
+    let alone = std::env::var("PICTURE").ok();
+    let asked: Vec<&Test> = TESTS.iter().filter(|(name, _)| alone.as_ref().is_none_or(|alone| alone == name)).collect();
+    assert!(!asked.is_empty(), "PICTURE names no test");
+    for (name, test) in asked {
         let began = Instant::now();
         let said = test();
         println!("{name}: {said} ({:.1} s)", began.elapsed().as_secs_f64());

@@ -18,8 +18,8 @@ pub fn rows() -> String {
         assert_eq!(cells.len(), model.jobs.len(), "{name}: as many rows as jobs");
         let sentences = InFolder::new(desk).taken(&["why"]);
         for (job, cells) in model.jobs.iter().zip(&cells) {
-            let cells: Vec<&str> = cells.iter().map(|cell| without_time(cell)).collect();
-            assert_eq!(cells, expected(&model, job, &sentences), "{name}");
+            let shown = if clock.is_some() { since_ten_to_midnight } else { |minute: u32| minute.to_string() };
+            assert_eq!(*cells, expected(&model, job, &sentences, shown), "{name}");
         }
         heading(&elements, &model, clock.is_some());
         rows += model.jobs.len();
@@ -41,13 +41,15 @@ fn cells(elements: &[Element]) -> Vec<Vec<String>> {
     rows
 }
 
-/// `7 (23:57)` without the time.
-fn without_time(cell: &str) -> &str {
-    cell.split(" (").next().unwrap()
+/// The time of a minute since 23:50, in the present minute's day or in the next.
+fn since_ten_to_midnight(minute: u32) -> String {
+    let of_day = 23 * 60 + 50 + minute;
+    let date = if of_day < 24 * 60 { "" } else { "11-18 " };
+    format!("{date}{:02}:{:02}", of_day / 60 % 24, of_day % 60)
 }
 
-fn expected<'a>(desk: &Model, job: &Job, sentences: &'a str) -> Vec<String> {
-    let shown = |minute: Option<u32>| minute.map_or("–".to_string(), |minute| minute.to_string());
+fn expected(desk: &Model, job: &Job, sentences: &str, shown: fn(u32) -> String) -> Vec<String> {
+    let shown = |minute: Option<u32>| minute.map_or("–".to_string(), shown);
     let plans = desk.kind == Kind::Promise || !job.waits();
     let end = if job.in_cleanup() { job.end } else { job.ends() };
     let head = desk.jobs.iter().find(|job| job.waits()).map(|head| head.ticket);

@@ -27,7 +27,17 @@ pub fn as_printed() -> String {
             assert_eq!(from(&data(desk.0, "desk"), &[]), folder.taken(&["picture"]), "from lines, and from a folder");
         }
     }
-    format!("{count} pictures and pages of {} desks are those that are stored", DESKS.len())
+    readme(writes);
+    format!("{count} pictures and pages of {} desks are those that are stored, and the README's picture", DESKS.len())
+}
+
+/// Its picture is one of these.
+fn readme(writes: bool) {
+    let (path, drawn) = (Path::new(env!("CARGO_MANIFEST_DIR")).join("../docs/plan.svg"), data("clearing", "svg"));
+    if writes {
+        fs::copy(&drawn, &path).unwrap();
+    }
+    same(&path, &fs::read(&path).unwrap_or_default(), &fs::read(drawn).unwrap());
 }
 
 /// The picture of a desk's lines.

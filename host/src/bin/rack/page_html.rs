@@ -21,12 +21,13 @@ th,td{text-align:left;padding:3px 16px 3px 0;border-bottom:1px solid #c9ccd1;ver
 th{border-bottom:2px solid #1a1a1a}
 .n{text-align:right;white-space:nowrap}
 .t{white-space:nowrap}
+.why{min-width:16em}
 .runs,.cleared{color:#444}
 .waits .state{font-weight:bold}
 .many{font-size:11px;line-height:1.15}
 .many th,.many td{padding:0 8px 0 0}
 svg{display:block;width:100%;height:auto;max-height:96vh}
-@media (min-width:1700px){main{display:grid;grid-template-columns:minmax(0,2fr) minmax(0,3fr);column-gap:20px;align-items:start}main div{position:sticky;top:8px}}
+@media (min-width:1700px){main{display:grid;grid-template-columns:minmax(0,9fr) minmax(0,11fr);column-gap:20px;align-items:start}main div{position:sticky;top:8px}}
 @media print{body{margin:0}tr{break-inside:avoid}svg{break-inside:avoid}}
 ";
 
@@ -93,7 +94,7 @@ fn row(desk: &Desk, times: &Times, lane: &Lane, why: Option<&str>) -> String {
         State::Runs => ("runs", "runs"),
         State::IsCleared => ("cleared", "is cleared"),
     };
-    let minute = |minute: Option<u32>| minute.map_or("–".to_string(), |minute| times.short(minute));
+    let minute = |minute: Option<u32>| minute.map_or("–".to_string(), |minute| times.cell(minute));
     let waits = lane.state == State::Waits;
     let soonest = waits.then(|| desk.earliest_start(lane.ticket).minute);
     let (start, end) = (lane.span.map(|span| span.start), lane.span.map(|span| span.end));

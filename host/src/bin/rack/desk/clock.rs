@@ -108,6 +108,15 @@ impl Times<'_> {
         format!("minute {}", self.short(minute))
     }
 
+    /// For a cell of a table: `08:20`, or `11-18 08:20` on another day; the minute, where the desk does not follow the clock.
+    pub fn cell(&self, minute: u32) -> String {
+        let Some(since) = self.since else {
+            return minute.to_string();
+        };
+        let time = since.time_of(minute, Some(self.now));
+        time.split_once('-').map_or(time.clone(), |(_, rest)| rest.to_string())
+    }
+
     /// The present minute, with its date.
     pub fn present(&self) -> String {
         match self.since {
