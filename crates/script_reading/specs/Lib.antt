@@ -1,2 +1,4 @@
 pub mod Meaning
 pub mod NumberBounds
+pub mod LineReading
+pub mod CommandFields

@@ -16,16 +16,15 @@ use Rattle.lists.specs.Tests.{case, le-or}
 use Rattle.text.specs.declared.Parsed.{Parsed}
 use Rattle.text.specs.declared.Parsed.the-variants.{Is, Not}
 use Rattle.text.specs.declared.Numbers.{Numbers}
-use Rattle.text.specs.Numbers.{numberOf, before, leading, numbersFrom}
+use Rattle.text.specs.Numbers.{before, leading, numbersFrom}
 use Rattle.text.specs.Fields.{fieldsOf, fieldOf}
 use Rattle.text.specs.FieldLaws.{from-first}
+use Rattle.text.specs.LineFieldLaws.{no-number}
 use Rattle.text.specs.Words.{isWord}
 use Rattle.scheduler.specs.Limits.{longestEstimate}
 use Rattle.scheduler.specs.declared.Kind.{Kind}
 use Rattle.scheduler.specs.declared.Opening.{Opening}
-use Rattle.scheduler.specs.declared.Departure.{Departure}
-use Rattle.history.specs.Calls.{Command, ask, wait, depart, asked}
-use Rattle.script_rules.specs.Reading.{submitFor}
+use Rattle.history.specs.Calls.{Command, ask, wait, asked}
 use Rattle.desk_lines.specs.DeskLine.{hasForm, numberAt, withNumber}
 use Rattle.script_reading.specs.declared.FirstLine.{FirstLine}
 use Rattle.script_reading.specs.declared.FirstLine.the-variants as first
@@ -91,10 +90,6 @@ leb-suc a b =
     (λ t. rw t (le-leb (suc a) (suc b) (omega (arith, leb-true a b t))))
     (λ t. rw t (lt-leb (suc a) (suc b) (omega (arith, leb-false a b t))))
 
-no-number : numberOf [] ≡ Not
-unfolding numberOf
-no-number = refl
-
 module _ {A : Type 0} where
   -- a number more, in front of l
   with-next : (p : Parsed) (l : List ℕ) (n : ℕ) (f : List ℕ → Option A) (g : (List ℕ → Option A) → Option A)
@@ -143,16 +138,3 @@ openingOf k vs = some (record {
   minute = getD vs 1 0;
   ticket = getD vs 2 0;
 })
-
--- a letter, if the last field is one, says whose the job is
-abbrev pub submissionOf : Parsed → List ℕ → Option Command
-submissionOf h vs = submitFor h (getD vs 0 0) 0 (getD vs 1 0)
-
-abbrev pub betweenOf : Parsed → List ℕ → Option Command
-betweenOf h vs = submitFor h (getD vs 0 0) (getD vs 1 0) (getD vs 2 0)
-
-abbrev pub departureOf : Departure → List ℕ → Option Command
-departureOf h vs = some (ask (depart h (getD vs 0 0)))
-
-abbrev pub waitOf : List ℕ → Option Command
-waitOf vs = some (wait (getD vs 0 0))

@@ -1,8 +1,16 @@
 // A line of a script, read into what it asks. Each field goes through the field reader to the number reader: there is no second parser.
 ghost use mathlib.Core.Path.{_≡_};
-ghost use Rattle.script_rules.specs.Reading.{submitFor, commandIn};
+ghost use mathlib.Core.Option.{some};
+ghost use lib.ListN.{drop};
+ghost use Rattle.text.specs.Prefixes.{upto};
+ghost use Rattle.text.specs.Lines.{lineAt};
+ghost use Rattle.text.specs.LineFields.{fieldsAfter};
+ghost use Rattle.history.specs.Calls.{ask, wait, depart};
+ghost use Rattle.script_rules.specs.Reading.{commandIn};
 ghost use Rattle.desk_lines.specs.DeskLine.{withKind, kindOf, openingIn};
-ghost use Rattle.script_reading.specs.Meaning.{opens, asks, follows, formFrom, whenRead, openingOf, submissionOf, betweenOf, departureOf, waitOf};
+ghost use Rattle.script_reading.specs.Meaning.{opens, asks, follows, formFrom, whenRead, openingOf};
+ghost use Rattle.script_reading.specs.LineReading.{UpTo};
+ghost use Rattle.script_reading.specs.CommandFields.{oneNumber, orderFor, mostWith, orderBy};
 use scheduler::Departure;
 use scheduler::Kind;
 use scheduler::Opening;
@@ -11,6 +19,7 @@ use scheduler::Scheduler;
 use scheduler::Settings;
 use scheduler::Submission;
 use scheduler::Tenant;
+use text::Line;
 use text::Numbers;
 use text::Parsed;
 
@@ -80,62 +89,6 @@ fn opening(named: Named, given: Numbers) -> FirstLine
     })
 }
 
-fn submit_for(house: Parsed, nodes: u32, least: u32, most: u32) -> Asked
-    ensures { λ r. ⌜ asks r ≡ submitFor house nodes least most ⌝ }
-{
-    let Parsed::Is(letter) = house else {
-        return Asked::Malformed;
-    };
-    let tenant = Tenant::of_letter(letter);
-    Asked::Call(Request::Submit(Submission {
-        nodes: nodes,
-        estimate: most,
-        tenant: tenant,
-        least: least,
-    }))
-}
-
-// With one number of minutes the least is 0.
-fn submission(given: Numbers, house: Parsed) -> Asked
-    ensures { λ r. ⌜ asks r ≡ whenRead 2 given (submissionOf house) ⌝ }
-{
-    if given.count < 2 {
-        return Asked::Malformed;
-    }
-    let v = given.values;
-    submit_for(house, v[0], 0, v[1])
-}
-
-fn submission_between(given: Numbers, house: Parsed) -> Asked
-    ensures { λ r. ⌜ asks r ≡ whenRead 3 given (betweenOf house) ⌝ }
-{
-    if given.count < 3 {
-        return Asked::Malformed;
-    }
-    let v = given.values;
-    submit_for(house, v[0], v[1], v[2])
-}
-
-fn departure(how: Departure, given: Numbers) -> Asked
-    ensures { λ r. ⌜ asks r ≡ whenRead 1 given (departureOf how) ⌝ }
-{
-    if given.count < 1 {
-        return Asked::Malformed;
-    }
-    let v = given.values;
-    Asked::Call(Request::Depart(how, v[0]))
-}
-
-fn waiting(given: Numbers) -> Asked
-    ensures { λ r. ⌜ asks r ≡ whenRead 1 given waitOf ⌝ }
-{
-    if given.count < 1 {
-        return Asked::Malformed;
-    }
-    let v = given.values;
-    Asked::Wait(v[0])
-}
-
 // The first line opens a desk: its kind, nodes, minute and ticket, its cleanup, and the quotas of both tenants.
 pub fn read_first(line: &[u8]) -> FirstLine
     ensures { λ r. ⌜ opens r ≡ openingIn (now (line .entry)) ⌝ }
@@ -151,31 +104,161 @@ pub fn read_first(line: &[u8]) -> FirstLine
     FirstLine::Malformed
 }
 
-// A later line submits a job, completes or withdraws one, or waits.
-pub fn read_later(line: &[u8]) -> Asked
-    ensures { λ r. ⌜ asks r ≡ commandIn (now (line .entry)) ⌝ }
+// What the fields of a later line ask, as far as they were read: up to a place of the line.
+struct Row {
+    asked: Asked,
+    end: usize,
+}
+
+// An order of the house with this letter.
+fn order(letter: u32, nodes: u32, least: u32, most: u32) -> Asked
+    ensures { λ r. ⌜ asks r ≡ some (orderFor nodes least most letter) ⌝ }
 {
-    let count = text::field_count(line);
-    let first = text::field(line, 0);
-    let given = text::field_numbers(line, 1);
-    if has_form(count, first, 4, b"in") {
-        let last = text::field(line, 3);
-        let house = text::capital(last);
-        return submission(given, house);
+    let tenant = Tenant::of_letter(letter);
+    Asked::Call(Request::Submit(Submission {
+        nodes: nodes,
+        estimate: most,
+        tenant: tenant,
+        least: least,
+    }))
+}
+
+// After the nodes and the least minutes: the most, and the house.
+fn submission_between(nodes: u32, least: u32, script: &[u8], end: usize) -> Row
+    ensures { λ r. ⌜ UpTo (now (script .entry)) end (mostWith nodes least (fieldsAfter (now (script .entry)) end)) (asks (r .asked)) (r .end) ⌝ }
+{
+    let a = text::number_after(script, end);
+    let minutes = a.said;
+    let Parsed::Is(most) = minutes else {
+        return Row {
+            asked: Asked::Malformed,
+            end: a.end,
+        };
+    };
+    let h = text::capital_after(script, a.end);
+    let house = h.said;
+    let Parsed::Is(letter) = house else {
+        return Row {
+            asked: Asked::Malformed,
+            end: h.end,
+        };
+    };
+    Row {
+        asked: order(letter, nodes, least, most),
+        end: h.end,
     }
-    if has_form(count, first, 5, b"in") {
-        let last = text::field(line, 4);
-        let house = text::capital(last);
-        return submission_between(given, house);
+}
+
+// After `in`: the nodes, the minutes and the house. With one number of minutes the least is 0.
+fn submission(script: &[u8], end: usize) -> Row
+    ensures { λ r. ⌜ UpTo (now (script .entry)) end (orderBy (fieldsAfter (now (script .entry)) end)) (asks (r .asked)) (r .end) ⌝ }
+{
+    let a = text::number_after(script, end);
+    let first = a.said;
+    let Parsed::Is(nodes) = first else {
+        return Row {
+            asked: Asked::Malformed,
+            end: a.end,
+        };
+    };
+    let b = text::number_after(script, a.end);
+    let second = b.said;
+    let Parsed::Is(minutes) = second else {
+        return Row {
+            asked: Asked::Malformed,
+            end: b.end,
+        };
+    };
+    let h = text::capital_after(script, b.end);
+    let house = h.said;
+    let Parsed::Is(letter) = house else {
+        return submission_between(nodes, minutes, script, b.end);
+    };
+    Row {
+        asked: order(letter, nodes, 0, minutes),
+        end: h.end,
     }
-    if has_form(count, first, 2, b"end") {
-        return departure(Departure::Complete, given);
+}
+
+// After `end` or `drop`: the ticket.
+fn departure(how: Departure, script: &[u8], end: usize) -> Row
+    ensures { λ r. ⌜ UpTo (now (script .entry)) end (oneNumber (λ t. ask (depart how t)) (fieldsAfter (now (script .entry)) end)) (asks (r .asked)) (r .end) ⌝ }
+{
+    let a = text::number_after(script, end);
+    let said = a.said;
+    let Parsed::Is(ticket) = said else {
+        return Row {
+            asked: Asked::Malformed,
+            end: a.end,
+        };
+    };
+    Row {
+        asked: Asked::Call(Request::Depart(how, ticket)),
+        end: a.end,
     }
-    if has_form(count, first, 2, b"wait") {
-        return waiting(given);
+}
+
+// After `wait`: the minutes.
+fn waiting(script: &[u8], end: usize) -> Row
+    ensures { λ r. ⌜ UpTo (now (script .entry)) end (oneNumber wait (fieldsAfter (now (script .entry)) end)) (asks (r .asked)) (r .end) ⌝ }
+{
+    let a = text::number_after(script, end);
+    let said = a.said;
+    let Parsed::Is(minutes) = said else {
+        return Row {
+            asked: Asked::Malformed,
+            end: a.end,
+        };
+    };
+    Row {
+        asked: Asked::Wait(minutes),
+        end: a.end,
     }
-    if has_form(count, first, 2, b"drop") {
-        return departure(Departure::Cancel, given);
+}
+
+// A later line submits a job, completes or withdraws one, or waits: the word, and the fields after it.
+fn read_row(script: &[u8], at: usize) -> Row
+    ensures { λ r. ⌜ UpTo (now (script .entry)) at (commandIn (upto 10 (drop at (now (script .entry))))) (asks (r .asked)) (r .end) ⌝ }
+{
+    if text::word_at(script, at, b"in") {
+        return submission(script, at + 2);
     }
-    Asked::Malformed
+    if text::word_at(script, at, b"end") {
+        return departure(Departure::Complete, script, at + 3);
+    }
+    if text::word_at(script, at, b"wait") {
+        return waiting(script, at + 4);
+    }
+    if text::word_at(script, at, b"drop") {
+        return departure(Departure::Cancel, script, at + 4);
+    }
+    Row {
+        asked: Asked::Malformed,
+        end: at,
+    }
+}
+
+// A later line, and where it ends.
+pub struct Later {
+    pub asked: Asked,
+    pub line: Line,
+}
+
+// The later line at a place, read from field to field. One with more fields lacks the form, a trailing tab being a field more.
+pub fn read_later(script: &[u8], at: usize) -> Later
+    ensures { λ r. ⌜ (r .line ≡ lineAt (now (script .entry)) at) × (asks (r .asked) ≡ commandIn (upto 10 (drop at (now (script .entry))))) ⌝ }
+{
+    let row = read_row(script, at);
+    let line = text::next_line(script, row.end);
+    if line.end == row.end {
+        let asked = row.asked;
+        return Later {
+            asked: asked,
+            line: line,
+        };
+    }
+    Later {
+        asked: Asked::Malformed,
+        line: line,
+    }
 }

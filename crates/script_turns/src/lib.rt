@@ -113,10 +113,11 @@ fn next_line(script: &[u8], at: usize) -> Next
     requires { ⌜ at < length (now script) ⌝ }
     ensures { λ r. ⌜ Comes (now (script .entry)) at 0 r ⌝ }
 {
-    let line = text::next_line(script, at);
+    let later = script_reading::read_later(script, at);
+    let line = later.line;
     let end = line.end;
     if line.closed {
-        let asked = script_reading::read_later(&script[at..end]);
+        let asked = later.asked;
         return Next {
             turn: Turn::Asks(asked),
             at: end + 1,

@@ -1,36 +1,45 @@
 -- What the answers of the readers mean, in the words of the definitions of a line.
 -- Assumes nothing.
 use mathlib.Core.Path.{_≡_, refl, ap, sym, _∙_}
-use mathlib.Core.Bool.{cond}
+use mathlib.Core.Bool.{Bool, true, false, cond}
 use mathlib.Core.Logic.{⊎-elim}
 use mathlib.Core.List.{List}
 use mathlib.Core.Option.{Option, none, some}
 use Prim.Native.Nat.{ℕ, _+_, _-_, _≤_, _<_}
 use native.Mathlib.Omega.{arith}
+use lib.Dec.{ltb}
 use lib.ListN.{length, getD, take, drop}
-use Rattle.lists.specs.Tests.{le-or}
+use borrow.Author.Tests.{lt-ltb, le-ltb}
+use Rattle.lists.specs.Tests.{case, le-or}
 use Rattle.text.specs.declared.Line as text
 use Rattle.text.specs.Lines.{lineAt}
 use Rattle.scheduler.specs.declared.Kind.{Kind}
 use Rattle.scheduler.specs.declared.Opening.{Opening}
+use Rattle.desk_lines.specs.DeskLine.{closedOnly}
 use Rattle.desk_lines.specs.LineLaws.{lineOf, past}
 use Rattle.season_rules.specs.declared.Arrival.{Arrival}
-use Rattle.season_rules.specs.Reading.{openingWith, arrivalOf}
+use Rattle.season_rules.specs.Reading.{mostLines, openingWith, arrivalIn, arrivalOf}
 use Rattle.season_reading.specs.declared.Listed.{Listed}
 use Rattle.season_reading.specs.declared.Listed.the-variants as listed
 use Rattle.season_reading.specs.declared.Ahead.{Ahead}
 
--- what the numbers of each line say
+-- what the numbers of the first line say
 abbrev pub openingOf : Kind → List ℕ → Option Opening
 openingOf k vs = some (openingWith k (getD vs 0 0) (getD vs 1 0) (getD vs 2 0))
-
-abbrev pub arrivalBy : List ℕ → Option Arrival
-arrivalBy vs = some (record { minute = getD vs 0 0; nodes = getD vs 1 0; estimate = getD vs 2 0; actual = getD vs 3 0 })
 
 -- what is listed in a line
 abbrev pub listedOf : Option Arrival → Listed
 listedOf (some a) = listed.Is a
 listedOf none = listed.Malformed
+
+abbrev pub meaning : Listed → Option Arrival
+meaning (listed.Is a) = some a
+meaning listed.Malformed = none
+meaning listed.None = none
+
+pub means : (o : Option Arrival) → meaning (listedOf o) ≡ o
+means (some a) = refl
+means none = refl
 
 -- what stands at a place of a list, with this many lines above it: nothing at its end or past it, and otherwise a line
 pub record Reads (list : List ℕ) (at above : ℕ) (r : Ahead) : Type 0 where
@@ -44,6 +53,25 @@ module _ (list : List ℕ) (at above : ℕ) where
   abbrev listedIn : text.Line → Listed
   listedIn l = listedOf (arrivalOf above (record { bytes = take (l .end - at) (drop at list); closed = l .closed }))
 
+  module _ (l : text.Line) where
+    abbrev bytes : List ℕ
+    bytes = take (l .end - at) (drop at list)
+
+    pub lists-unclosed : l .closed ≡ false → listed.Malformed ≡ listedIn l
+    lists-unclosed e = rw e (case (ltb above mostLines) (λ t. rw t) (λ t. rw t))
+
+    pub lists-past : mostLines ≤ above → listed.Malformed ≡ listedIn l
+    lists-past h = rw (le-ltb above mostLines h)
+
+    pub lists-nothing : arrivalIn bytes ≡ none → listed.Malformed ≡ listedIn l
+    lists-nothing e = rw e (case (ltb above mostLines) (λ t. rw t (none-closed (l .closed))) (λ t. rw t)) where
+      none-closed : (b : Bool) → listed.Malformed ≡ listedOf (closedOnly b none)
+      none-closed true = refl
+      none-closed false = refl
+
+    pub lists-line : l .closed ≡ true → above < mostLines → (x : Listed) → arrivalIn bytes ≡ meaning x → listedOf (meaning x) ≡ x → x ≡ listedIn l
+    lists-line c h x e q = rw (lt-ltb above mostLines h, c, e) (sym q)
+
   pub reads-line : at < length list → (l : text.Line) → l ≡ lineAt list at → (x : Listed) → x ≡ listedIn l
       → (next : ℕ) → next ≡ cond (l .closed) (l .end + 1) (l .end) → Reads list at above (record { listed = x; next = next })
   reads-line h l e x f next n = record {
@@ -52,15 +80,6 @@ module _ (list : List ℕ) (at above : ℕ) where
   }
 
 -- ## What each answer says
-
-abbrev pub meaning : Listed → Option Arrival
-meaning (listed.Is a) = some a
-meaning listed.Malformed = none
-meaning listed.None = none
-
-pub means : (o : Option Arrival) → meaning (listedOf o) ≡ o
-means (some a) = refl
-means none = refl
 
 line-some : (o : Option Arrival) → listedOf o ≡ listed.None → ⊥
 line-some (some a) e = let z : _≡_ {A = ℕ} 0 1 = cc in omega arith

@@ -1,11 +1,13 @@
 // A season's list, read line by line: its first line into an opening, each later one into an arrival.
 ghost use mathlib.Core.Path.{_≡_};
-ghost use Prim.Native.Nat.{suc, min};
+ghost use Prim.Native.Nat.{suc, min, _≤_};
+ghost use lib.ListN.{length};
 ghost use Rattle.desk_lines.specs.DeskLine.{withKind};
 ghost use Rattle.script_reading.specs.Meaning.{opens, follows, whenRead};
-ghost use Rattle.season_rules.specs.Reading.{mostLines, openingIn, arrivalIn, arrivalOf};
+ghost use Rattle.season_rules.specs.Reading.{mostLines, openingIn};
 ghost use Rattle.season_rules.specs.Season.{arrivalRefusal};
-ghost use Rattle.season_reading.specs.Meaning.{openingOf, listedOf, arrivalBy, Reads};
+ghost use Rattle.season_reading.specs.Meaning.{openingOf, Reads};
+ghost use Rattle.season_reading.specs.ArrivalFields.{Lists};
 use scheduler::Opening;
 use scheduler::Refusal;
 use scheduler::Scheduler;
@@ -14,6 +16,7 @@ use script_reading::FirstLine;
 use script_reading::Named;
 use season_rules::Arrival;
 use text::Numbers;
+use text::Parsed;
 
 // Lines past these lack the form.
 const MOST_LINES: usize = 4096;
@@ -68,29 +71,58 @@ pub fn read_settings(line: &[u8]) -> FirstLine
     opening(named, given)
 }
 
-fn arrival(given: Numbers) -> Listed
-    ensures { λ r. ⌜ r ≡ listedOf (whenRead 4 given arrivalBy) ⌝ }
-{
-    if given.count < 4 {
-        return Listed::Malformed;
-    }
-    let v = given.values;
-    Listed::Is(Arrival {
-        minute: v[0],
-        nodes: v[1],
-        estimate: v[2],
-        actual: v[3],
-    })
+// What the fields of a line list, as far as they were read: up to a place of the line.
+struct Row {
+    listed: Listed,
+    end: usize,
 }
 
-fn read_arrival(line: &[u8]) -> Listed
-    ensures { λ r. ⌜ r ≡ listedOf (arrivalIn (now (line .entry))) ⌝ }
+// The fields of the line at a place: four numbers.
+fn read_arrival(list: &[u8], at: usize) -> Row
+    requires { ⌜ at ≤ length (now list) ⌝ }
+    ensures { λ r. ⌜ Lists (now (list .entry)) at r ⌝ }
 {
-    if text::field_count(line) != 4 {
-        return Listed::Malformed;
+    let a = text::number_at(list, at);
+    let first = a.said;
+    let Parsed::Is(minute) = first else {
+        return Row {
+            listed: Listed::Malformed,
+            end: a.end,
+        };
+    };
+    let b = text::number_after(list, a.end);
+    let second = b.said;
+    let Parsed::Is(nodes) = second else {
+        return Row {
+            listed: Listed::Malformed,
+            end: b.end,
+        };
+    };
+    let c = text::number_after(list, b.end);
+    let third = c.said;
+    let Parsed::Is(estimate) = third else {
+        return Row {
+            listed: Listed::Malformed,
+            end: c.end,
+        };
+    };
+    let d = text::number_after(list, c.end);
+    let fourth = d.said;
+    let Parsed::Is(actual) = fourth else {
+        return Row {
+            listed: Listed::Malformed,
+            end: d.end,
+        };
+    };
+    Row {
+        listed: Listed::Is(Arrival {
+            minute: minute,
+            nodes: nodes,
+            estimate: estimate,
+            actual: actual,
+        }),
+        end: d.end,
     }
-    let given = text::field_numbers(line, 0);
-    arrival(given)
 }
 
 // One line more, counted up to the limit.
@@ -103,20 +135,7 @@ pub fn one_more(above: usize) -> usize
     MOST_LINES
 }
 
-// A line with `above` lines of the list above it. An unclosed one lacks the form.
-fn read_line(line: &[u8], closed: bool, above: usize) -> Listed
-    ensures { λ r. ⌜ r ≡ listedOf (arrivalOf above (record { bytes = now (line .entry); closed = closed })) ⌝ }
-{
-    if MOST_LINES <= above {
-        return Listed::Malformed;
-    }
-    if closed {
-        return read_arrival(line);
-    }
-    Listed::Malformed
-}
-
-// The line at a place, with `above` lines of the list above it.
+// The line at a place, with `above` lines of the list above it. A line with more fields lacks the form, and so does an unclosed one.
 pub fn read_ahead(list: &[u8], at: usize, above: usize) -> Ahead
     ensures { λ r. ⌜ Reads (now (list .entry)) at above r ⌝ }
 {
@@ -126,18 +145,27 @@ pub fn read_ahead(list: &[u8], at: usize, above: usize) -> Ahead
             next: at,
         };
     }
-    let line = text::next_line(list, at);
+    let row = read_arrival(list, at);
+    let line = text::next_line(list, row.end);
     let end = line.end;
-    let listed = read_line(&list[at..end], line.closed, above);
-    if line.closed {
+    if !line.closed {
         return Ahead {
-            listed: listed,
-            next: end + 1,
+            listed: Listed::Malformed,
+            next: end,
         };
     }
+    if above < MOST_LINES {
+        if end == row.end {
+            let listed = row.listed;
+            return Ahead {
+                listed: listed,
+                next: end + 1,
+            };
+        }
+    }
     Ahead {
-        listed: listed,
-        next: end,
+        listed: Listed::Malformed,
+        next: end + 1,
     }
 }
 

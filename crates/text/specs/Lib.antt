@@ -13,3 +13,5 @@ pub mod Quoted
 pub mod WordLaws
 pub mod Lines
 pub mod LineLaws
+pub mod LineFields
+pub mod LineFieldLaws

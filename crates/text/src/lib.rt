@@ -10,6 +10,7 @@ ghost use Rattle.text.specs.Lines.{lineAt, beginsOf};
 ghost use Rattle.text.specs.Numbers.{digitsFrom, numberOf, numbersFrom, decimalOf};
 ghost use Rattle.text.specs.Words.{isWord};
 ghost use Rattle.text.specs.Letters.{capitalOf};
+ghost use Rattle.text.specs.LineFields.{fieldIn, hasTab, beginsWith, fieldsAt, fieldsAfter, Reads};
 ghost use Rattle.text.specs.WrittenBytes.{Wrote};
 ghost use Rattle.text.specs.RightSet.{space, rightSet};
 
@@ -192,6 +193,119 @@ pub fn is_word(part: &[u8], word: &[u8]) -> bool
         i += 1;
     }
     true
+}
+
+// Where the field at a place ends: at the next tab or byte 10, or at the text's end. Read from field to field, a line is looked at once: its
+// end is where its last field ends.
+fn field_end(text: &[u8], from: usize) -> usize
+    ensures { λ r. ⌜ r ≡ from + length (fieldIn (drop from (now (text .entry)))) ⌝ }
+{
+    let mut i = from;
+    while i < text.len() {
+        let b = text[i];
+        if b == TAB {
+            return i;
+        }
+        if b == NEWLINE {
+            return i;
+        }
+        i += 1;
+    }
+    i
+}
+
+// The field at a place: a part of the caller's slice.
+fn field_at(text: &[u8], from: usize) -> &[u8]
+    requires { ⌜ from ≤ length (now text) ⌝ }
+    ensures { λ r. ⌜ now r ≡ fieldIn (drop from (now (text .entry))) ⌝ }
+{
+    let end = field_end(text, from);
+    &text[from..end]
+}
+
+// What a field says, and where it ends.
+pub struct ReadField {
+    pub said: Parsed,
+    pub end: usize,
+}
+
+// The number in the field at a place.
+pub fn number_at(text: &[u8], from: usize) -> ReadField
+    requires { ⌜ from ≤ length (now text) ⌝ }
+    ensures { λ r. ⌜ Reads numberOf (fieldsAt (now (text .entry)) from) (now (text .entry)) from r ⌝ }
+{
+    let part = field_at(text, from);
+    let said = number(part);
+    ReadField {
+        said: said,
+        end: from + part.len(),
+    }
+}
+
+// The capital letter in it.
+fn capital_at(text: &[u8], from: usize) -> ReadField
+    requires { ⌜ from ≤ length (now text) ⌝ }
+    ensures { λ r. ⌜ Reads capitalOf (fieldsAt (now (text .entry)) from) (now (text .entry)) from r ⌝ }
+{
+    let part = field_at(text, from);
+    let said = capital(part);
+    ReadField {
+        said: said,
+        end: from + part.len(),
+    }
+}
+
+// Whether a tab is at a place.
+fn is_tab(text: &[u8], at: usize) -> bool
+    ensures { λ r. ⌜ r ≡ hasTab (drop at (now (text .entry))) ⌝ }
+{
+    if text.len() <= at {
+        return false;
+    }
+    text[at] == TAB
+}
+
+// The number in the field after one that ends at a place. Past the last: none, and the place.
+pub fn number_after(text: &[u8], end: usize) -> ReadField
+    ensures { λ r. ⌜ Reads numberOf (fieldsAfter (now (text .entry)) end) (now (text .entry)) end r ⌝ }
+{
+    if is_tab(text, end) {
+        return number_at(text, end + 1);
+    }
+    ReadField {
+        said: Parsed::Not,
+        end: end,
+    }
+}
+
+// The capital letter in it.
+pub fn capital_after(text: &[u8], end: usize) -> ReadField
+    ensures { λ r. ⌜ Reads capitalOf (fieldsAfter (now (text .entry)) end) (now (text .entry)) end r ⌝ }
+{
+    if is_tab(text, end) {
+        return capital_at(text, end + 1);
+    }
+    ReadField {
+        said: Parsed::Not,
+        end: end,
+    }
+}
+
+// Whether this word is at a place, and a tab after it.
+pub fn word_at(text: &[u8], at: usize, word: &[u8]) -> bool
+    ensures { λ r. ⌜ r ≡ beginsWith (now (word .entry)) (drop at (now (text .entry))) ⌝ }
+{
+    if text.len() <= at {
+        return false;
+    }
+    if text.len() - at <= word.len() {
+        return false;
+    }
+    let end = at + word.len();
+    if text[end] != TAB {
+        return false;
+    }
+    is_word(&text[at..end], word)
 }
 
 // Each writer writes at a place, where the caller has room, and gives back the place after what it wrote.

@@ -1,38 +1,30 @@
 -- `script_turns::next_line` meets its contract.
 -- Assumes nothing.
+use mathlib.Core.Path.{sym, ap, _∙_}
 use native.Mathlib.Omega.{arith}
-use Rattle.text.specs.LineLaws.{line-ends}
+use Rattle.text.specs.LineLaws.{Ends, line-ends}
+use Rattle.script_rules.specs.Reading.{commandIn}
 use Rattle.script_turns.specs.NextTurn.{comes-closed, comes-unclosed}
 use borrow.Author.Needs.{needs}
 use Rattle.script_turns.proofs.next_line.Statement.{statement}
 use Rattle.script_turns.proofs.next_line.Tie as tie
 
-sub-read-later : tie.Need-sub-read-later
-sub-read-later c = line-ends _ _ _ (c .before .next-line .ensures) (omega (arith, c .before .before .before .pre)) .after
+ends : (c : tie.After-read-later) → Ends (c .before .before .args .script .now) (c .before .before .args .at) (c .read-later .result .line)
+ends c = line-ends _ _ _ (c .read-later .ensures .0) (omega (arith, c .before .before .pre))
 
-part-read-later-start : tie.Need-part-read-later-start
-part-read-later-start c =
-    let e = line-ends _ _ _ (c .before .next-line .ensures) (omega (arith, c .before .before .before .pre)) in
-    omega (arith, e .after, e .within)
-
-part-read-later-end : tie.Need-part-read-later-end
-part-read-later-end c = omega (arith, line-ends _ _ _ (c .before .next-line .ensures) (omega (arith, c .before .before .before .pre)) .within)
-
-add-t8 : tie.Need-add-t8
-add-t8 c = omega (
-  arith,
-  line-ends _ _ _ (c .before .before .before .next-line .ensures)
-      (omega (arith, c .before .before .before .before .before .pre)) .within,
-)
+add-t9 : tie.Need-add-t9
+add-t9 c = omega (arith, ends (c .before .before) .within)
 
 returns : tie.Need-returns
-returns c = comes-closed _ _ (c .before .before .before .before .before .pre) _ (c .before .before .before .next-line .ensures)
-    (c .before .before .if1 .taken) (c .read-later .result) (c .read-later .ensures)
+returns c =
+    let l = c .before .before in
+    comes-closed _ _ (l .before .before .pre) _ (l .read-later .ensures .0) (c .if1 .taken) (l .read-later .result .asked)
+    (l .read-later .ensures .1 ∙ ap commandIn (sym (ends l .bytes)))
 
 returns-2 : tie.Need-returns-2
-returns-2 c = comes-unclosed _ _ (c .before .before .before .pre) _ (c .before .next-line .ensures) (c .if1 .left)
+returns-2 c =
+    let l = c .before .before in
+    comes-unclosed _ _ (l .before .before .pre) _ (l .read-later .ensures .0) (c .if1 .left)
 
 pub next-line-spec : {M : Type 1} → statement M
-next-line-spec =
-    tie.close (tie.spec (λ c κs. search needs) sub-read-later part-read-later-start part-read-later-end (λ c κs. search needs) add-t8
-    returns returns-2)
+next-line-spec = tie.close (tie.spec (λ c κs. search needs) add-t9 returns returns-2)
