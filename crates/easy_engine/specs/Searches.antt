@@ -10,7 +10,7 @@ use lib.ListN.{length, drop, drop-of-length-le}
 use Rattle.lists.specs.Tests.{case}
 use Rattle.lists.specs.Lists.{In, here, there}
 use Rattle.lists.specs.Loops.{positionFrom, position}
-use Rattle.easy_engine.specs.Survey.{placeOf}
+use Rattle.job_columns.specs.Searches.{placeOf}
 
 -- a search by another test that says the same of each
 pub position-cong : {A : Type 0} (p q : A → Bool) (xs : List A) (k : ℕ) → ((a : A) → In a xs → p a ≡ q a) → positionFrom p k xs ≡ positionFrom q k xs

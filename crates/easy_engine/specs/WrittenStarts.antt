@@ -5,6 +5,8 @@ use native.Mathlib.Omega.{arith}
 use native.Mathlib.Numerals.{add-one}
 use mathlib.Core.Path.{_≡_, refl, sym, ap, _∙_}
 use mathlib.Core.List.{List, [], _∷_, _++_, map}
+use lib.Dec.{eqb}
+use Rattle.lists.specs.Tests.{case}
 use lib.ListN.{length, getD, set, take, drop, replicate, length-map, List·getD-map, List·getD-append}
 use Rattle.lists.specs.Lists.{in-getD, keep-in, length-keep-le}
 use lib.Seq.{take-all, take-suc, length-take-le, sets-eq}
@@ -27,35 +29,46 @@ use Rattle.jobs.specs.Slots.{slots-are, live-low}
 use Rattle.easy_laws.specs.Validity.{Ready}
 use Rattle.jobs.specs.Order.{Asc}
 use Rattle.easy_rules.specs.Easy.{queue, choice, begun, mark, begin, settled}
-use Rattle.easy_laws.specs.Settling.{Settles, rest, start, settles, settles-rest, mark-ticket, asc-begin}
+use Rattle.easy_laws.specs.Settling.{Settles, rest, start, settles, settles-rest, asc-begin}
 use Rattle.easy_laws.specs.EngineLaws.{job-stored, begin-stored}
 use Rattle.job_columns.specs.Columns.{Column, Blank}
 use Rattle.easy_engine.specs.Survey.{Settlement, SlotColumn, Passed, begins, Applies, Begins}
 use Rattle.easy_engine.specs.declared.Settled.{Settled}
 use Rattle.easy_engine.specs.Shadows.{holding-few}
 
-tickets-mark : (now t : ℕ) (js : List Job) → ticketsOf (map (mark now t) js) ≡ ticketsOf js
-tickets-mark now t [] = refl
-tickets-mark now t (j ∷ js) = rw (mark-ticket now t j, tickets-mark now t js)
+-- starts leave what a start does not write
+pub begins-keep : (f : Job → ℕ) → ((now : ℕ) (j : Job) → f (begun now j) ≡ f j) → (ts : List ℕ) (m : Model) → map f (begins ts m .jobs) ≡ map f (m .jobs)
+begins-keep f e [] m = refl
+begins-keep f e (t ∷ ts) m = begins-keep f e ts (begin t m) ∙ marked (m .jobs)
+  where
+    one : (j : Job) → f (mark (m .clock) t j) ≡ f j
+    one j = case (eqb (j .ticket) t) (λ q. rw q (e (m .clock) j)) (λ q. rw q)
 
--- starts leave the tickets, their order and the clock
+    marked : (js : List Job) → map f (map (mark (m .clock) t) js) ≡ map f js
+    marked [] = refl
+    marked (j ∷ js) = rw (one j, marked js)
+
+-- the tickets, their order and the clock
 pub begins-tickets : (ts : List ℕ) (m : Model) → ticketsOf (begins ts m .jobs) ≡ ticketsOf (m .jobs)
-begins-tickets [] m = refl
-begins-tickets (t ∷ ts) m = begins-tickets ts (begin t m) ∙ tickets-mark (m .clock) t (m .jobs)
+begins-tickets ts m = begins-keep ticketOf (λ now j. refl) ts m
 
-begins-asc : (ts : List ℕ) (m : Model) → Asc 1 (m .jobs) → Asc 1 (begins ts m .jobs)
+pub begins-asc : (ts : List ℕ) (m : Model) → Asc 1 (m .jobs) → Asc 1 (begins ts m .jobs)
 begins-asc [] m a = a
 begins-asc (t ∷ ts) m a = begins-asc ts (begin t m) (asc-begin t m a)
 
-begins-clock : (ts : List ℕ) (m : Model) → begins ts m .clock ≡ m .clock
+pub begins-clock : (ts : List ℕ) (m : Model) → begins ts m .clock ≡ m .clock
 begins-clock [] m = refl
 begins-clock (t ∷ ts) m = begins-clock ts (begin t m)
 
-begins-last : (ts : List ℕ) (t : ℕ) (m : Model) → begins (ts ++ (t ∷ [])) m ≡ begin t (begins ts m)
+pub begins-settings : (ts : List ℕ) (m : Model) → begins ts m .settings ≡ m .settings
+begins-settings [] m = refl
+begins-settings (t ∷ ts) m = begins-settings ts (begin t m)
+
+pub begins-last : (ts : List ℕ) (t : ℕ) (m : Model) → begins (ts ++ (t ∷ [])) m ≡ begin t (begins ts m)
 begins-last [] t m = refl
 begins-last (u ∷ ts) t m = begins-last ts t (begin u m)
 
-begins-length : (ts : List ℕ) (m : Model) → length (begins ts m .jobs) ≡ length (m .jobs)
+pub begins-length : (ts : List ℕ) (m : Model) → length (begins ts m .jobs) ≡ length (m .jobs)
 begins-length ts m = sym (length-map (begins ts m .jobs) ticketOf) ∙ ap length (begins-tickets ts m) ∙ length-map (m .jobs) ticketOf
 
 -- a settling is its starts
@@ -180,8 +193,8 @@ module _ (d : Scheduler) (h : Holds Ready d) where
   -- what a settling of the survey asks to be written
   module _ {r w spare : ℕ} {heldₗ starts terms asked estimates tickets places : List ℕ}
       (v : Passed d js r w spare heldₗ starts terms asked estimates tickets places)
-      {clock : ℕ} {S : Settings} {order : List ℕ} {s : Settled} {held′ ends′ asked′ order′ : List ℕ}
-      (p : Settlement (view d) (queue js) estimates r w clock S 0 order s held′ ends′ asked′ order′) (o : length order ≡ slots) where
+      {clock : ℕ} {S : Settings} {order : List ℕ} {s : Settled} {rs : List Job} {held′ ends′ asked′ order′ : List ℕ}
+      (p : Settlement (view d) rs (queue js) estimates r w clock S 0 order s held′ ends′ asked′ order′) (o : length order ≡ slots) where
     pub few : length (p .places) ≤ slots
     few = omega (arith, holding-few (p .after .holding), p .running-is)
 

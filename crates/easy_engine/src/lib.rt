@@ -16,11 +16,15 @@ ghost use Rattle.scheduler.specs.Limits.{horizon, slots};
 ghost use Rattle.scheduler.specs.Settings.{holdTime, until};
 ghost use Rattle.scheduler.specs.Table.{ticketOf};
 ghost use Rattle.scheduler.specs.Model.{Model};
-ghost use Rattle.easy_rules.specs.Easy.{head, avail, shadow, choice, forecast};
+ghost use Rattle.jobs.specs.Soundness.{Sound};
+ghost use Rattle.easy_rules.specs.Easy.{head, free, avail, shadow, choice, forecast};
+ghost use Rattle.easy_laws.specs.Validity.{Ready};
 ghost use Rattle.job_columns.specs.Columns.{Column, estimateOf};
-ghost use Rattle.easy_engine.specs.Survey.{asks, Held, Lacks, Surveyed, placeOf, jobIn, asksTo, mayPass};
+ghost use Rattle.job_columns.specs.Searches.{placeOf};
+ghost use Rattle.easy_engine.specs.Survey.{asks, Held, Lacks, Surveyed, jobIn, asksTo, mayPass};
 ghost use Rattle.easy_engine.specs.Survey.{Begun, Settlement, StartsInTime, SurveyRests, ticketIn, announced, Announces, Unsettled};
 ghost use Rattle.easy_engine.specs.Survey.{headBefore, Answers};
+ghost use Rattle.easy_engine.specs.BySlot.{SlotSurvey, SlotAnswers, AtRest};
 
 // More nodes than any machine has: what a job asks for once it has started.
 const NOBODY: u32 = Scheduler::NODES + 1;
@@ -93,7 +97,7 @@ pub fn shadow(
 }
 
 // The place of the first job that asks for no more than these nodes; the count if none does.
-fn first_within(asked: &[u32; 64], waiting: usize, most: u32) -> usize
+pub fn first_within(asked: &[u32; 64], waiting: usize, most: u32) -> usize
     requires { ⌜ waiting ≤ slots ⌝ }
     ensures { λ r. ⌜ ((ws : List Job) → Column asks ws (now (asked .entry)) → length ws ≡ waiting → r ≡ placeOf (position (asksTo most) ws) waiting) ⌝ }
 {
@@ -239,7 +243,7 @@ fn settle(
     requires { ⌜ Surveyed (now held) (now ends) running (now asked) (now estimates) waiting clock spare settings × (count ≤ running) ⌝ }
     ensures { λ r.
         ⌜ ((s : Surveyed (now (held .entry)) (now (ends .entry)) running (now (asked .entry)) (now (estimates .entry)) waiting clock spare settings)
-        → Settlement (s .model) (s .asking) (now (estimates .entry)) running waiting clock settings count (now (order .entry)) r (now (held .exit))
+        → Settlement (s .model) (s .jobs) (s .asking) (now (estimates .entry)) running waiting clock settings count (now (order .entry)) r (now (held .exit))
         (now (ends .exit)) (now (asked .exit)) (now (order .exit))) ⌝ }
 {
     let i = choose(
@@ -445,5 +449,99 @@ pub fn settle_all(
         started: s.count,
         head: new.ticket,
         forecast: new.minute,
+    }
+}
+
+// ## By slot: the lists are the columns of all live jobs, those that wait and those that do not.
+
+// The ticket of the first that waits; 0 where nobody does.
+pub fn leading(asked: &[u32; 64], tickets: &[u32; 64], live: usize) -> u32
+    requires { ⌜ live ≤ slots ⌝ }
+    ensures { λ r.
+        ⌜ ((m : Model) → Sound m → Column asks (m .jobs) (now (asked .entry)) → Column ticketOf (m .jobs) (now (tickets .entry)) → length (m .jobs) ≡ live
+        → r ≡ ticketIn (head m)) ⌝ }
+{
+    let h = first_within(asked, live, Scheduler::NODES);
+    if live <= h {
+        return 0;
+    }
+    tickets[h]
+}
+
+// Whether nobody fits, and the first that waits is the head of before, or nobody waits: then nobody starts and nobody is announced.
+pub fn rests_at(before: u32, asked: &[u32; 64], first: u32, live: usize, spare: u32) -> bool
+    requires { ⌜ live ≤ slots ⌝ }
+    ensures { λ r.
+        ⌜ ((b m : Model) → Ready m → Column asks (m .jobs) (now (asked .entry)) → length (m .jobs) ≡ live → spare ≡ free m → first ≡ ticketIn (head m)
+        → before ≡ ticketIn (head b) → r ≡ true → AtRest b m) ⌝ }
+{
+    if first_within(asked, live, spare) < live {
+        return false;
+    }
+    if first == 0 {
+        return true;
+    }
+    first == before
+}
+
+// How many jobs start, the new head with its forecast, and the nodes then free.
+pub struct SlotAnswer {
+    pub started: usize,
+    pub head: u32,
+    pub forecast: u32,
+    pub spare: u32,
+}
+
+// Settles after a call that found this head. The slots of those who start are noted in order.
+pub fn settle_slots(
+    before: u32,
+    held: &mut [u32; 64],
+    ends: &mut [u32; 64],
+    running: usize,
+    asked: &mut [u32; 64],
+    estimates: &[u32; 64],
+    tickets: &[u32; 64],
+    live: usize,
+    order: &mut [u32; 64],
+    clock: u32,
+    spare: u32,
+    settings: Settings,
+) -> SlotAnswer
+    requires { ⌜ SlotSurvey (now held) (now ends) running (now asked) (now estimates) (now tickets) live (now order) clock spare settings ⌝ }
+    ensures { λ r.
+        ⌜ ((s : SlotSurvey (now (held .entry)) (now (ends .entry)) running (now (asked .entry)) (now (estimates .entry)) (now (tickets .entry)) live
+        (now (order .entry)) clock spare settings)
+        → SlotAnswers (s .model) (s .jobs) before running r (now (held .exit)) (now (ends .exit)) (now (asked .exit)) (now (order .exit))) ⌝ }
+{
+    let s = settle(
+        held,
+        ends,
+        running,
+        asked,
+        estimates,
+        live,
+        order,
+        0,
+        clock,
+        spare,
+        settings,
+    );
+    let new = announce(
+        before,
+        held,
+        ends,
+        s.running,
+        asked,
+        tickets,
+        live,
+        clock,
+        s.spare,
+        settings,
+    );
+    SlotAnswer {
+        started: s.count,
+        head: new.ticket,
+        forecast: new.minute,
+        spare: s.spare,
     }
 }
