@@ -1,0 +1,13 @@
+pub mod EasyColumns
+pub mod HoldersChange
+pub mod Sifting
+pub mod Starting
+pub mod HeadNoted
+pub mod HoldersLeave
+pub mod Finishing
+pub mod EasyCalls
+pub mod EasySubmit
+pub mod EasyLeave
+pub mod EasyDepart
+pub mod EasyTick
+pub mod EasyBegin
