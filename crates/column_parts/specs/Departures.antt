@@ -4,7 +4,7 @@
 use Prim.Native.Nat.{ℕ, zero, suc, _+_, _-_, _≤_, _<_}
 use native.Mathlib.Omega.{arith}
 use mathlib.Core.Path.{_≡_, refl, sym, ap, subst, _∙_}
-use mathlib.Core.Bool.{Bool, true, false, not, cond, _&&_}
+use mathlib.Core.Bool.{Bool, true, false, cond, _&&_}
 use mathlib.Core.Option.{none, some}
 use mathlib.Core.List.{List, [], _∷_}
 use mathlib.Core.Logic.{_⊎_, inl, inr}
@@ -16,7 +16,6 @@ use Rattle.lists.specs.Lists.{any, none-any}
 use Rattle.lists.specs.FirstLaws.{first-nowhere, first-none}
 use Rattle.lists.specs.Loops.{position, position-says}
 use Rattle.scheduler.specs.declared.State.{State}
-use Rattle.scheduler.specs.declared.State.the-variants.{Unused, Waiting, Running, Cleanup}
 use Rattle.scheduler.specs.declared.Settings.{Settings}
 use Rattle.scheduler.specs.declared.Job.{Job}
 use Rattle.scheduler.specs.declared.Departure.{Departure}
@@ -26,18 +25,17 @@ use Rattle.scheduler.specs.declared.Refusal.the-variants as refusal
 use Rattle.scheduler.specs.declared.Select.{Select}
 use Rattle.scheduler.specs.declared.Select.the-variants as select
 use Rattle.scheduler.specs.Jobs.{unused, departs?, departsAs, tooEarly, cleaning}
-use Rattle.scheduler.specs.Settings.{cleanup}
-use Rattle.scheduler.specs.Table.{ends, endedOf, leaves, staying, remaining, oneIf}
+use Rattle.scheduler.specs.Table.{ends, endedOf, leaves, staying, remaining}
 use Rattle.scheduler.specs.Model.{Model}
 use Rattle.scheduler.specs.Answers.{verdict}
 use Rattle.scheduler.specs.Refusals.{notThere, departsEarly, departRefusal}
 use Rattle.jobs.specs.Order.{Asc}
-use Rattle.job_table.specs.Parts.{ends?}
 use Rattle.job_columns.specs.JobColumns.{stateNumber, stateOf}
 use Rattle.job_columns.specs.Encoding.{number-waiting, number-running}
 use Rattle.job_columns.specs.Removal.{removeAt, removes, Places}
 use Rattle.job_columns.specs.Searches.{hasTicket, asc-places}
-use Rattle.column_parts.specs.Sweep.{Sweep, swept, Unmoved, sweep-first, sweep-far, sweep-there, sweep-on, swept-on, sweep-cleans, swept-cleans, sweep-goes, sweep-released, swept-leaves, swept-all, stay-all, ended-all}
+use Rattle.column_parts.specs.Sweep.{Sweep, swept, sweep-first, sweep-far, sweep-cleans, swept-cleans, sweep-goes, sweep-released, swept-leaves}
+use Rattle.column_parts.specs.Sweep.{swept-all, stay-all, ended-all}
 
 -- ## Refusals by numbers
 

@@ -3,10 +3,9 @@
 use Prim.Native.Nat.{ℕ, _-_, _≤_, _<_}
 use native.Mathlib.Omega.{arith}
 use mathlib.Core.Path.{_≡_, refl, sym, ap, subst, _∙_}
-use mathlib.Core.Bool.{Bool, true, false, cond}
+use mathlib.Core.Bool.{true, false}
 use mathlib.Core.Option.{some}
 use mathlib.Core.List.{List, [], _∷_}
-use lib.Dec.{eqb}
 use lib.ListN.{length, getD, set, take, length-set}
 use lib.Seq.{take-suc-set}
 use borrow.Author.Tests.{eq-eqb, ne-eqb, ltb-true, ltb-false}
@@ -25,7 +24,7 @@ use Rattle.scheduler.specs.Limits.{horizon, longestEstimate}
 use Rattle.scheduler.specs.Times.{longest-le}
 use Rattle.scheduler.specs.Jobs.{unused, departs?, departsAs, cleaning}
 use Rattle.scheduler.specs.Settings.{cleanup}
-use Rattle.scheduler.specs.Table.{ends, leaves, staying}
+use Rattle.scheduler.specs.Table.{staying}
 use Rattle.scheduler.specs.Model.{Model}
 use Rattle.scheduler.specs.Answers.{accepts}
 use Rattle.scheduler.specs.Refusals.{notThere, departRefusal}
@@ -40,7 +39,8 @@ use Rattle.job_columns.specs.JobColumns.{stateOf, startOf, leastOf, JobColumns}
 use Rattle.job_columns.specs.Searches.{hasTicket, placeOf, place-some, place-none}
 use Rattle.column_parts.specs.declared.Left.{Left}
 use Rattle.column_parts.specs.ColumnParts.{Listing, Gone, SoundColumns, Leaves}
-use Rattle.column_parts.specs.Departures.{refusalAt, cleansBy, earlyBy, leavesFrom, leaves-from, refused-nowhere, refused-there, found-inside, found-named, LeftAt, left-cleaning, left-over, left-withdrawn}
+use Rattle.column_parts.specs.Departures.{refusalAt, cleansBy, leaves-from, refused-nowhere, refused-there, found-inside, found-named, LeftAt}
+use Rattle.column_parts.specs.Departures.{left-cleaning, left-over, left-withdrawn}
 
 -- ## Numbers in lent lists
 

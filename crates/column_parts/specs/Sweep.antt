@@ -15,7 +15,7 @@ use Rattle.scheduler.specs.declared.Settings.{Settings}
 use Rattle.scheduler.specs.declared.Job.{Job}
 use Rattle.scheduler.specs.declared.Select.{Select}
 use Rattle.scheduler.specs.Jobs.{unused, cleaning}
-use Rattle.scheduler.specs.Table.{ticketOf, ticketsOf, ends, endedOf, leaves, staying, ceased, remaining}
+use Rattle.scheduler.specs.Table.{ticketOf, ends, endedOf, leaves, staying, ceased, remaining}
 use Rattle.job_columns.specs.Removal.{removeAt, removes, Places, removed-seam, removes-last, removes-length, places-last}
 
 module _ (S : Settings) (now : ℕ) (s : Select) (js : List Job) where

@@ -4,9 +4,9 @@ use Prim.Native.Nat.{ℕ, zero, suc, _+_, _-_, _≤_, _<_}
 use native.Mathlib.Omega.{arith}
 use native.Mathlib.Numerals.{add-one}
 use mathlib.Core.Path.{_≡_, refl, sym, ap, subst, _∙_}
-use mathlib.Core.Bool.{Bool, true, false, _&&_}
+use mathlib.Core.Bool.{Bool, true, false}
 use mathlib.Core.List.{List, [], _∷_, _++_}
-use lib.Dec.{eqb, ltb}
+use lib.Dec.{eqb}
 use lib.ListN.{length, getD, set, take, drop, length-append, length-set}
 use lib.Seq.{take-suc-set, take-length, length-take-le, getD-append-add, getD-drop}
 use borrow.Author.Tests.{eq-eqb, ne-eqb, lt-ltb, le-ltb}
@@ -20,10 +20,10 @@ use Rattle.scheduler.specs.declared.Settings.{Settings}
 use Rattle.scheduler.specs.declared.Job.{Job}
 use Rattle.scheduler.specs.declared.Select.{Select}
 use Rattle.scheduler.specs.Limits.{slots, horizon}
-use Rattle.scheduler.specs.States.{live?, waiting?, running?, cleaning?}
+use Rattle.scheduler.specs.States.{live?, running?}
 use Rattle.scheduler.specs.Jobs.{unused, isWaiting, isRunning, isCleaning, endsAt, releasedAt, cleaning}
 use Rattle.scheduler.specs.Settings.{cleanup}
-use Rattle.scheduler.specs.Table.{ticketOf, ends, endedOf, leaves, remaining}
+use Rattle.scheduler.specs.Table.{ticketOf, ends, leaves, remaining}
 use Rattle.scheduler.specs.Model.{Model, ending}
 use Rattle.jobs.specs.Soundness.{Sound}
 use Rattle.job_table.specs.Leaving.{tick-goes, tick-cleans, tick-releases, tick-stays}
@@ -33,9 +33,9 @@ use Rattle.job_columns.specs.JobColumns.{stateNumber, stateOf, dueOf, JobColumn
 use Rattle.job_columns.specs.Encoding.{number-waiting, number-running, number-cleaning, ends-due, releases-due}
 use Rattle.job_columns.specs.Searches.{FirstDue}
 use Rattle.column_parts.specs.declared.Swept.{Swept}
-use Rattle.column_parts.specs.declared.Expired.{Expired}
-use Rattle.column_parts.specs.ColumnParts.{Listing, MinuteColumns, startsIn, elapsed, Expires}
-use Rattle.column_parts.specs.Sweep.{Sweep, swept, sweep-first, sweep-count, swept-length, sweep-there, sweep-on, swept-on, sweep-cleans, swept-cleans, sweep-released, sweep-goes, swept-leaves, sweep-far, swept-all, stay-all, ended-all}
+use Rattle.column_parts.specs.ColumnParts.{startsIn, Expires}
+use Rattle.column_parts.specs.Sweep.{Sweep, swept, sweep-first, sweep-count, swept-length, sweep-there, sweep-on, swept-on, sweep-cleans}
+use Rattle.column_parts.specs.Sweep.{swept-cleans, sweep-released, sweep-goes, swept-leaves, sweep-far, swept-all, stay-all, ended-all}
 use Rattle.column_parts.specs.LeavingColumns.{gone-listed}
 
 abbrev pub minuteAfter : Model → ℕ
@@ -281,7 +281,9 @@ module _ {m : Model} (v : Sound m) {ended gone tickets nodes states dues starts 
           gone-whole = w .gone-whole;
           ended-low = omega (arith, w .ended-low, f .from-to);
           sweep = rw (at-r, i-r) at (all .0);
-          columns = subst (λ (n : ℕ). JobColumns S (swept S now s js n) tickets nodes states dues starts tenants estimates leasts (d .live)) i-r (rw (all .1) (w .columns));
+          columns =
+              subst (λ (n : ℕ). JobColumns S (swept S now s js n) tickets nodes states dues starts tenants estimates leasts (d .live)) i-r
+              (rw (all .1) (w .columns));
           starting-is =
               w .starting-is
               ∙ ap length (sym (kept-far (startsIn S now) js i far reach (λ n a b. and-right-false (isWaiting (getD js n unused)) (not-due n a b))))

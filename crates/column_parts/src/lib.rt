@@ -156,8 +156,10 @@ fn take_out(
 )
     requires { ⌜ (at < live) × (live ≤ slots) × (count < slots) ⌝ }
     ensures columns { λ _.
-        ⌜ ((S : Settings) (js : List Job) → JobColumns S js (now (tickets .entry)) (now (nodes .entry)) (now (states .entry)) (now (dues .entry)) (now (starts .entry)) (now (tenants .entry)) (now (estimates .entry)) (now (leasts .entry)) live
-        → JobColumns S (removeAt at js) (now (tickets .exit)) (now (nodes .exit)) (now (states .exit)) (now (dues .exit)) (now (starts .exit)) (now (tenants .exit)) (now (estimates .exit)) (now (leasts .exit)) (live - 1)) ⌝ }
+        ⌜ ((S : Settings) (js : List Job) → JobColumns S js (now (tickets .entry)) (now (nodes .entry)) (now (states .entry)) (now (dues .entry))
+        (now (starts .entry)) (now (tenants .entry)) (now (estimates .entry)) (now (leasts .entry)) live
+        → JobColumns S (removeAt at js) (now (tickets .exit)) (now (nodes .exit)) (now (states .exit)) (now (dues .exit)) (now (starts .exit))
+        (now (tenants .exit)) (now (estimates .exit)) (now (leasts .exit)) (live - 1)) ⌝ }
     ensures listed { λ _. ⌜ now (gone .exit) ≡ set (now (gone .entry)) count at ⌝ }
 {
     job_columns::remove(
@@ -253,8 +255,11 @@ fn go(
 ) -> Left
     requires { ⌜ (at < live) × (live ≤ slots) × Whole (now ended) × Whole (now gone) ⌝ }
     ensures { λ r.
-        ⌜ ((S : Settings) (clock : ℕ) (k : SoundColumns S clock (now (tickets .entry)) (now (nodes .entry)) (now (states .entry)) (now (dues .entry)) (now (starts .entry)) (now (tenants .entry)) (now (estimates .entry)) (now (leasts .entry)) live) → Leavable (k .model) how ticket at → cleansBy how (cleanupOf S) ≡ false
-        → Leaves (k .model) how ticket live r (now (ended .exit)) (now (gone .exit)) (now (tickets .exit)) (now (nodes .exit)) (now (states .exit)) (now (dues .exit)) (now (starts .exit)) (now (tenants .exit)) (now (estimates .exit)) (now (leasts .exit))) ⌝ }
+        ⌜ ((S : Settings) (clock : ℕ) (k : SoundColumns S clock (now (tickets .entry)) (now (nodes .entry)) (now (states .entry)) (now (dues .entry))
+        (now (starts .entry)) (now (tenants .entry)) (now (estimates .entry)) (now (leasts .entry)) live)
+        → Leavable (k .model) how ticket at → cleansBy how (cleanupOf S) ≡ false
+        → Leaves (k .model) how ticket live r (now (ended .exit)) (now (gone .exit)) (now (tickets .exit)) (now (nodes .exit)) (now (states .exit))
+        (now (dues .exit)) (now (starts .exit)) (now (tenants .exit)) (now (estimates .exit)) (now (leasts .exit))) ⌝ }
 {
     ended[0] = ticket;
     take_out(
@@ -308,10 +313,13 @@ pub fn leave(
     clock: u32,
     settings: Settings,
 ) -> Left
-    requires { ⌜ SoundColumns settings clock (now tickets) (now nodes) (now states) (now dues) (now starts) (now tenants) (now estimates) (now leasts) live × Whole (now ended) × Whole (now gone) ⌝ }
+    requires { ⌜ SoundColumns settings clock (now tickets) (now nodes) (now states) (now dues) (now starts) (now tenants) (now estimates)
+        (now leasts) live × Whole (now ended) × Whole (now gone) ⌝ }
     ensures { λ r.
-        ⌜ ((k : SoundColumns settings clock (now (tickets .entry)) (now (nodes .entry)) (now (states .entry)) (now (dues .entry)) (now (starts .entry)) (now (tenants .entry)) (now (estimates .entry)) (now (leasts .entry)) live)
-        → Leaves (k .model) how ticket live r (now (ended .exit)) (now (gone .exit)) (now (tickets .exit)) (now (nodes .exit)) (now (states .exit)) (now (dues .exit)) (now (starts .exit)) (now (tenants .exit)) (now (estimates .exit)) (now (leasts .exit))) ⌝ }
+        ⌜ ((k : SoundColumns settings clock (now (tickets .entry)) (now (nodes .entry)) (now (states .entry)) (now (dues .entry))
+        (now (starts .entry)) (now (tenants .entry)) (now (estimates .entry)) (now (leasts .entry)) live)
+        → Leaves (k .model) how ticket live r (now (ended .exit)) (now (gone .exit)) (now (tickets .exit)) (now (nodes .exit)) (now (states .exit))
+        (now (dues .exit)) (now (starts .exit)) (now (tenants .exit)) (now (estimates .exit)) (now (leasts .exit))) ⌝ }
 {
     let at = job_columns::find(tickets, live, ticket);
     if live <= at {
@@ -376,10 +384,13 @@ fn pass(
     minute: u32,
     cleanup: u32,
 ) -> Swept
-    requires { ⌜ DueColumns minute cleanup (now ended) (now gone) (now tickets) (now nodes) (now states) (now dues) (now starts) (now tenants) (now estimates) (now leasts) before ⌝ }
+    requires { ⌜ DueColumns minute cleanup (now ended) (now gone) (now tickets) (now nodes) (now states) (now dues) (now starts) (now tenants)
+        (now estimates) (now leasts) before ⌝ }
     ensures swept { λ r.
-        ⌜ ((k : DueColumns minute cleanup (now (ended .entry)) (now (gone .entry)) (now (tickets .entry)) (now (nodes .entry)) (now (states .entry)) (now (dues .entry)) (now (starts .entry)) (now (tenants .entry)) (now (estimates .entry)) (now (leasts .entry)) before)
-        → Sweeping (k .model) (now (ended .exit)) (now (gone .exit)) (now (tickets .exit)) (now (nodes .exit)) (now (states .exit)) (now (dues .exit)) (now (starts .exit)) (now (tenants .exit)) (now (estimates .exit)) (now (leasts .exit)) r) ⌝ }
+        ⌜ ((k : DueColumns minute cleanup (now (ended .entry)) (now (gone .entry)) (now (tickets .entry)) (now (nodes .entry)) (now (states .entry))
+        (now (dues .entry)) (now (starts .entry)) (now (tenants .entry)) (now (estimates .entry)) (now (leasts .entry)) before)
+        → Sweeping (k .model) (now (ended .exit)) (now (gone .exit)) (now (tickets .exit)) (now (nodes .exit)) (now (states .exit))
+        (now (dues .exit)) (now (starts .exit)) (now (tenants .exit)) (now (estimates .exit)) (now (leasts .exit)) r) ⌝ }
     ensures nearer { λ r. ⌜ (r .live - r .at < before .live - before .at) × (r .at ≤ r .live) × (r .live ≤ before .live) ⌝ }
 {
     let at = before.at;
@@ -470,10 +481,13 @@ pub fn expire(
     minute: u32,
     cleanup: u32,
 ) -> Expired
-    requires { ⌜ MinuteColumns minute cleanup (now tickets) (now nodes) (now states) (now dues) (now starts) (now tenants) (now estimates) (now leasts) live × Whole (now ended) × Whole (now gone) ⌝ }
+    requires { ⌜ MinuteColumns minute cleanup (now tickets) (now nodes) (now states) (now dues) (now starts) (now tenants) (now estimates)
+        (now leasts) live × Whole (now ended) × Whole (now gone) ⌝ }
     ensures { λ r.
-        ⌜ ((k : MinuteColumns minute cleanup (now (tickets .entry)) (now (nodes .entry)) (now (states .entry)) (now (dues .entry)) (now (starts .entry)) (now (tenants .entry)) (now (estimates .entry)) (now (leasts .entry)) live)
-        → Expires (k .model) live r (now (ended .exit)) (now (gone .exit)) (now (tickets .exit)) (now (nodes .exit)) (now (states .exit)) (now (dues .exit)) (now (starts .exit)) (now (tenants .exit)) (now (estimates .exit)) (now (leasts .exit))) ⌝ }
+        ⌜ ((k : MinuteColumns minute cleanup (now (tickets .entry)) (now (nodes .entry)) (now (states .entry)) (now (dues .entry))
+        (now (starts .entry)) (now (tenants .entry)) (now (estimates .entry)) (now (leasts .entry)) live)
+        → Expires (k .model) live r (now (ended .exit)) (now (gone .exit)) (now (tickets .exit)) (now (nodes .exit)) (now (states .exit))
+        (now (dues .exit)) (now (starts .exit)) (now (tenants .exit)) (now (estimates .exit)) (now (leasts .exit))) ⌝ }
 {
     let mut done = Swept {
         at: job_columns::first_due(dues, 0, live, minute),

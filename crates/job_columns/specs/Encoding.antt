@@ -2,8 +2,8 @@
 -- Assumes nothing.
 use Prim.Native.Nat.{ℕ, _+_, _-_, _≤_}
 use native.Mathlib.Omega.{arith}
-use mathlib.Core.Path.{_≡_, refl, sym, ap, _∙_}
-use mathlib.Core.Bool.{Bool, true, false, cond, _&&_}
+use mathlib.Core.Path.{_≡_, refl, sym, _∙_}
+use mathlib.Core.Bool.{true, false, cond, _&&_}
 use lib.Dec.{eqb}
 use borrow.Author.Tests.{eq-eqb, ne-eqb}
 use Rattle.lists.specs.Tests.{case, true-false}
@@ -18,7 +18,7 @@ use Rattle.scheduler.specs.Tenants.{number}
 use Rattle.scheduler.specs.Jobs.{isWaiting, isRunning, isCleaning, endsAt, releasedAt, jobAt, cleaning}
 use Rattle.scheduler.specs.Settings.{cleanup, runTime, endOf, until}
 use Rattle.scheduler.specs.Times.{end-is, until-cleaning, until-cleaned}
-use Rattle.jobs.specs.Soundness.{running-clean, waiting-clean}
+use Rattle.jobs.specs.Soundness.{running-clean}
 use Rattle.job_columns.specs.JobColumns.{stateNumber, stateOf, never, dueOf}
 
 -- ## Numbers

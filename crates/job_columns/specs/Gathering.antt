@@ -24,7 +24,7 @@ use Rattle.scheduler.specs.Model.{Model, store, view}
 use Rattle.jobs.specs.Soundness.{Sound, SoundJob}
 use Rattle.jobs.specs.Premise.{Holds}
 use Rattle.jobs.specs.Slots.{slots-are}
-use Rattle.job_columns.specs.Columns.{Blank, Column, nodesOf, estimateOf, column-at, column-push}
+use Rattle.job_columns.specs.Columns.{Blank, nodesOf, estimateOf, column-at, column-push}
 use Rattle.job_columns.specs.JobColumns.{stateOf, tenantOf, startOf, leastOf, promiseOf, submittedOf, rankOf, forecastOf, dueOf, JobColumns, AllColumns}
 use Rattle.job_columns.specs.Encoding.{stateAt, tenantAt, endAt, state-back, tenant-back, due-after, end-back}
 
@@ -67,7 +67,9 @@ pub record SchedulerColumns (S : Settings) (clock next : ℕ)
 -- ## Spread, job by job
 
 -- of no job
-pub all-none : (S : Settings) {tickets nodes states dues starts tenants estimates leasts promises submitted ranks forecasts : List ℕ} → Blanks tickets nodes states dues starts tenants estimates leasts promises submitted ranks forecasts → AllColumns S [] tickets nodes states dues starts tenants estimates leasts promises submitted ranks forecasts 0
+pub all-none : (S : Settings) {tickets nodes states dues starts tenants estimates leasts promises submitted ranks forecasts : List ℕ}
+    → Blanks tickets nodes states dues starts tenants estimates leasts promises submitted ranks forecasts
+    → AllColumns S [] tickets nodes states dues starts tenants estimates leasts promises submitted ranks forecasts 0
 all-none S b = record {
   core = record {
     live-is = refl;
@@ -91,7 +93,8 @@ module _ {S : Settings} (js : List Job) {tickets nodes states dues starts tenant
   -- of one more
   pub all-more : {tickets′ nodes′ states′ dues′ starts′ tenants′ estimates′ leasts′ : List ℕ} (j : Job) → i < length js → i < slots → j ≡ getD js i unused
       → JobColumns S (take i js ++ (j ∷ [])) tickets′ nodes′ states′ dues′ starts′ tenants′ estimates′ leasts′ (i + 1)
-      → AllColumns S (take (i + 1) js) tickets′ nodes′ states′ dues′ starts′ tenants′ estimates′ leasts′ (set promises i (j .promise)) (set submitted i (j .submitted)) (set ranks i (j .rank)) (set forecasts i (j .forecast)) (i + 1)
+      → AllColumns S (take (i + 1) js) tickets′ nodes′ states′ dues′ starts′ tenants′ estimates′ leasts′ (set promises i (j .promise))
+      (set submitted i (j .submitted)) (set ranks i (j .rank)) (set forecasts i (j .forecast)) (i + 1)
   all-more j l q e k =
       let n = c .core .live-is in
       let grown : take i js ++ (j ∷ []) ≡ take (i + 1) js =
@@ -117,7 +120,9 @@ slot-is d h i l =
 
 -- ## The job in a place
 
-module _ {S : Settings} {js : List Job} {tickets nodes states dues starts tenants estimates leasts promises submitted ranks forecasts : List ℕ} {live : ℕ} (c : AllColumns S js tickets nodes states dues starts tenants estimates leasts promises submitted ranks forecasts live) (i : ℕ) (l : i < live) where
+module _ {S : Settings} {js : List Job} {tickets nodes states dues starts tenants estimates leasts promises submitted ranks forecasts : List ℕ}
+    {live : ℕ} (c : AllColumns S js tickets nodes states dues starts tenants estimates leasts promises submitted ranks forecasts live) (i : ℕ)
+    (l : i < live) where
   abbrev job : Job
   job = getD js i unused
 
@@ -168,7 +173,9 @@ module _ {S : Settings} {js : List Job} {tickets nodes states dues starts tenant
       }
 
 -- of a sound model the numbers fit
-module _ {S : Settings} {clock next : ℕ} {tickets nodes states dues starts tenants estimates leasts promises submitted ranks forecasts : List ℕ} {live : ℕ} (k : SchedulerColumns S clock next tickets nodes states dues starts tenants estimates leasts promises submitted ranks forecasts live) (i : ℕ) (l : i < live) where
+module _ {S : Settings} {clock next : ℕ} {tickets nodes states dues starts tenants estimates leasts promises submitted ranks forecasts : List ℕ}
+    {live : ℕ} (k : SchedulerColumns S clock next tickets nodes states dues starts tenants estimates leasts promises submitted ranks forecasts live)
+    (i : ℕ) (l : i < live) where
   abbrev its : Job
   its = getD (k .model .jobs) i unused
 

@@ -126,8 +126,11 @@ pub fn spread(
     ranks: &mut [u32; 64],
     forecasts: &mut [u32; 64],
 ) -> usize
-    requires { ⌜ Holds Sound d × Blanks (now tickets) (now nodes) (now states) (now dues) (now starts) (now tenants) (now estimates) (now leasts) (now promises) (now submitted) (now ranks) (now forecasts) ⌝ }
-    ensures { λ r. ⌜ AllColumns (d .settings) (view d .jobs) (now (tickets .exit)) (now (nodes .exit)) (now (states .exit)) (now (dues .exit)) (now (starts .exit)) (now (tenants .exit)) (now (estimates .exit)) (now (leasts .exit)) (now (promises .exit)) (now (submitted .exit)) (now (ranks .exit)) (now (forecasts .exit)) r ⌝ }
+    requires { ⌜ Holds Sound d × Blanks (now tickets) (now nodes) (now states) (now dues) (now starts) (now tenants) (now estimates) (now leasts)
+        (now promises) (now submitted) (now ranks) (now forecasts) ⌝ }
+    ensures { λ r. ⌜ AllColumns (d .settings) (view d .jobs) (now (tickets .exit)) (now (nodes .exit)) (now (states .exit)) (now (dues .exit))
+        (now (starts .exit)) (now (tenants .exit)) (now (estimates .exit)) (now (leasts .exit)) (now (promises .exit)) (now (submitted .exit))
+        (now (ranks .exit)) (now (forecasts .exit)) r ⌝ }
 {
     let settings = d.settings;
     let mut i: usize = 0;
@@ -215,7 +218,9 @@ fn job_at(
 ) -> Job
     requires { ⌜ (i < slots) × RowFits (now nodes) (now states) (now dues) (now estimates) (now leasts) i cleanup ⌝ }
     ensures { λ r.
-        ⌜ ((S : Settings) (js : List Job) (live : ℕ) → AllColumns S js (now (tickets .entry)) (now (nodes .entry)) (now (states .entry)) (now (dues .entry)) (now (starts .entry)) (now (tenants .entry)) (now (estimates .entry)) (now (leasts .entry)) (now (promises .entry)) (now (submitted .entry)) (now (ranks .entry)) (now (forecasts .entry)) live
+        ⌜ ((S : Settings) (js : List Job) (live : ℕ) → AllColumns S js (now (tickets .entry)) (now (nodes .entry)) (now (states .entry))
+        (now (dues .entry)) (now (starts .entry)) (now (tenants .entry)) (now (estimates .entry)) (now (leasts .entry)) (now (promises .entry))
+        (now (submitted .entry)) (now (ranks .entry)) (now (forecasts .entry)) live
         → i < live → cleanup ≡ cleanupOf S → NoEnd (getD js i unused) → r ≡ getD js i unused) ⌝ }
 {
     Job {
@@ -253,8 +258,11 @@ pub fn gather(
     clock: u32,
     next: u32,
 ) -> Scheduler
-    requires { ⌜ SchedulerColumns settings clock next (now tickets) (now nodes) (now states) (now dues) (now starts) (now tenants) (now estimates) (now leasts) (now promises) (now submitted) (now ranks) (now forecasts) live ⌝ }
-    ensures { λ r. ⌜ ((k : SchedulerColumns settings clock next (now (tickets .entry)) (now (nodes .entry)) (now (states .entry)) (now (dues .entry)) (now (starts .entry)) (now (tenants .entry)) (now (estimates .entry)) (now (leasts .entry)) (now (promises .entry)) (now (submitted .entry)) (now (ranks .entry)) (now (forecasts .entry)) live) → r ≡ store (k .model)) ⌝ }
+    requires { ⌜ SchedulerColumns settings clock next (now tickets) (now nodes) (now states) (now dues) (now starts) (now tenants) (now estimates)
+        (now leasts) (now promises) (now submitted) (now ranks) (now forecasts) live ⌝ }
+    ensures { λ r. ⌜ ((k : SchedulerColumns settings clock next (now (tickets .entry)) (now (nodes .entry)) (now (states .entry)) (now (dues .entry))
+        (now (starts .entry)) (now (tenants .entry)) (now (estimates .entry)) (now (leasts .entry)) (now (promises .entry)) (now (submitted .entry))
+        (now (ranks .entry)) (now (forecasts .entry)) live) → r ≡ store (k .model)) ⌝ }
 {
     let none = Job::unused();
     let mut jobs = [none; 64];

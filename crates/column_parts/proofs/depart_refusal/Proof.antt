@@ -1,6 +1,6 @@
 -- `column_parts::depart_refusal` meets its contract: by the state, then by the least.
 -- Assumes nothing.
-use mathlib.Core.Path.{_≡_, sym, _∙_}
+use mathlib.Core.Path.{sym, _∙_}
 use borrow.Author.Tests.{eq-eqb, ne-eqb}
 use borrow.Author.Needs.{needs}
 use Rattle.column_parts.proofs.depart_refusal.Statement.{statement}

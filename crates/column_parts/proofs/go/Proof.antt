@@ -1,6 +1,6 @@
 -- `column_parts::go` meets its contract: the job leaves its place.
 -- Assumes nothing.
-use mathlib.Core.Path.{_≡_, sym, ap, _∙_}
+use mathlib.Core.Path.{sym, ap, _∙_}
 use borrow.Author.Needs.{needs}
 use Rattle.scheduler.specs.Settings.{cleanup}
 use Rattle.scheduler.specs.declared.Settings.{Settings}

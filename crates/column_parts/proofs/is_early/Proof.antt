@@ -1,10 +1,6 @@
 -- `column_parts::is_early` meets its contract.
 -- Assumes nothing.
-use Prim.Native.Nat.{_+_}
-use mathlib.Core.Path.{_≡_, ap}
-use lib.Dec.{ltb}
 use borrow.Author.Needs.{needs}
-use Rattle.column_parts.specs.Departures.{earlyBy}
 use Rattle.column_parts.proofs.is_early.Statement.{statement}
 use Rattle.column_parts.proofs.is_early.Tie as tie
 

@@ -2,7 +2,7 @@
 -- Assumes nothing.
 use Prim.Native.Nat.{_<_}
 use native.Mathlib.Omega.{arith}
-use mathlib.Core.Path.{_≡_, sym, ap, _∙_}
+use mathlib.Core.Path.{sym, ap, _∙_}
 use borrow.Author.Needs.{needs}
 use borrow.Author.Tests.{not-true, not-false}
 use Rattle.scheduler.specs.declared.Refusal.{Refusal}
@@ -61,7 +61,8 @@ module _ (n : tie.Else2) where
   inside = omega (arith, judged .before .before .before .before .if1 .left)
 
   able : let a = start .args in
-      (k : SoundColumns (a .settings) (a .clock) (a .tickets .now) (a .nodes .now) (a .states .now) (a .dues .now) (a .starts .now) (a .tenants .now) (a .estimates .now) (a .leasts .now) (a .live)) → Leavable (k .model) (a .how) (a .ticket) (found .find .result)
+      (k : SoundColumns (a .settings) (a .clock) (a .tickets .now) (a .nodes .now) (a .states .now) (a .dues .now) (a .starts .now) (a .tenants .now)
+      (a .estimates .now) (a .leasts .now) (a .live)) → Leavable (k .model) (a .how) (a .ticket) (found .find .result)
   able k =
       let a = start .args in
       leavable k (a .how) (a .ticket) (found .find .result)

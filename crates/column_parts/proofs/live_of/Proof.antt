@@ -1,7 +1,7 @@
 -- `column_parts::live_of` meets its contract: all jobs together are no fewer than the tenant's.
 -- Assumes nothing.
 use native.Mathlib.Omega.{arith}
-use mathlib.Core.Path.{_≡_, sym, ap, _∙_}
+use mathlib.Core.Path.{sym, ap, _∙_}
 use lib.Dec.{leb}
 use borrow.Author.Tests.{lt-leb}
 use borrow.Author.Needs.{needs}

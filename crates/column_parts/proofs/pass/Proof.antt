@@ -1,11 +1,10 @@
 -- `column_parts::pass` meets its contract: by the state of the job in the place.
 -- Assumes nothing.
-use Prim.Native.Nat.{_-_, _≤_, _<_}
+use Prim.Native.Nat.{_-_}
 use native.Mathlib.Omega.{arith}
-use mathlib.Core.Path.{_≡_, sym, ap, _∙_}
+use mathlib.Core.Path.{_∙_}
 use borrow.Author.Needs.{needs}
 use Rattle.scheduler.specs.Times.{cleanup-le}
-use Rattle.column_parts.specs.Sweep.{swept}
 use Rattle.column_parts.specs.SweptColumns.{due-low, sweeping-starts, sweeping-released, sweeping-cleans, sweeping-goes}
 use Rattle.column_parts.proofs.pass.Statement.{statement}
 use Rattle.column_parts.proofs.pass.Tie as tie

@@ -1,7 +1,6 @@
 -- `column_parts::stay` meets its contract: the job is in cleanup, in its place.
 -- Assumes nothing.
 use mathlib.Core.Path.{_≡_, sym, ap, _∙_}
-use mathlib.Core.Bool.{true}
 use borrow.Author.Needs.{needs}
 use Rattle.scheduler.specs.Settings.{cleanup}
 use Rattle.column_parts.specs.Departures.{cleansBy}

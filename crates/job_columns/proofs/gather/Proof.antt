@@ -3,8 +3,8 @@
 use Prim.Native.Nat.{ℕ, _+_, _-_, _≤_, _<_}
 use native.Mathlib.Omega.{arith}
 use native.Mathlib.Numerals.{add-one}
-use mathlib.Core.Path.{_≡_, refl, sym, ap, _∙_}
-use mathlib.Core.List.{List, [], _∷_, _++_}
+use mathlib.Core.Path.{_≡_, ap, _∙_}
+use mathlib.Core.List.{List}
 use lib.ListN.{length, getD, set, take, replicate}
 use lib.Seq.{take-suc, take-all, length-take-le}
 use borrow.Author.Needs.{needs}
@@ -21,7 +21,8 @@ use Rattle.job_columns.proofs.gather.Tie as tie
 abbrev Inv-loop : tie.InvT-loop
 Inv-loop tickets nodes states dues starts tenants estimates leasts promises submitted ranks forecasts live settings clock next jobs₀ cleanup i₀ jobs i =
     (i ≤ live) × (live ≤ slots) × (cleanup ≡ cleanupOf settings)
-    × ((k : SchedulerColumns settings clock next tickets nodes states dues starts tenants estimates leasts promises submitted ranks forecasts live) → jobs ≡ pad slots unused (take i (k .model .jobs)))
+    × ((k : SchedulerColumns settings clock next tickets nodes states dues starts tenants estimates leasts promises submitted ranks forecasts live)
+    → jobs ≡ pad slots unused (take i (k .model .jobs)))
 
 abbrev μ-loop : tie.MeasureT-loop
 μ-loop tickets nodes states dues starts tenants estimates leasts promises submitted ranks forecasts live settings clock next jobs₀ cleanup i₀ jobs i = live - i

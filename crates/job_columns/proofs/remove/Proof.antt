@@ -2,7 +2,7 @@
 -- Assumes nothing.
 use Prim.Native.Nat.{ℕ}
 use mathlib.Core.Path.{_≡_, _∙_}
-use mathlib.Core.List.{List, map}
+use mathlib.Core.List.{map}
 use lib.ListN.{length, length-map}
 use borrow.Author.Needs.{needs}
 use Rattle.scheduler.specs.declared.Job.{Job}
@@ -34,7 +34,9 @@ returns c =
       dues-are = column-removed (dueOf S) js (a .dues .now) (k .dues-are) (a .at) _ (c4 .shift4 .ensures (map (dueOf S) js) (k .dues-are) (n (dueOf S)));
       starts-are = column-removed startOf js (a .starts .now) (k .starts-are) (a .at) _ (c5 .shift5 .ensures (map startOf js) (k .starts-are) (n startOf));
       tenants-are = column-removed tenantOf js (a .tenants .now) (k .tenants-are) (a .at) _ (c6 .shift6 .ensures (map tenantOf js) (k .tenants-are) (n tenantOf));
-      estimates-are = column-removed estimateOf js (a .estimates .now) (k .estimates-are) (a .at) _ (c7 .shift7 .ensures (map estimateOf js) (k .estimates-are) (n estimateOf));
+      estimates-are =
+          column-removed estimateOf js (a .estimates .now) (k .estimates-are) (a .at) _
+          (c7 .shift7 .ensures (map estimateOf js) (k .estimates-are) (n estimateOf));
       leasts-are = column-removed leastOf js (a .leasts .now) (k .leasts-are) (a .at) _ (c .shift8 .ensures (map leastOf js) (k .leasts-are) (n leastOf));
     }
 

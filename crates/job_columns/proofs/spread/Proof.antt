@@ -1,8 +1,8 @@
 -- `job_columns::spread` meets its contract: the columns are those of the live jobs passed.
 -- Assumes nothing.
-use Prim.Native.Nat.{ℕ, _+_, _-_, _≤_, _<_}
+use Prim.Native.Nat.{_-_, _≤_}
 use native.Mathlib.Omega.{arith}
-use mathlib.Core.Path.{_≡_, sym, _∙_}
+use mathlib.Core.Path.{sym, _∙_}
 use lib.ListN.{length, getD, take}
 use borrow.Author.Tests.{not-true, not-false}
 use borrow.Author.Needs.{needs}
@@ -16,11 +16,14 @@ use Rattle.job_columns.proofs.spread.Statement.{statement}
 use Rattle.job_columns.proofs.spread.Tie as tie
 
 abbrev Inv-loop : tie.InvT-loop
-Inv-loop tickets₀ nodes₀ states₀ dues₀ starts₀ tenants₀ estimates₀ leasts₀ promises₀ submitted₀ ranks₀ forecasts₀ d settings i₀ tickets nodes states dues starts tenants estimates leasts promises submitted ranks forecasts i =
-    (i ≤ length (view d .jobs)) × AllColumns (d .settings) (take i (view d .jobs)) tickets nodes states dues starts tenants estimates leasts promises submitted ranks forecasts i
+Inv-loop tickets₀ nodes₀ states₀ dues₀ starts₀ tenants₀ estimates₀ leasts₀ promises₀ submitted₀ ranks₀ forecasts₀ d settings i₀ tickets nodes states
+    dues starts tenants estimates leasts promises submitted ranks forecasts i =
+    (i ≤ length (view d .jobs)) × AllColumns (d .settings) (take i (view d .jobs)) tickets nodes states dues starts tenants estimates leasts promises
+    submitted ranks forecasts i
 
 abbrev μ-loop : tie.MeasureT-loop
-μ-loop tickets₀ nodes₀ states₀ dues₀ starts₀ tenants₀ estimates₀ leasts₀ promises₀ submitted₀ ranks₀ forecasts₀ d settings i₀ tickets nodes states dues starts tenants estimates leasts promises submitted ranks forecasts i = 64 - i
+μ-loop tickets₀ nodes₀ states₀ dues₀ starts₀ tenants₀ estimates₀ leasts₀ promises₀ submitted₀ ranks₀ forecasts₀ d settings i₀ tickets nodes states
+    dues starts tenants estimates leasts promises submitted ranks forecasts i = 64 - i
 
 loop-holds : tie.Need-loop-holds Inv-loop μ-loop
 loop-holds c = let s = c .before in (omega arith, all-none (s .args .t1 .settings) (s .pre .1))
