@@ -1,4 +1,5 @@
--- The plan on the 64 slots of the table: an unused slot takes nothing, so the slots plan as the model's jobs do.
+-- The plan on the 64 slots of the table: an unused slot takes nothing, so the slots plan as the model's jobs do. The jobs alone, without
+-- unused slots, fit the machine too.
 -- Assumes nothing.
 use mathlib.Core.Path.{_≡_, refl, sym, ap, subst, _∙_}
 use mathlib.Core.Bool.{false}
@@ -51,16 +52,34 @@ pub record Planned (m : Model) : Type 0 where
 pub valid-planned : (m : Model) → Valid m → Planned m
 valid-planned m v = record { sound = v .sound; room = v .room }
 
--- slots that fit the machine
-pub record Slots (S : Settings) (now : ℕ) (js : List Job) : Type 0 where
+-- so many slots that fit the machine
+pub record SlotsOf (size : ℕ) (S : Settings) (now : ℕ) (js : List Job) : Type 0 where
   pub nodes-to : S .nodes ≤ maxNodes
   pub clock-to : now ≤ horizon S
-  pub all : length js ≡ slots
+  pub all : length js ≡ size
+  pub few : size ≤ slots
   pub ends : All (λ (j : Job). until S j ≤ horizon S) js
   pub low : All Low js
   -- an unused slot has no nodes
   pub idle : All (λ (j : Job). isLive j ≡ false → j .nodes ≡ 0) js
   pub room : (t : ℕ) → now ≤ t → used t (spans S js) ≤ S .nodes
+
+-- those of the table
+abbrev pub Slots : Settings → ℕ → List Job → Type 0
+Slots S now js = SlotsOf slots S now js
+
+-- the jobs of a model, each a slot
+pub planned-jobs : (m : Model) → Planned m → SlotsOf (length (m .jobs)) (m .settings) (m .clock) (m .jobs)
+planned-jobs m p = record {
+  nodes-to = p .sound .nodes-to;
+  clock-to = p .sound .clock-to;
+  all = refl;
+  few = p .sound .few;
+  ends = all-of _ (m .jobs) (λ j i. p .sound .each j i .ends);
+  low = all-of Low (m .jobs) (λ j i. sound-low m (p .sound) j i);
+  idle = all-of _ (m .jobs) (λ j i e. true-false (isLive j) (p .sound .each j i .is-live) e);
+  room = p .room;
+}
 
 pub takes-unused : (S : Settings) (t : ℕ) → takes t (span S unused) ≡ 0
 takes-unused S t = omega (arith, takes-le t (span S unused))
@@ -73,17 +92,19 @@ used-slots S t js =
 
 pub planned-slots : (m : Model) → Planned m → Slots (m .settings) (m .clock) (store m .jobs)
 unfolding store
-planned-slots m p = record {
-  nodes-to = p .sound .nodes-to;
-  clock-to = p .sound .clock-to;
-  all = length-pad slots unused (m .jobs) (p .sound .few);
-  ends = all-pad slots unused (λ (j : Job). until (m .settings) j ≤ horizon (m .settings)) (m .jobs)
-      (omega (arith, until-is (m .settings) unused refl, hold-le (m .settings) 0)) (all-of _ (m .jobs) (λ j i. p .sound .each j i .ends));
-  low = all-pad slots unused Low (m .jobs) (omega arith) (all-of Low (m .jobs) (λ j i. sound-low m (p .sound) j i));
-  idle = all-pad slots unused (λ (j : Job). isLive j ≡ false → j .nodes ≡ 0) (m .jobs) (λ e. refl)
-      (all-of _ (m .jobs) (λ j i e. true-false (isLive j) (p .sound .each j i .is-live) e));
-  room = λ t l. omega (arith, used-slots (m .settings) t (m .jobs), p .room t l);
-}
+planned-slots m p =
+    let f = planned-jobs m p in
+    record {
+      nodes-to = f .nodes-to;
+      clock-to = f .clock-to;
+      all = length-pad slots unused (m .jobs) (f .few);
+      few = omega arith;
+      ends = all-pad slots unused (λ (j : Job). until (m .settings) j ≤ horizon (m .settings)) (m .jobs)
+          (omega (arith, until-is (m .settings) unused refl, hold-le (m .settings) 0)) (f .ends);
+      low = all-pad slots unused Low (m .jobs) (omega arith) (f .low);
+      idle = all-pad slots unused (λ (j : Job). isLive j ≡ false → j .nodes ≡ 0) (m .jobs) (λ e. refl) (f .idle);
+      room = λ t l. omega (arith, used-slots (m .settings) t (m .jobs), f .room t l);
+    }
 
 pub held-slots : (d : Scheduler) → Holds Planned d → Slots (view d .settings) (d .clock) (d .jobs)
 unfolding view
@@ -102,8 +123,8 @@ last-slots S L js h = last-le L (spans S js) (all-of _ (spans S js) (λ x i. one
     one : (x : Span) → (j : Job) × In j js × (x ≡ span S j) → x .until ≤ L
     one x k = omega (arith, h (k .0) (k .1), ap (λ (y : Span). y .until) (k .2))
 
-pub slot-ends : {S : Settings} {now : ℕ} {js : List Job} → Slots S now js → (j : Job) → In j js → until S j ≤ horizon S
-slot-ends {S} s j i = all-in (λ (k : Job). until S k ≤ horizon S) (s .ends) i
+pub slot-ends : {size : ℕ} {S : Settings} {now : ℕ} {js : List Job} → SlotsOf size S now js → (j : Job) → In j js → until S j ≤ horizon S
+slot-ends {S = S} s j i = all-in (λ (k : Job). until S k ≤ horizon S) (s .ends) i
 
 -- the profile of the first i slots
 abbrev pub Front : Settings → ℕ → List Job → ℕ → ℕ → List ℕ → List ℕ → Type 0

@@ -13,9 +13,10 @@ use Rattle.lists.specs.Lists.{All, In, here, there, in-left, in-right, in-appen
 use Rattle.spans.specs.declared.Span.{Span}
 use Rattle.spans.specs.Spans.{takes, used, lastEnd, earliest}
 use Rattle.spans.specs.UsedNodes.{used-among, takes-before, takes-in}
+use Rattle.spans.specs.EarliestStart.{earliest-is}
 use Rattle.scheduler.specs.declared.Job.{Job}
 use Rattle.scheduler.specs.Jobs.{isWaiting, isCleaning, isLive}
-use Rattle.scheduler.specs.Limits.{slots}
+use Rattle.scheduler.specs.Limits.{longestHold, slots}
 use Rattle.scheduler.specs.declared.Settings.{Settings}
 use Rattle.scheduler.specs.Settings.{horizon, holdTime, until}
 use Rattle.scheduler.specs.Times.{hold-le, until-is, until-at}
@@ -29,14 +30,16 @@ use Rattle.conservative_rules.specs.Conservative.{span, spans, stateAt, placed,
 use Rattle.conservative_laws.specs.Validity.{state-clean, Follows, follows-start, moved-follows}
 use Rattle.conservative_laws.specs.Compression.{placed-still}
 use Rattle.conservative_plan.specs.declared.Replanned.{Replanned}
-use Rattle.conservative_plan.specs.PlannedSlots.{spanAt, span-at, Slots, slot-ends, last-slots}
+use Rattle.conservative_plan.specs.declared.Turn.{Turn}
+use Rattle.conservative_plan.specs.PlannedSlots.{spanAt, span-at, SlotsOf, slot-ends, last-slots}
 
 -- the lists are the profile of the slots xs, j and ys, and j waits
 pub record Replans (ms fs : List ℕ) (n : ℕ) (j : Job) (now : ℕ) : Type 0 where
   pub settings : Settings
+  pub size : ℕ
   pub xs : List Job
   pub ys : List Job
-  pub fits : Slots settings now (xs ++ j ∷ ys)
+  pub fits : SlotsOf size settings now (xs ++ j ∷ ys)
   pub profile : IsProfile (settings .nodes) (spans settings (xs ++ j ∷ ys)) now n ms fs
   pub waits : isWaiting j ≡ true
   pub ahead : now < j .start
@@ -95,8 +98,11 @@ module _ {ms fs : List ℕ} {n : ℕ} {j : Job} {now : ℕ} (q : Replans ms fs n
   abbrev pub startAt : ℕ
   startAt = earliest (S .nodes) (spans S others) now (j .nodes) (holdTime S (j .estimate))
 
-  few : length (spans S (q .xs ++ j ∷ q .ys)) ≡ slots
-  few = length-map (q .xs ++ j ∷ q .ys) (span S) ∙ q .fits .all
+  pub start-later : now ≤ startAt
+  start-later = earliest-is (S .nodes) (spans S others) now (j .nodes) (holdTime S (j .estimate)) (q .nodes-to) .later
+
+  few : length (spans S (q .xs ++ j ∷ q .ys)) ≤ slots
+  few = omega (arith, length-map (q .xs ++ j ∷ q .ys) (span S), q .fits .all, q .fits .few)
 
   ends : lastEnd (spans S (q .xs ++ j ∷ q .ys)) ≤ horizon S
   ends = last-slots S (horizon S) (q .xs ++ j ∷ q .ys) (slot-ends (q .fits))
@@ -161,11 +167,12 @@ module _ {ms fs : List ℕ} {n : ℕ} {j : Job} {now : ℕ} (q : Replans ms fs n
     pub profile : IsProfile (S .nodes) (spans S (q .xs ++ movedTo ∷ q .ys)) now (r .count) ms′ fs′
 
   -- the slots after the turn fit the machine too
-  pub fits-after : Slots S now (q .xs ++ movedTo ∷ q .ys)
+  pub fits-after : SlotsOf (q .size) S now (q .xs ++ movedTo ∷ q .ys)
   fits-after = record {
     nodes-to = q .fits .nodes-to;
     clock-to = q .fits .clock-to;
     all = length-append (q .xs) (movedTo ∷ q .ys) ∙ sym (length-append (q .xs) (j ∷ q .ys)) ∙ q .fits .all;
+    few = q .fits .few;
     ends = all-instead _ (q .xs) j movedTo (q .ys) (q .fits .ends) end-after;
     low = all-instead Low (q .xs) j movedTo (q .ys) (q .fits .low) (subst Low (sym moved-is) (moved-low, omega arith));
     idle = all-instead _ (q .xs) j movedTo (q .ys) (q .fits .idle) (λ e. true-false (isLive movedTo) (ap isLive moved-is ∙ state-live) e);
@@ -175,11 +182,23 @@ module _ {ms fs : List ℕ} {n : ℕ} {j : Job} {now : ℕ} (q : Replans ms fs n
       state-live : isLive (placed now startAt j) ≡ true
       state-live = case (eqb startAt now) (λ e. rw e) (λ e. rw e)
 
-  pub turned-stays : startAt ≡ j .start → TurnDone (record { job = j; count = n }) ms fs
+  -- and in numbers: the start that it has come to
+  pub record Turned (r : Turn) (ms′ fs′ : List ℕ) : Type 0 where
+    pub start-is : r .start ≡ startAt
+    pub profile : IsProfile (S .nodes) (spans S (q .xs ++ movedTo ∷ q .ys)) now (r .count) ms′ fs′
+
+  turned-stays : startAt ≡ j .start → Turned (record { start = j .start; count = n }) ms fs
   turned-stays e = record {
-    job-is = stays-put e;
+    start-is = sym e;
     profile = subst (λ (k : Job). IsProfile (S .nodes) (spans S (q .xs ++ k ∷ q .ys)) now n ms fs) (stays-put e) (q .profile);
   }
+
+  -- so is the job: it has stayed, or is placed anew
+  pub done-stays : {r : Turn} {ms′ fs′ : List ℕ} → Turned r ms′ fs′ → r .start ≡ j .start → TurnDone (record { job = j; count = r .count }) ms′ fs′
+  done-stays t e = record { job-is = stays-put (sym (t .start-is) ∙ e); profile = t .profile }
+
+  pub done-placed : {r : Turn} {ms′ fs′ : List ℕ} → Turned r ms′ fs′ → TurnDone (record { job = placed now (r .start) j; count = r .count }) ms′ fs′
+  done-placed t = record { job-is = ap (λ (s : ℕ). placed now s j) (t .start-is) ∙ sym moved-is; profile = t .profile }
 
   -- the search has found another minute, with a place that is not later
   pub record Moves (r : Found) : Type 0 where
@@ -226,7 +245,7 @@ module _ {ms fs : List ℕ} {n : ℕ} {j : Job} {now : ℕ} (q : Replans ms fs n
         spans = spans S others;
         now = now;
         profile = out .profile;
-        few = omega (arith, length-map others (span S), length-append (q .xs) (q .ys), length-append (q .xs) (j ∷ q .ys), q .fits .all);
+        few = omega (arith, length-map others (span S), length-append (q .xs) (q .ys), length-append (q .xs) (j ∷ q .ys), q .fits .all, q .fits .few);
         clock = q .fits .clock-to;
         ends = last-slots S (horizon S) others (λ k i. slot-ends (q .fits) k (others-in k i));
         until = end-after;
@@ -238,37 +257,62 @@ module _ {ms fs : List ℕ} {n : ℕ} {j : Job} {now : ℕ} (q : Replans ms fs n
       turned-moves : {r₂ : Row} {ms₂ fs₂ : List ℕ}
           → ((l : Laying ms₁ fs₁ (o .near) (r .count) (span S movedTo))
           → Changed (l .machine) (span S movedTo ∷ l .spans) (l .now) (span S movedTo) ms₁ fs₁ (r .count) r₂ ms₂ fs₂)
-          → TurnDone (record { job = movedTo; count = r₂ .count }) ms₂ fs₂
+          → Turned (record { start = startAt; count = r₂ .count }) ms₂ fs₂
       unfolding back
-      turned-moves g = record { job-is = refl; profile = exact-same (spans S (q .xs ++ movedTo ∷ q .ys)) (g back .profile) (λ t l. sym (among t movedTo)) }
+      turned-moves g = record { start-is = refl; profile = exact-same (spans S (q .xs ++ movedTo ∷ q .ys)) (g back .profile) (λ t l. sym (among t movedTo)) }
 
-  -- the same in the words of the code
-  module _ {hold : ℕ} (w : hold ≡ holdTime S (j .estimate)) where
-    pub seeks-hold : Seeks ms fs (j .start) (j .nodes) hold
-    seeks-hold = rw w seeks
+-- A turn in numbers: the nodes, the start and the hold time of a job that waits.
+pub record TurnAsked (ms fs : List ℕ) (n nodes start hold : ℕ) : Type 0 where
+  pub job : Job
+  pub now : ℕ
+  pub replans : Replans ms fs n job now
+  pub nodes-are : nodes ≡ job .nodes
+  pub start-is : start ≡ job .start
+  pub hold-is : hold ≡ holdTime (replans .settings) (job .estimate)
 
-    pub moves : {o : Found} → ((l : Seeks ms fs (j .start) (j .nodes) hold) → Finds l o) → Moves o
-    unfolding seeks
-    moves f = let k = (rw w at f) seeks in record { minute = k .minute; near-in = k .near-in; near-to = k .near-to }
+module _ {ms fs : List ℕ} {n nodes start hold : ℕ} (a : TurnAsked ms fs n nodes start hold) where
+  pub asked-seeks : Seeks ms fs start nodes hold
+  asked-seeks = rw (a .nodes-are, a .start-is, a .hold-is) (seeks (a .replans))
 
-    module _ {o : Found} (m : Moves o) where
-      pub lifts : Lifting ms fs (o .near) n (spanAt (j .nodes) (j .start) hold)
-      lifts = rw (w, ← span-at S j clean) (take-out m)
+  pub asked-moves : {o : Found} → ((l : Seeks ms fs start nodes hold) → Finds l o) → Moves (a .replans) o
+  unfolding seeks
+  asked-moves f =
+      let k = (rw (a .nodes-are, a .start-is, a .hold-is) at f) (seeks (a .replans)) in
+      record { minute = k .minute; near-in = k .near-in; near-to = k .near-to }
 
-      module _ (else : o .minute ≢ j .start) {r : Row} {ms₁ fs₁ : List ℕ}
-          (f : (l : Lifting ms fs (o .near) n (spanAt (j .nodes) (j .start) hold))
-          → Changed (l .machine) (l .others) (l .now) (spanAt (j .nodes) (j .start) hold) ms fs n r ms₁ fs₁) where
-        moving : startAt ≢ j .start
-        moving e = else (m .minute ∙ e)
+  -- its numbers are low
+  pub asked-low : (start ≤ horizon (a .replans .settings)) × (hold ≤ longestHold)
+  asked-low = (omega (arith, a .start-is, start-of (a .replans)), omega (arith, a .hold-is, hold-le (a .replans .settings) (a .job .estimate)))
 
-        abbrev after : Span
-        after = spanAt (j .nodes) (o .minute) hold
+  module _ {o : Found} (m : Moves (a .replans) o) where
+    pub found-low : o .minute ≤ horizon (a .replans .settings)
+    found-low = omega (arith, m .minute, moved-low (a .replans))
 
-        pub lays : Laying ms₁ fs₁ (o .near) (r .count) after
-        lays = rw (w, m .minute, ← moved-span) (back m moving (rw (w, ← span-at S j clean) at f))
+    pub turned-back : o .minute ≡ start → Turned (a .replans) (record { start = start; count = n }) ms fs
+    turned-back e = rw (a .start-is) (turned-stays (a .replans) (sym (m .minute) ∙ e ∙ a .start-is))
 
-        pub turned : {r₂ : Row} {ms₂ fs₂ : List ℕ}
-            → ((l : Laying ms₁ fs₁ (o .near) (r .count) after) → Changed (l .machine) (after ∷ l .spans) (l .now) after ms₁ fs₁ (r .count) r₂ ms₂ fs₂)
-            → TurnDone (record { job = placed now (o .minute) j; count = r₂ .count }) ms₂ fs₂
-        turned g =
-            rw (m .minute, ← moved-is) (turned-moves m moving (rw (w, ← span-at S j clean) at f) (rw (w, m .minute, ← moved-span) at g))
+    before-is : spanAt nodes start hold ≡ span (a .replans .settings) (a .job)
+    before-is = rw (a .nodes-are, a .start-is, a .hold-is) (sym (span-at (a .replans .settings) (a .job) (clean (a .replans))))
+
+    after-is : spanAt nodes (o .minute) hold ≡ span (a .replans .settings) (movedTo (a .replans))
+    after-is = rw (a .nodes-are, a .hold-is, m .minute) (sym (moved-span (a .replans)))
+
+    pub lifts : Lifting ms fs (o .near) n (spanAt nodes start hold)
+    lifts = rw before-is (take-out (a .replans) m)
+
+    module _ (else : o .minute ≢ start) {r : Row} {ms₁ fs₁ : List ℕ}
+        (f : (l : Lifting ms fs (o .near) n (spanAt nodes start hold))
+        → Changed (l .machine) (l .others) (l .now) (spanAt nodes start hold) ms fs n r ms₁ fs₁) where
+      moving : startAt (a .replans) ≢ a .job .start
+      moving e = else (m .minute ∙ e ∙ sym (a .start-is))
+
+      abbrev after : Span
+      after = spanAt nodes (o .minute) hold
+
+      pub lays : Laying ms₁ fs₁ (o .near) (r .count) after
+      lays = rw after-is (back (a .replans) m moving (rw before-is at f))
+
+      pub turned : {r₂ : Row} {ms₂ fs₂ : List ℕ}
+          → ((l : Laying ms₁ fs₁ (o .near) (r .count) after) → Changed (l .machine) (after ∷ l .spans) (l .now) after ms₁ fs₁ (r .count) r₂ ms₂ fs₂)
+          → Turned (a .replans) (record { start = o .minute; count = r₂ .count }) ms₂ fs₂
+      turned g = rw (m .minute) (turned-moves (a .replans) m moving (rw before-is at f) (rw after-is at g))

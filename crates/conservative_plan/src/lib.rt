@@ -16,7 +16,7 @@ ghost use Rattle.conservative_index.specs.StoredIndex.{storedBlocks};
 ghost use Rattle.conservative_profile.specs.StoredProfile.{stored};
 ghost use Rattle.conservative_plan.specs.PlannedSlots.{spanAt, Planned, Tabulated};
 ghost use Rattle.conservative_plan.specs.EarliestStart.{Askable, Asked};
-ghost use Rattle.conservative_plan.specs.Replan.{Replans, TurnDone};
+ghost use Rattle.conservative_plan.specs.Replan.{Replans, Turned, TurnDone, TurnAsked};
 ghost use Rattle.conservative_plan.specs.Pass.{Replannable, calmTurns, slotAfter};
 use conservative_index::Blocks;
 use conservative_index::Start;
@@ -123,13 +123,52 @@ pub fn place(job: Job, now: u32, s: u32) -> Job
     job.at(State::Waiting, s)
 }
 
+// A start, and how many points the profile has with a job there.
+pub struct Turn {
+    pub start: u32,
+    pub count: usize,
+}
+
+// The turn of a waiting job, by its nodes, its planned start and its hold time. Takes the job out of the plan and puts it in again at its smallest
+// minute, if that is another.
+pub fn take_turn(
+    minutes: &mut [u32; 131],
+    free: &mut [u32; 131],
+    count: usize,
+    nodes: u32,
+    start: u32,
+    hold: u32,
+) -> Turn
+    requires { ⌜ TurnAsked (now minutes) (now free) count nodes start hold ⌝ }
+    ensures { λ r.
+        ⌜ ((a : TurnAsked (now (minutes .entry)) (now (free .entry)) count nodes start hold)
+        → Turned (a .replans) r (now (minutes .exit)) (now (free .exit))) ⌝ }
+{
+    let found = conservative_table::search_before(minutes, free, start, nodes, hold);
+    let to = found.minute;
+    if to == start {
+        return Turn {
+            start: start,
+            count: count,
+        };
+    }
+    let before = span(nodes, start, hold);
+    let out = conservative_table::lift(minutes, free, found.near, count, before);
+    let after = span(nodes, to, hold);
+    let back = conservative_table::lay(minutes, free, found.near, out.count, after);
+    Turn {
+        start: to,
+        count: back.count,
+    }
+}
+
 // A job where it is planned, and how many points the profile then has.
 pub struct Replanned {
     pub job: Job,
     pub count: usize,
 }
 
-// Takes a waiting job out of the plan and puts it in again at its smallest minute, if that is another.
+// The turn of a waiting job.
 fn replan(
     job: Job,
     hold: u32,
@@ -143,27 +182,21 @@ fn replan(
         ⌜ ((q : Replans (now (minutes .entry)) (now (free .entry)) count job clock) → hold ≡ holdTime (q .settings) (job .estimate)
         → TurnDone q r (now (minutes .exit)) (now (free .exit))) ⌝ }
 {
-    let nodes = job.nodes as u32;
-    let found = conservative_table::search_before(minutes, free, job.start, nodes, hold);
-    let start = found.minute;
-    if start == job.start {
+    let t = take_turn(minutes, free, count, job.nodes as u32, job.start, hold);
+    if t.start == job.start {
         return Replanned {
             job: job,
-            count: count,
+            count: t.count,
         };
     }
-    let before = span(nodes, job.start, hold);
-    let out = conservative_table::lift(minutes, free, found.near, count, before);
-    let after = span(nodes, start, hold);
-    let back = conservative_table::lay(minutes, free, found.near, out.count, after);
     Replanned {
-        job: place(job, clock, start),
-        count: back.count,
+        job: place(job, clock, t.start),
+        count: t.count,
     }
 }
 
 // Turns in a row without a move; 0 if this turn moved the job.
-fn calm(turns: usize, before: u32, after: u32) -> usize
+pub fn calm(turns: usize, before: u32, after: u32) -> usize
     ensures { λ r. ⌜ r ≡ calmTurns turns before after ⌝ }
 {
     if after == before {
@@ -172,12 +205,12 @@ fn calm(turns: usize, before: u32, after: u32) -> usize
     0
 }
 
-// The slot whose turn is next: after the last, the first.
-fn slot_after(i: usize) -> usize
+// The slot whose turn is next, of so many: after the last, the first.
+pub fn slot_after(i: usize, size: usize) -> usize
     requires { ⌜ i < slots ⌝ }
-    ensures { λ r. ⌜ r ≡ slotAfter i ⌝ }
+    ensures { λ r. ⌜ r ≡ slotAfter size i ⌝ }
 {
-    if i + 1 < Scheduler::LIVE {
+    if i + 1 < size {
         return i + 1;
     }
     0
@@ -220,7 +253,7 @@ pub fn replan_kept(
             n = t.count;
             turns = calm(turns, j.start, k.start);
         }
-        i = slot_after(i);
+        i = slot_after(i, Scheduler::LIVE);
     }
     Passed {
         scheduler: e,

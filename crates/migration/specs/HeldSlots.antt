@@ -85,6 +85,7 @@ module _ (m : Model) (s : Sound m) where
     nodes-to = s .nodes-to;
     clock-to = s .clock-to;
     all = length-map (store m .jobs) heldSlot ∙ store-length m (s .few);
+    few = omega arith;
     ends = held-all (λ (j : Job). until P j ≤ horizon P) (omega (arith, until-is P unused refl, hold-le P 0))
         (λ j i h. omega (arith, s .each j i .ends, until-kept (m .settings) j));
     low = held-all Low (omega arith) (λ j i h. sound-low m s j i);

@@ -3,9 +3,10 @@
 use mathlib.Core.Path.{_≡_, refl, sym, ap, subst, _∙_}
 use mathlib.Core.List.{List}
 use mathlib.Core.Logic.{⊎-elim}
-use Prim.Native.Nat.{ℕ}
+use Prim.Native.Nat.{ℕ, _<_}
 use native.Mathlib.Omega.{arith}
 use lib.ListN.{set}
+use Rattle.scheduler.specs.Limits.{slots}
 use Rattle.scheduler.specs.declared.Scheduler.{Scheduler}
 use Rattle.scheduler.specs.Model.{view}
 use Rattle.scheduler.specs.Table.{withJobs}
@@ -19,7 +20,7 @@ use Rattle.conservative_plan.proofs.replan_kept.Tie as tie
 
 record Inv (d e : Scheduler) (i turns n : ℕ) (ms fs : List ℕ) : Type 0 where
   scheduler-is : e ≡ withJobs d (e .jobs)
-  turning : Turning (view d .settings) (d .clock) (d .jobs) (e .jobs) i turns n ms fs
+  turning : Turning slots (view d .settings) (d .clock) (d .jobs) (e .jobs) i turns n ms fs
 
 abbrev Inv-loop : tie.InvT-loop
 Inv-loop minutes₀ free₀ count settings clock n₀ e₀ i₀ turns₀ minutes free n e i turns = Inv e₀ e i turns n minutes free
@@ -37,13 +38,17 @@ same-settings d e {n} {ms} {fs} q p =
 loop-holds : tie.Need-loop-holds Inv-loop μ-loop
 loop-holds c =
     let s = c .before in
-    record { scheduler-is = refl; turning = turns-begin (s .args .d) (held-before (s .args .d) (s .pre .0)) (s .pre .1) }
+    record { scheduler-is = refl; turning = turns-begin (held-before (s .args .d) (s .pre .0)) (s .pre .1) }
+
+-- the slot whose turn it is
+slot-low : (c : tie.In-loop Inv-loop μ-loop) → c .before .loop .i < slots
+slot-low c = c .before .loop .inv .turning .low (c .loop-test .taken)
 
 mul-j : tie.Need-mul-j Inv-loop μ-loop
-mul-j c = omega (arith, c .before .loop .inv .turning .low)
+mul-j c = omega (arith, slot-low c)
 
 element-copy-out-j : tie.Need-element-copy-out-j Inv-loop μ-loop
-element-copy-out-j c = c .before .loop .inv .turning .low
+element-copy-out-j c = slot-low c
 
 replan-requires : tie.Need-replan-requires Inv-loop μ-loop
 unfolding view
@@ -53,13 +58,13 @@ replan-requires c κs =
     turn-asked (l .inv .turning) (omega (arith, c .before .before .before .before .before .before .before .loop-test .taken)) (c .before .before .hold-time .ensures) w
 
 mul-k : tie.Need-mul-k Inv-loop μ-loop
-mul-k c = omega (arith, c .before .before .before .before .before .before .before .before .before .before .loop .inv .turning .low)
+mul-k c = omega (arith, slot-low (c .before .before .before .before .before .before .before .before .before))
 
 element-set-from-k : tie.Need-element-set-from-k Inv-loop μ-loop
-element-set-from-k c = c .before .before .before .before .before .before .before .before .before .before .loop .inv .turning .low
+element-set-from-k c = slot-low (c .before .before .before .before .before .before .before .before .before)
 
 slot-after-requires : tie.Need-slot-after-requires Inv-loop μ-loop
-slot-after-requires c κs = c .before .before .before .before .loop .inv .turning .low
+slot-after-requires c κs = slot-low (c .before .before .before)
 
 loop-less : tie.Need-loop-less Inv-loop μ-loop
 unfolding view
