@@ -33,7 +33,8 @@ module _ (m : Model) (h : Departure) (t : ℕ) (v : Valid m) where
   sound-rest : Sound rest
   sound-rest = sound-leave m (m .clock) (select.Departing h t) (v .sound) (early h t)
 
-  replannable : Replannable rest
+  -- those that stay can have their turns
+  pub replannable : Replannable rest
   replannable =
       let c = left-compressible m h t v in
       record { planned = record { sound = sound-rest; room = c .room }; ahead = λ j i. c .each j i .ahead }

@@ -72,6 +72,27 @@ module _ (m : Model) (o : Submission) (v : Sound m) where
   unfolding call past verdict
   submit-taken a h = rw (refusal-is, a, le-ltb (horizon (m .settings)) (planned m o + holdTime (m .settings) (o .estimate)) h)
 
+  -- a minute of the clock is found
+  pub planned-within : planned m o ≤ horizon (m .settings)
+  unfolding planned earliest
+  planned-within =
+      let xs = spans (m .settings) (m .jobs) in
+      omega (
+        arith,
+        least-to (fits (free (m .settings .nodes) xs) (o .nodes) (holdTime (m .settings) (o .estimate))) (lastEnd xs - m .clock) (m .clock),
+        last-slots (m .settings) (horizon (m .settings)) (m .jobs) (λ j i. v .each j i .ends),
+        v .clock-to,
+      )
+
+  -- what the tests that both kinds share say
+  module _ (a : accepts (sharedRefusal m o) ≡ true) where
+    pub submit-fits : Fit m o
+    unfolding refusalBy
+    submit-fits = submit-fit m o [] a .0
+
+    pub submit-room : length (m .jobs) < slots (m .settings)
+    submit-room = fit-room m o v submit-fits
+
 -- ## What the code computes, on a scheduler that holds a valid model
 
 module _ (d : Scheduler) (o : Submission) (h : Holds Valid d) where
@@ -79,15 +100,7 @@ module _ (d : Scheduler) (o : Submission) (h : Holds Valid d) where
   m = view d
 
   pub planned-low : planned m o ≤ horizon (m .settings)
-  unfolding planned earliest
-  planned-low =
-      let xs = spans (m .settings) (m .jobs) in
-      omega (
-        arith,
-        least-to (fits (free (m .settings .nodes) xs) (o .nodes) (holdTime (m .settings) (o .estimate))) (lastEnd xs - m .clock) (m .clock),
-        last-slots (m .settings) (horizon (m .settings)) (m .jobs) (λ j i. h .holds .sound .each j i .ends),
-        h .holds .sound .clock-to,
-      )
+  planned-low = planned-within m o (h .holds .sound)
 
   pub shared-held : (live places : ℕ) → places ≡ quota (d .settings) (o .tenant) → Tells places (liveOf (o .tenant) (m .jobs)) live
       → refusalBy (d .settings) live (d .next) o ≡ sharedRefusal m o
@@ -96,11 +109,10 @@ module _ (d : Scheduler) (o : Submission) (h : Holds Valid d) where
 
   module _ (a : accepts (sharedRefusal m o) ≡ true) where
     pub fit-held : Fit m o
-    unfolding refusalBy
-    fit-held = submit-fit m o [] a .0
+    fit-held = submit-fits m o (h .holds .sound) a
 
     room : length (m .jobs) < slots (m .settings)
-    room = fit-room m o (h .holds .sound) fit-held
+    room = submit-room m o (h .holds .sound) a
 
     pub room-held : (slot : ℕ) → slot ≡ length (m .jobs)
         → (slot < slots (m .settings)) × (d .next ≤ lastTicket) × (o .nodes ≤ maxNodes) × (o .estimate ≤ longestEstimate) × (o .least ≤ o .estimate)

@@ -5,6 +5,7 @@ use native.Mathlib.Omega.{arith}
 use mathlib.Core.Path.{_≡_, sym}
 use mathlib.Core.List.{List}
 use lib.ListN.{length, length-map}
+use Rattle.spans.specs.declared.Span.{Span}
 use Rattle.spans.specs.Spans.{lastEnd}
 use Rattle.scheduler.specs.Limits.{slots}
 use Rattle.scheduler.specs.Settings.{horizon}
@@ -23,6 +24,16 @@ pub record Beside (m : Model) (n : ℕ) (ms fs lo hi : List ℕ) : Type 0 where
   pub profile : IsProfile (m .settings .nodes) (spans (m .settings) (m .jobs)) (m .clock) n ms fs
   pub indexed : Indexed fs n lo hi
 
+-- an index of the points of so many spans can be built
+pub index-builds : {N now n : ℕ} {xs : List Span} {ms fs lo hi : List ℕ} → IsProfile N xs now n ms fs → length xs ≤ slots → length lo ≡ 9 → length hi ≡ 9
+    → Built fs n lo hi 0 × (length fs ≡ rows) × (n ≤ rows) × (0 ≤ 9)
+index-builds p l a b = (
+  built-none a b,
+  p .free-long,
+  omega (arith, exact-few p, l),
+  omega arith,
+)
+
 module _ {m : Model} (s : Sound m) {n : ℕ} {ms fs : List ℕ} (p : IsProfile (m .settings .nodes) (spans (m .settings) (m .jobs)) (m .clock) n ms fs) where
   pub few-spans : length (spans (m .settings) (m .jobs)) ≤ slots
   few-spans = omega (arith, s .few, length-map (m .jobs) (span (m .settings)))
@@ -32,12 +43,7 @@ module _ {m : Model} (s : Sound m) {n : ℕ} {ms fs : List ℕ} (p : IsProfile (
 
   -- an index of them can be built
   pub builds : {lo hi : List ℕ} → length lo ≡ 9 → length hi ≡ 9 → Built fs n lo hi 0 × (length fs ≡ rows) × (n ≤ rows) × (0 ≤ 9)
-  builds a b = (
-    built-none a b,
-    p .free-long,
-    fits-rows,
-    omega arith,
-  )
+  builds a b = index-builds p few-spans a b
 
 -- no hold passes the last minute
 pub ends-within : {m : Model} → Sound m → lastEnd (spans (m .settings) (m .jobs)) ≤ horizon (m .settings)

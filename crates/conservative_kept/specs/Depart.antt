@@ -58,12 +58,15 @@ slotAt (some i) = i
 slotAt none = slots
 
 -- the nodes that a departure gives back: a run that ends gives them back once cleanup is over; a waiting job gives back all that it was to hold
-abbrev pub freedFrom : Settings → ℕ → Departure → Job → ℕ
-freedFrom S now Complete j = now + cleanup S
-freedFrom S now Cancel j = j .start
+abbrev pub freedFrom : Departure → (start now clear : ℕ) → ℕ
+freedFrom Complete start now clear = now + clear
+freedFrom Cancel start now clear = start
+
+abbrev pub freedBy : Departure → (nodes start hold now clear : ℕ) → Span
+freedBy h nodes start hold now clear = record { from = freedFrom h start now clear; until = start + hold; nodes = nodes }
 
 abbrev pub freed : Settings → ℕ → Departure → Job → Span
-freed S now h j = record { from = freedFrom S now h j; until = j .start + holdTime S (j .estimate); nodes = j .nodes }
+freed S now h j = freedBy h (j .nodes) (j .start) (holdTime S (j .estimate)) now (cleanup S)
 
 -- a span is what it takes up to a minute, and from there on
 takes-parts : (t a b c k : ℕ) → a ≤ b → b ≤ c

@@ -4,7 +4,7 @@ ghost use mathlib.Core.Path.{_≡_};
 ghost use Prim.Native.Nat.{_≤_};
 ghost use lib.ListN.{length};
 ghost use Rattle.lists.specs.Loops.{position};
-ghost use Rattle.scheduler.specs.Limits.{horizon};
+ghost use Rattle.scheduler.specs.Limits.{horizon, longestHold, longestCleanup};
 ghost use Rattle.scheduler.specs.Jobs.{departsAs};
 ghost use Rattle.scheduler.specs.Model.{view};
 ghost use Rattle.scheduler.specs.Answers.{outcome};
@@ -15,7 +15,7 @@ ghost use Rattle.conservative_rules.specs.Conservative.{call};
 ghost use Rattle.conservative_laws.specs.Validity.{Valid};
 ghost use Rattle.conservative_table.specs.ListChanges.{rows};
 ghost use Rattle.conservative_kept.specs.Beside.{Beside};
-ghost use Rattle.conservative_kept.specs.Depart.{slotAt, freedFrom, freed};
+ghost use Rattle.conservative_kept.specs.Depart.{slotAt, freedFrom, freedBy, freed};
 use scheduler::Departure;
 use scheduler::Job;
 use scheduler::Outcome;
@@ -140,13 +140,33 @@ fn slot_of(d: Scheduler, how: Departure, ticket: u32) -> usize
 }
 
 // The minute from which the nodes of a departing job are free.
-fn freed_from(job: Job, how: Departure, settings: Settings, clock: u32) -> u32
-    requires { ⌜ clock ≤ horizon ⌝ }
-    ensures { λ r. ⌜ r ≡ freedFrom settings clock how job ⌝ }
+fn freed_from(how: Departure, start: u32, clock: u32, cleanup: u32) -> u32
+    requires { ⌜ (clock ≤ horizon) × (cleanup ≤ longestCleanup) ⌝ }
+    ensures { λ r. ⌜ r ≡ freedFrom how start clock cleanup ⌝ }
 {
     match how {
-        Departure::Complete => clock + settings.cleanup(),
-        Departure::Cancel => job.start,
+        Departure::Complete => clock + cleanup,
+        Departure::Cancel => start,
+    }
+}
+
+// What a job that departs gives back, by its nodes, its start and its hold time.
+pub fn given_back(
+    how: Departure,
+    nodes: u32,
+    start: u32,
+    hold: u32,
+    clock: u32,
+    cleanup: u32,
+) -> spans::Span
+    requires { ⌜ (start ≤ horizon) × (hold ≤ longestHold) × (clock ≤ horizon) × (cleanup ≤ longestCleanup) ⌝ }
+    ensures { λ r. ⌜ r ≡ freedBy how nodes start hold clock cleanup ⌝ }
+{
+    let from = freed_from(how, start, clock, cleanup);
+    spans::Span {
+        from: from,
+        until: start + hold,
+        nodes: nodes,
     }
 }
 
@@ -155,13 +175,15 @@ fn freed(job: Job, how: Departure, settings: Settings, clock: u32) -> spans::Spa
     requires { ⌜ Low job × (clock ≤ horizon) ⌝ }
     ensures { λ r. ⌜ r ≡ freed settings clock how job ⌝ }
 {
-    let from = freed_from(job, how, settings, clock);
     let hold = settings.hold_time(job.estimate as u32);
-    spans::Span {
-        from: from,
-        until: job.start + hold,
-        nodes: job.nodes as u32,
-    }
+    given_back(
+        how,
+        job.nodes as u32,
+        job.start,
+        hold,
+        clock,
+        settings.cleanup(),
+    )
 }
 
 // A job leaves. What it gives back is taken out of the points, and the waiting jobs move forward.

@@ -32,7 +32,7 @@ use Rattle.conservative_laws.specs.Validity.{Follows, stays, moves, follows-sta
 use Rattle.conservative_laws.specs.PassLoop.{turn, loop, pass-as-loop}
 use Rattle.conservative_laws.specs.Compression.{Movable, Compressible, follows-movable, follows-still, compressed-still, compressed-passed}
 use Rattle.conservative_plan.specs.declared.Replanned.{Replanned}
-use Rattle.conservative_plan.specs.PlannedSlots.{Planned, SlotsOf, Tabulated, planned-jobs, planned-slots}
+use Rattle.conservative_plan.specs.PlannedSlots.{Planned, SlotsOf, planned-jobs, planned-slots}
 use Rattle.conservative_plan.specs.Replan.{Replans, TurnDone, all-instead, movedTo, follows, fits-after}
 
 -- a model whose waiting jobs are planned for later than now

@@ -1,5 +1,6 @@
 -- `conservative_plan::take_turn` meets its contract: the job is sought for with itself in the plan, and moved if there is an earlier start.
 -- Assumes nothing.
+use native.Mathlib.Omega.{arith}
 use Rattle.conservative_plan.specs.Replan.{asked-seeks, asked-moves, asked-low, found-low, turned-back, lifts, lays, turned}
 use Rattle.conservative_plan.proofs.take_turn.Statement.{statement}
 use Rattle.conservative_plan.proofs.take_turn.Tie as tie
@@ -23,7 +24,7 @@ span-requires-2 : tie.Need-span-requires-2
 span-requires-2 c κs =
     let s = c .before .before .before .before .before in
     let a = s .before .before .before .pre in
-    (found-low a (asked-moves a (s .search-before .ensures)), asked-low a .1)
+    (omega (arith, found-low a (asked-moves a (s .search-before .ensures)), asked-low a .0), asked-low a .1)
 
 lay-requires : tie.Need-lay-requires
 lay-requires c κs =
