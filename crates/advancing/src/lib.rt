@@ -1,4 +1,5 @@
 // Minutes that pass at once, on a scheduler of either kind, by value: up to the first in which something is due.
+#![tactic(auto)]
 ghost use Rattle.std.specs.Prelude.{◌≡◌, true, ◌+◌, ◌≤◌};
 ghost use Rattle.scheduler.specs.Model.{view};
 ghost use Rattle.scheduler.specs.Answers.{accepts};
@@ -10,13 +11,13 @@ ghost use Rattle.advancing.specs.Advances.{QuietFor, advances};
 use scheduler::{Answer, Refusal, Scheduler};
 
 // What is answered: how many minutes have passed, and the answer to the last of them.
-#[derive(Drop)]
+#[derive(Clone, Copy)]
 pub struct Advanced {
     pub answer: Answer,
     pub minutes: u32,
 }
 
-#[derive(Drop)]
+#[derive(Clone, Copy)]
 pub struct AdvanceOutcome {
     pub answer: Advanced,
     pub scheduler: Scheduler,

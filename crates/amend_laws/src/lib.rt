@@ -1,1 +1,2 @@
 // What holds of corrected orders, all in specs/: there is no code here.
+#![tactic(auto)]

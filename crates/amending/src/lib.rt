@@ -1,4 +1,5 @@
 // Corrected orders of waiting jobs (document 02, No. 13), of either kind: what becomes of one, and the record that one in place supersedes.
+#![tactic(auto)]
 ghost use Rattle.std.specs.Prelude.{◌≡◌, ◌≤◌};
 ghost use Rattle.lists.specs.Loops.{position};
 ghost use Rattle.scheduler.specs.Limits.{max_nodes, longest_estimate};
@@ -14,7 +15,7 @@ use job_table::Part;
 use scheduler::{Amendment, Departure, Job, Refusal, Scheduler, Settings, Submission, Tickets};
 
 // What becomes of a corrected order: it is refused, or withdrawn and taken in anew as this submission, or supersedes the record in place.
-#[derive(Drop)]
+#[derive(Clone, Copy)]
 pub enum Way {
     Refused(Refusal),
     Anew(Submission),

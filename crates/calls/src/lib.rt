@@ -1,4 +1,5 @@
 // The calls on a scheduler of either kind, by value: each goes by the kind's rules.
+#![tactic(auto)]
 ghost use Rattle.std.specs.Prelude.{◌≡◌, []};
 ghost use Rattle.scheduler.specs.Model.{view};
 ghost use Rattle.scheduler.specs.Answers.{outcome};
@@ -115,7 +116,7 @@ pub fn tick(d: Scheduler) -> Outcome
 }
 
 // The answer of a call that fills a lent list or page: the refusal, and how many elements were written.
-#[derive(Drop)]
+#[derive(Clone, Copy)]
 pub struct Shown {
     pub refusal: Refusal,
     pub count: usize,
@@ -123,7 +124,7 @@ pub struct Shown {
 
 // What a profile call gives, before it is written: how many points there are to write, the answer, and the points. The places past the
 // count are all zero.
-#[derive(Drop)]
+#[derive(Clone, Copy)]
 pub struct ProfileOutcome {
     pub count: usize,
     pub answer: Shown,
@@ -192,7 +193,7 @@ pub fn point_at(p: ProfileOutcome, i: usize) -> Point
 
 // What a call for the index gives, before it is written: how many blocks there are to write, the answer, and the blocks. The places past the
 // count are all zero.
-#[derive(Drop)]
+#[derive(Clone, Copy)]
 pub struct IndexOutcome {
     pub count: usize,
     pub answer: Shown,

@@ -1,4 +1,5 @@
 // Reads the lines of a scheduler that was written out (document 02, No. 11): a record's line. (`script_reading::read_first` reads the `desk` line.)
+#![tactic(auto)]
 ghost use Rattle.std.specs.Prelude.{◌≡◌, [], ◌≤◌, length};
 ghost use Rattle.lists.specs.Pads.{pad};
 ghost use Rattle.scheduler.specs.Jobs.{unused};
@@ -12,7 +13,7 @@ use scheduler::{Job, Scheduler, State, Tenant};
 use text::{Numbers, Parsed};
 
 // What a line gives: a record; a record with numbers out of range, which may not fit their fields; or nothing, since the line lacks the form.
-#[derive(Drop)]
+#[derive(Clone, Copy)]
 pub enum Given {
     Record(Job),
     Beyond,
@@ -120,14 +121,14 @@ pub fn read_job(line: &[u8]) -> Given
 }
 
 // How the lines of a text were read: each record stands in a slot; some cannot be accepted; or a line lacks the form.
-#[derive(Drop)]
+#[derive(Clone, Copy)]
 pub enum Lines {
     Kept,
     Bad,
     Malformed,
 }
 
-#[derive(Drop)]
+#[derive(Clone, Copy)]
 pub struct Records {
     pub lines: Lines,
     pub scheduler: Scheduler,

@@ -1,5 +1,6 @@
 // The calls of either kind over columns, lent lists that are kept from call to call. Conservative backfilling keeps the profile and its index beside
 // the jobs, EASY backfilling who holds nodes and until when. What a kind does not keep of a job stays 0.
+#![tactic(auto)]
 ghost use Rattle.std.specs.Prelude.{List, ◌≤◌, ◌≡◌, length};
 ghost use Rattle.scheduler.specs.declared.Job.{Job};
 ghost use Rattle.scheduler.specs.declared.Settings.{Settings};
@@ -17,7 +18,7 @@ use column_parts::Told;
 use scheduler::{Kind, Request, Scheduler, Settings};
 
 // How many jobs are live, how many points the profile has, how many jobs hold nodes, and the nodes that are free.
-#[derive(Drop)]
+#[derive(Clone, Copy)]
 pub struct Counts {
     pub live: usize,
     pub count: usize,

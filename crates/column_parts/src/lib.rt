@@ -1,4 +1,5 @@
 // The part that a call does on the columns that both kinds have, and what a call tells.
+#![tactic(auto)]
 ghost use Rattle.std.specs.Prelude.{◌≡◌, true, false, List, ℕ, ◌-◌, ◌≤◌, ◌<◌, length, set};
 ghost use Rattle.lists.specs.Tests.{on};
 ghost use Rattle.scheduler.specs.declared.Departure.{Departure};
@@ -23,7 +24,7 @@ use scheduler::{Departure, Refusal, Settings, Tenant};
 
 // What a call answers in numbers, with the clock, the next ticket and the counts of the lists after it: live jobs, points of the profile, jobs
 // that hold nodes, free nodes. The tickets ended and started stand first in lent lists. What a call does not give, or a kind does not have, is 0.
-#[derive(Drop)]
+#[derive(Clone, Copy)]
 pub struct Told {
     pub refusal: Refusal,
     pub ticket: u32,
@@ -83,7 +84,7 @@ pub fn live_of(tenants: &[u32; 64], live: usize, tenant: Tenant, places: u32) ->
 
 // What a departure has done: why it is refused, how many jobs are live then, how many tickets stand in the list of those ended, and the one
 // withdrawn (0 if none).
-#[derive(Drop)]
+#[derive(Clone, Copy)]
 pub struct Left {
     pub refusal: Refusal,
     pub live: usize,
@@ -312,7 +313,7 @@ pub fn leave(
 }
 
 // What a minute has done: how many jobs are live then, how many tickets stand in the list of those ended, and how many waiting jobs are to start.
-#[derive(Drop)]
+#[derive(Clone, Copy)]
 pub struct Expired {
     pub live: usize,
     pub ended: usize,
@@ -320,7 +321,7 @@ pub struct Expired {
 }
 
 // The jobs before a place have been looked at: how many are live, how many ended, how many left, and how many are to start.
-#[derive(Drop)]
+#[derive(Clone, Copy)]
 struct Swept {
     at: usize,
     live: usize,

@@ -1,5 +1,6 @@
 // The index of a profile (document 02: "for each block of 16 points, the fewest and the most free nodes"), and the search for the earliest start.
 // The search goes through the blocks and counts the points that it reads.
+#![tactic(auto)]
 ghost use Rattle.std.specs.Prelude.{◌≡◌, ◌+◌, ◌-◌, min, ◌<◌, ◌≤◌, length};
 ghost use Rattle.conservative_table.specs.ListChanges.{rows};
 ghost use Rattle.conservative_table.specs.ProfileLists.{IsProfile, Laying, Advancing};
@@ -11,7 +12,7 @@ ghost use Rattle.conservative_index.specs.Search.{Searches, Sought};
 ghost use Rattle.conservative_index.specs.Intake.{Took};
 
 // The index as a value. The blocks stand first; the places past the count are all zero.
-#[derive(Drop)]
+#[derive(Clone, Copy)]
 pub struct Blocks {
     pub count: usize,
     pub list: [spans::Block; 9],
@@ -94,7 +95,7 @@ pub fn build(free: &[u32; 131], count: usize, low: &mut [u32; 9], high: &mut [u3
 }
 
 // The state of the search: no minute so far will do; or the nodes have been free since a minute; or a minute is found.
-#[derive(Drop)]
+#[derive(Clone, Copy)]
 pub enum Anchor {
     Lost,
     From(u32),
@@ -102,14 +103,14 @@ pub enum Anchor {
 }
 
 // The state of the search after a block, and how many of its points were read.
-#[derive(Drop)]
+#[derive(Clone, Copy)]
 pub struct Step {
     pub anchor: Anchor,
     pub reads: usize,
 }
 
 // The start, and how many points were read.
-#[derive(Drop)]
+#[derive(Clone, Copy)]
 pub struct Start {
     pub minute: u32,
     pub reads: usize,

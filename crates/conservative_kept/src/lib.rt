@@ -1,5 +1,6 @@
 // Conservative backfilling with the profile and its index kept from call to call, in lists that are lent. Each call brings the lists up to date.
 // Its answer is that of the call by value.
+#![tactic(auto)]
 ghost use Rattle.std.specs.Prelude.{◌≡◌, ◌≤◌, length};
 ghost use Rattle.lists.specs.Loops.{position};
 ghost use Rattle.scheduler.specs.Limits.{horizon, longest_hold, longest_cleanup};
@@ -18,7 +19,7 @@ ghost use Rattle.conservative_kept.specs.Depart.{slot_at, freed_from, freed_by, 
 use scheduler::{Departure, Job, Outcome, Refusal, Request, Scheduler, Settings, Submission};
 
 // What a call gives, and how many points there are after it.
-#[derive(Drop)]
+#[derive(Clone, Copy)]
 pub struct Kept {
     pub outcome: Outcome,
     pub count: usize,

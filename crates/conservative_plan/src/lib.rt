@@ -1,5 +1,6 @@
 // Where conservative backfilling places jobs: the profile of a scheduler's plan, the earliest start of a job in it, and the passes in which waiting
 // jobs move forward after an early completion or a withdrawal. `conservative` has the calls.
+#![tactic(auto)]
 ghost use Rattle.std.specs.Prelude.{◌≡◌, ◌≤◌, ◌<◌, length};
 ghost use Rattle.scheduler.specs.Limits.{horizon, longest_hold, slots};
 ghost use Rattle.scheduler.specs.Settings.{hold_time, until};
@@ -119,7 +120,7 @@ pub fn place(job: Job, now: u32, s: u32) -> Job
 }
 
 // A start, and how many points the profile has with a job there.
-#[derive(Drop)]
+#[derive(Clone, Copy)]
 pub struct Turn {
     pub start: u32,
     pub count: usize,
@@ -158,7 +159,7 @@ pub fn take_turn(
 }
 
 // A job where it is planned, and how many points the profile then has.
-#[derive(Drop)]
+#[derive(Clone, Copy)]
 pub struct Replanned {
     pub job: Job,
     pub count: usize,
@@ -212,7 +213,7 @@ pub fn slot_after(i: usize, size: usize) -> usize
 }
 
 // The scheduler after the passes, and how many points its profile has.
-#[derive(Drop)]
+#[derive(Clone, Copy)]
 pub struct Passed {
     pub scheduler: Scheduler,
     pub count: usize,

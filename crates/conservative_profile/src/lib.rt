@@ -1,12 +1,13 @@
 // The profile of a machine as points by value (document 01: "profile"): now, and each later minute whose free nodes differ from those of
 // the minute before.
+#![tactic(auto)]
 ghost use Rattle.std.specs.Prelude.{◌≡◌};
 ghost use Rattle.spans.specs.Spans.{profile};
 ghost use Rattle.conservative_profile.specs.StoredProfile.{stored};
 ghost use Rattle.conservative_profile.specs.CopiedPoints.{Copies};
 
 // The points stand first; the places past the count are all zero.
-#[derive(Drop)]
+#[derive(Clone, Copy)]
 pub struct Profile {
     pub count: usize,
     pub points: [spans::Point; 129],

@@ -1,1 +1,2 @@
 // Conservative backfilling: what each call gives, all in specs/: there is no code here.
+#![tactic(auto)]

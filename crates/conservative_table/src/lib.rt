@@ -1,5 +1,6 @@
 // The profile of a machine in two lent lists that are changed in place: the minutes of its points, and in the same places how many nodes are free
 // from each minute on. While a span is laid over it or taken out, there may be two more places, at which nothing changes.
+#![tactic(auto)]
 ghost use Rattle.std.specs.Prelude.{◌≡◌, [], ◌∷◌, ◌+◌, min, ◌<◌, ◌≤◌, length};
 ghost use Rattle.conservative_table.specs.ListChanges.{rows, Inserted, Removed, Adjusted, Adjustable};
 ghost use Rattle.conservative_table.specs.Table.{Ascends, Place, Split};
@@ -9,14 +10,14 @@ ghost use Rattle.conservative_table.specs.ProfileLists.{IsProfile, Changed, Layi
 ghost use Rattle.conservative_table.specs.Search.{Ending, Reached, Skipped, Seeks, Finds};
 
 // A place of the lists, and how many places are used: of a minute; or the first that may have changed.
-#[derive(Drop)]
+#[derive(Clone, Copy)]
 pub struct Row {
     pub at: usize,
     pub count: usize,
 }
 
 // A minute, and a place of the lists whose minute is not later.
-#[derive(Drop)]
+#[derive(Clone, Copy)]
 pub struct Found {
     pub minute: u32,
     pub near: usize,

@@ -1,5 +1,6 @@
 // The earliest possible start of a waiting job, for either kind (document 02, No. 7: "soonest minute"). It is EASY's search for the shadow, over
 // the minutes in which nodes are given back at the earliest. It looks at no minute between these.
+#![tactic(auto)]
 ghost use Rattle.std.specs.Prelude.{◌≡◌, true, ◌≤◌, ◌<◌};
 ghost use Rattle.lists.specs.Lists.{first};
 ghost use Rattle.scheduler.specs.Limits.{horizon};
@@ -31,7 +32,7 @@ fn released(job: Job, settings: Settings, now: u32) -> u32
 }
 
 // How many jobs hold nodes, and how many nodes are free.
-#[derive(Drop)]
+#[derive(Clone, Copy)]
 struct Taken {
     running: usize,
     spare: u32,

@@ -1,6 +1,7 @@
 // EASY backfilling (document 01: "Loose Desk") over columns, lent lists that are kept from call to call: what each call does to them, and what
 // it answers. Besides the columns that both kinds have there are, of each live job, the nodes that it asks for while it waits, when it was
 // submitted, its rank and its forecast; and of those that hold nodes, in any order, how many, until when, and their tickets.
+#![tactic(auto)]
 ghost use Rattle.std.specs.Prelude.{◌≡◌, List, [], ◌∷◌, ◌++◌, cond, ℕ, ◌+◌, ◌-◌, ◌≤◌, ◌<◌, eqb, length, take};
 ghost use Rattle.std.proofs.Math.Option.{Option};
 ghost use Rattle.lists.specs.Loops.{position};
@@ -51,7 +52,7 @@ fn take_out(list: &mut [u32; 64], at: usize, last: usize)
 }
 
 // How many jobs hold nodes, and the nodes that are free.
-#[derive(Drop)]
+#[derive(Clone, Copy)]
 pub struct Taken {
     pub holding: usize,
     pub spare: u32,

@@ -1,6 +1,7 @@
 // EASY backfilling (document 01: "Loose Desk") over lent lists of numbers: which of the waiting jobs start, one after another. For the jobs that
 // hold nodes the lists have the nodes and the minutes in which they are free again, in any order. For the waiting jobs, in ticket order, they have
 // nodes and estimates.
+#![tactic(auto)]
 ghost use Rattle.std.specs.Prelude.{◌≡◌, true, cond, ◌&&◌, ◌||◌, List, ◌+◌, ◌≤◌, ◌<◌, leb, ltb, length};
 ghost use Rattle.lists.specs.Tests.{on};
 ghost use Rattle.lists.specs.Loops.{position};
@@ -212,7 +213,7 @@ fn start(
 }
 
 // How many jobs run after a settling, how many of them it started, and the nodes then free.
-#[derive(Drop)]
+#[derive(Clone, Copy)]
 struct Settled {
     running: usize,
     count: usize,
@@ -295,7 +296,7 @@ fn rests(before: u32, asked: &[u32; 64], tickets: &[u32; 64], waiting: usize, sp
 }
 
 // A job that is head now and was not before, with its forecast; 0 if there is none.
-#[derive(Drop)]
+#[derive(Clone, Copy)]
 pub struct Announced {
     pub ticket: u32,
     pub minute: u32,
@@ -358,7 +359,7 @@ pub fn head_before(first: u32, ticket: u32, withdrawn: u32) -> u32
 }
 
 // What a call answers by settling: how many jobs start, and the new head with its forecast.
-#[derive(Drop)]
+#[derive(Clone, Copy)]
 pub struct Answered {
     pub started: usize,
     pub head: u32,
@@ -438,7 +439,7 @@ pub fn rests_at(before: u32, asked: &[u32; 64], first: u32, live: usize, spare: 
 }
 
 // How many jobs start, the new head with its forecast, and the nodes then free.
-#[derive(Drop)]
+#[derive(Clone, Copy)]
 pub struct SlotAnswer {
     pub started: usize,
     pub head: u32,

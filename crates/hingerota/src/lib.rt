@@ -1,5 +1,6 @@
 // The calls for a host program in C or Rust, exported by plain names. The header is host/include/hingerota.h. An exported function can hold no
 // enum, so the host's desk is the scheduler in numbers. Each call reads it and mirrors the result back.
+#![tactic(auto)]
 ghost use Rattle.std.specs.Prelude.{◌≡◌, true};
 ghost use Rattle.scheduler.specs.Answers.{code};
 ghost use Rattle.history.specs.Calls as calls;
@@ -24,7 +25,7 @@ use scheduler::{Job, Kind, Refusal, Scheduler, Settings, State, Submission, Tena
 // What a desk is opened with: the machine's nodes, the first minute, the first ticket, for how many minutes nodes stay taken after a run, and how
 // many live jobs A and B may have.
 #[repr(C)]
-#[derive(Drop)]
+#[derive(Clone, Copy)]
 pub struct Opening {
     pub nodes: u32,
     pub minute: u32,
@@ -36,7 +37,7 @@ pub struct Opening {
 
 // What is asked for a job. The estimate is the most that it runs, and the tenant is a letter, A (65) or B (66).
 #[repr(C)]
-#[derive(Drop)]
+#[derive(Clone, Copy)]
 pub struct Order {
     pub nodes: u32,
     pub estimate: u32,
@@ -46,7 +47,7 @@ pub struct Order {
 
 // A corrected order for the waiting job with this ticket: what is asked for it from now on. Its tenant stays.
 #[repr(C)]
-#[derive(Drop)]
+#[derive(Clone, Copy)]
 pub struct Amendment {
     pub ticket: u32,
     pub nodes: u32,
@@ -56,7 +57,7 @@ pub struct Amendment {
 
 // A job in numbers: state 0 unused, 1 waiting, 2 running, 3 in cleanup; the tenant's letter, 0 if unused.
 #[repr(C)]
-#[derive(Drop)]
+#[derive(Clone, Copy)]
 pub struct Record {
     pub ticket: u32,
     pub nodes: u16,
@@ -74,7 +75,7 @@ pub struct Record {
 
 // A scheduler in numbers: kind 0 conservative, 1 EASY.
 #[repr(C)]
-#[derive(Drop)]
+#[derive(Clone, Copy)]
 pub struct Desk {
     pub kind: u32,
     pub nodes: u32,
@@ -87,7 +88,7 @@ pub struct Desk {
 }
 
 #[repr(C)]
-#[derive(Drop)]
+#[derive(Clone, Copy)]
 pub struct Tickets {
     pub count: usize,
     pub list: [u32; 64],
@@ -95,7 +96,7 @@ pub struct Tickets {
 
 // What a call answers; the refusal is the number of documents 01 and 02.
 #[repr(C)]
-#[derive(Drop)]
+#[derive(Clone, Copy)]
 pub struct Answer {
     pub refusal: u32,
     pub ticket: u32,
@@ -108,7 +109,7 @@ pub struct Answer {
     pub started: Tickets,
 }
 
-#[derive(Drop)]
+#[derive(Clone, Copy)]
 pub struct Outcome {
     pub answer: Answer,
     pub desk: Desk,
@@ -116,20 +117,20 @@ pub struct Outcome {
 
 // What minutes that pass at once answer: the answer to the last of them, and how many have passed.
 #[repr(C)]
-#[derive(Drop)]
+#[derive(Clone, Copy)]
 pub struct Advanced {
     pub answer: Answer,
     pub minutes: u32,
 }
 
-#[derive(Drop)]
+#[derive(Clone, Copy)]
 pub struct AdvanceOutcome {
     pub answer: Advanced,
     pub desk: Desk,
 }
 
 #[repr(C)]
-#[derive(Drop)]
+#[derive(Clone, Copy)]
 pub struct Opened {
     pub refusal: u32,
     pub desk: Desk,
@@ -137,7 +138,7 @@ pub struct Opened {
 
 // `free` nodes are free from `minute` on.
 #[repr(C)]
-#[derive(Drop)]
+#[derive(Clone, Copy)]
 pub struct Point {
     pub minute: u32,
     pub free: u32,
@@ -145,7 +146,7 @@ pub struct Point {
 
 // Of a block of 16 points: the fewest free nodes, and the most.
 #[repr(C)]
-#[derive(Drop)]
+#[derive(Clone, Copy)]
 pub struct Block {
     pub fewest: u32,
     pub most: u32,
@@ -153,7 +154,7 @@ pub struct Block {
 
 // What a call for the profile, the index, the status page or the lines answers; the refusal is the number of documents 01 and 02.
 #[repr(C)]
-#[derive(Drop)]
+#[derive(Clone, Copy)]
 pub struct Shown {
     pub refusal: u32,
     pub count: usize,
@@ -161,7 +162,7 @@ pub struct Shown {
 
 // The minute before which a waiting job cannot start; the refusal is document 02's number, and the minute is then 0.
 #[repr(C)]
-#[derive(Drop)]
+#[derive(Clone, Copy)]
 pub struct Earliest {
     pub refusal: u32,
     pub minute: u32,
@@ -169,7 +170,7 @@ pub struct Earliest {
 
 // The question how long a job of this many nodes may be, submitted now by the tenant of this letter, to start by this minute.
 #[repr(C)]
-#[derive(Drop)]
+#[derive(Clone, Copy)]
 pub struct Inquiry {
     pub nodes: u32,
     pub tenant: u32,
@@ -178,20 +179,20 @@ pub struct Inquiry {
 
 // The largest estimate that starts in time; 0 if there is none. The refusal is document 02's number, and the estimate is then 0.
 #[repr(C)]
-#[derive(Drop)]
+#[derive(Clone, Copy)]
 pub struct Longest {
     pub refusal: u32,
     pub estimate: u32,
 }
 
-#[derive(Drop)]
+#[derive(Clone, Copy)]
 pub struct ProfileOutcome {
     pub count: usize,
     pub answer: Shown,
     pub points: [spans::Point; 129],
 }
 
-#[derive(Drop)]
+#[derive(Clone, Copy)]
 pub struct IndexOutcome {
     pub count: usize,
     pub answer: Shown,

@@ -1,6 +1,7 @@
 // The job table: the parts of calls that both kinds share, each done in place. A job leaves on request. Runs end, and jobs leave or are in cleanup
 // from then on. It finds the first unused slot for a job that comes in, counts the jobs that wait, and gives the refusals of these calls by
 // numbers.
+#![tactic(auto)]
 ghost use Rattle.std.specs.Prelude.{◌≡◌, length, take, ◌≤◌};
 ghost use Rattle.lists.specs.Lists.{keep};
 ghost use Rattle.scheduler.specs.Limits.{slots};
@@ -21,7 +22,7 @@ const LAST: usize = Scheduler::LIVE - 1;
 
 // What a call has done on the table: why it is refused, the ticket that it gives, the tickets that it ends, the ticket that it withdraws (0 if
 // none), and the scheduler.
-#[derive(Drop)]
+#[derive(Clone, Copy)]
 pub struct Part {
     pub refusal: Refusal,
     pub ticket: u32,
@@ -241,7 +242,7 @@ fn capped(clock: u32) -> u32
 }
 
 // What a tick does to a job.
-#[derive(Drop)]
+#[derive(Clone, Copy)]
 enum Due {
     Stays,
     Ends,

@@ -1,5 +1,6 @@
 // Calls over what is lent, on both kinds of scheduler. It prints what each call answers, refusals too. It prints what stands in a list lent for the
 // profile or the index, and in bytes lent for the status page or the lines. The lines are read back, and calls go on from there.
+#![tactic(auto)]
 ghost use Rattle.std.specs.Prelude.{◌≤◌, length};
 ghost use Rattle.jobs.specs.Soundness.{Sound};
 ghost use Rattle.jobs.specs.Premise.{Holds};
@@ -95,7 +96,7 @@ fn lent_advance(d: Scheduler, minutes: u32) -> AdvanceOutcome
     }
 }
 
-#[derive(Drop)]
+#[derive(Clone, Copy)]
 pub struct ListOfNone {
     pub answer: Shown,
     pub points: [Point; 0],
@@ -113,7 +114,7 @@ fn into_none(d: Scheduler, points: [Point; 0]) -> ListOfNone
     }
 }
 
-#[derive(Drop)]
+#[derive(Clone, Copy)]
 pub struct ListOfFour {
     pub answer: Shown,
     pub points: [Point; 4],
@@ -131,7 +132,7 @@ fn into_four(d: Scheduler, points: [Point; 4]) -> ListOfFour
     }
 }
 
-#[derive(Drop)]
+#[derive(Clone, Copy)]
 pub struct ListOfTwo {
     pub answer: Shown,
     pub blocks: [Block; 2],

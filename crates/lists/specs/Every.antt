@@ -27,7 +27,7 @@ then_when true f = f refl
 then_when false f = refl
 
 module _ {A : Type 0} where
-  pub every_in : (p : A → Bool) {xs : List A} {a : A} → every p xs ≡ true → In a xs → p a ≡ true
+  pub every_in : (p : A → Bool) {a : A} {xs : List A} → every p xs ≡ true → In a xs → p a ≡ true
   every_in p e (here {x = x} {xs = xs} q) = subst (λ (y : A). p y ≡ true) (sym q) (both (p x) (every p xs) e).0
   every_in p e (there {x = x} {xs = xs} i) = every_in p (both (p x) (every p xs) e).1 i
 

@@ -47,7 +47,7 @@ in_cons (here e) = inl e
 in_cons (there i) = inr i
 
 module _ {A : Type 0} where
-  pub all_in : (P : A → Type 0) {xs : List A} {a : A} → All P xs → In a xs → P a
+  pub all_in : (P : A → Type 0) {a : A} {xs : List A} → All P xs → In a xs → P a
   all_in P ps (here e) = subst P (sym e) ps.0
   all_in P ps (there i) = all_in P ps.1 i
 
@@ -71,7 +71,7 @@ module _ {A : Type 0} where
   pub all_at : (P : A → Type 0) (xs : List A) (i : ℕ) (z : A) → All P xs → i < length xs → P (get_or xs i z)
   all_at P xs i z a h = all_in P a (in_getD xs i z h)
 
-  pub in_map : {B : Type 0} (f : A → B) {xs : List A} {a : A} → In a xs → In (f a) (map f xs)
+  pub in_map : {B : Type 0} (f : A → B) {a : A} {xs : List A} → In a xs → In (f a) (map f xs)
   in_map f (here e) = here (ap f e)
   in_map f (there i) = there (in_map f i)
 
@@ -83,7 +83,7 @@ module _ {A : Type 0} where
       go (inl e) k = (x, here refl, e)
       go (inr l) k = let r = k l in (r.0, there r.1, r.2)
 
-  pub in_left : {xs : List A} (ys : List A) {a : A} → In a xs → In a (xs ++ ys)
+  pub in_left : {a : A} {xs : List A} (ys : List A) → In a xs → In a (xs ++ ys)
   in_left ys (here e) = here e
   in_left ys (there i) = there (in_left ys i)
 
@@ -110,7 +110,7 @@ module _ {A : Type 0} where
       kept e (inl q) f = (here q, ap p q ∙ e)
       kept e (inr k) f = passed (f k)
 
-  pub in_keep : (p : A → Bool) {xs : List A} {a : A} → In a xs → p a ≡ true → In a (keep p xs)
+  pub in_keep : (p : A → Bool) {a : A} {xs : List A} → In a xs → p a ≡ true → In a (keep p xs)
   in_keep p (here q) e = rw (ap p (sym q) ∙ e) (here q)
   in_keep p (there {x = x} i) e = case (p x) (λ q. rw q (there (in_keep p i e))) (λ q. rw q (in_keep p i e))
 
@@ -137,7 +137,7 @@ module _ {A : Type 0} where
   keep_all p (x ∷ xs) f = rw (f x (here refl), keep_all p xs (λ a i. f a (there i)))
 
   -- where none passes a test, each fails it
-  pub any_none : (p : A → Bool) {xs : List A} {a : A} → any p xs ≡ false → In a xs → p a ≡ false
+  pub any_none : (p : A → Bool) {a : A} {xs : List A} → any p xs ≡ false → In a xs → p a ≡ false
   any_none p e (here {x = x} {xs = xs} z) = ap p z ∙ (neither (p x) (any p xs) e).0
   any_none p e (there {x = x} {xs = xs} i) = any_none p (neither (p x) (any p xs) e).1 i
 
@@ -146,7 +146,7 @@ module _ {A : Type 0} where
   none_any p [] f = refl
   none_any p (x ∷ xs) f = rw (f x (here refl)) (none_any p xs (λ a i. f a (there i)))
 
-  pub any_in : (p : A → Bool) {xs : List A} {a : A} → In a xs → p a ≡ true → any p xs ≡ true
+  pub any_in : (p : A → Bool) {a : A} {xs : List A} → In a xs → p a ≡ true → any p xs ≡ true
   any_in p (here z) e = rw (sym (ap p z) ∙ e)
   any_in p (there {x = x} i) e = case (p x) (λ y. rw y) (λ y. rw y (any_in p i e))
 
@@ -214,7 +214,7 @@ module _ {A : Type 0} where
   sum_zero f [] h = refl
   sum_zero f (x ∷ xs) h = omega (arith, h x (here refl), sum_zero f xs (λ a i. h a (there i)))
 
-  pub sum_in : (f : A → ℕ) {xs : List A} {a : A} → In a xs → f a ≤ sum f xs
+  pub sum_in : (f : A → ℕ) {a : A} {xs : List A} → In a xs → f a ≤ sum f xs
   sum_in f {a = a} (here {x = x} e) = let q : f a ≡ f x = ap f e in omega arith
   sum_in f (there i) = omega (arith, sum_in f i)
 

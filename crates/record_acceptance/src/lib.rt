@@ -1,6 +1,7 @@
 // A scheduler that is read back is tested (document 02, No. 11). Here are the tests of the `desk` line's numbers, of the tickets, of the shares and
 // of each record by itself. Any number may stand in a field, so that no sum is made of numbers that may be high. The code compares a difference, or
 // tests the parts first.
+#![tactic(auto)]
 ghost use Rattle.std.specs.Prelude.{◌≡◌, ◌&&◌, leb};
 ghost use Rattle.lists.specs.Every.{every, when};
 ghost use Rattle.scheduler.specs.Settings.{horizon, until};

@@ -1,4 +1,6 @@
 // The scheduler of one machine (document 01: "desk", "rack"): its limits, its jobs by value, opening, and what calls answer.
+#![tactic(auto)]
+
 ghost use Rattle.std.specs.Prelude.{◌≡◌, ◌≤◌};
 ghost use Rattle.scheduler.specs.Limits.{max_nodes, longest_estimate, limits, outside, misdivided};
 ghost use Rattle.scheduler.specs.Jobs.{unused, fresh, entered, foretold, job_at, cleaning, is_running, is_cleaning, is_holding, too_early, released_at, picks};
@@ -11,13 +13,13 @@ ghost use Rattle.scheduler.specs.Answers.{code, accepts, refused_answer, refused
 ghost use Rattle.scheduler.specs.Opening.{opening_refusal, opened};
 
 // Which rules the scheduler follows: conservative backfilling ("Promise Desk") or EASY backfilling ("Loose Desk").
-#[derive(Drop)]
+#[derive(Clone, Copy)]
 pub enum Kind {
     Conservative,
     Easy,
 }
 
-#[derive(Drop)]
+#[derive(Clone, Copy)]
 pub enum State {
     Unused,
     Waiting,
@@ -26,7 +28,7 @@ pub enum State {
 }
 
 // Whose job it is (document 02, No. 4: the "houses" A and B). An unused slot is nobody's. A submission that names neither A nor B is nobody's too.
-#[derive(Drop)]
+#[derive(Clone, Copy)]
 pub enum Tenant {
     Nobody,
     A,
@@ -38,7 +40,7 @@ pub enum Tenant {
 // it can be over. EASY keeps three more values of a job until it leaves: the minute in which it was submitted, its rank then (document 01: "r") and
 // its forecast, 0 if it has none. In conservative backfilling all three are 0 (document 02, No. 11). Nodes and run lengths have 16 bits: a
 // scheduler copies its 64 jobs wherever it is handed on.
-#[derive(Drop)]
+#[derive(Clone, Copy)]
 pub struct Job {
     pub ticket: u32,
     pub nodes: u16,
@@ -56,7 +58,7 @@ pub struct Job {
 
 // What an opening fixes: the rules, the machine's nodes, for how many minutes nodes stay taken after a run (document 02: "clearing"), how many live
 // jobs each tenant may have ("places"), and the longest estimate that a submission may have.
-#[derive(Drop)]
+#[derive(Clone, Copy)]
 pub struct Settings {
     pub kind: Kind,
     pub nodes: u32,
@@ -67,7 +69,7 @@ pub struct Settings {
 }
 
 // The live jobs stand first, in ticket order; the slots after them are unused.
-#[derive(Drop)]
+#[derive(Clone, Copy)]
 pub struct Scheduler {
     pub settings: Settings,
     pub clock: u32,
@@ -75,7 +77,7 @@ pub struct Scheduler {
     pub jobs: [Job; 64],
 }
 
-#[derive(Drop)]
+#[derive(Clone, Copy)]
 pub struct Limits {
     pub nodes: u32,
     pub horizon: u32,
@@ -88,7 +90,7 @@ pub struct Limits {
 }
 
 // Why a call is refused; `code` gives the documents' number. (4, "64 stacks live", has gone with the quotas.)
-#[derive(Drop)]
+#[derive(Clone, Copy)]
 pub enum Refusal {
     None,
     NodesOutOfRange,
@@ -115,14 +117,14 @@ pub enum Refusal {
 }
 
 // Tickets in order; the places past the count are 0.
-#[derive(Drop)]
+#[derive(Clone, Copy)]
 pub struct Tickets {
     pub count: usize,
     pub list: [u32; 64],
 }
 
 // What a call answers. What a call does not give is 0.
-#[derive(Drop)]
+#[derive(Clone, Copy)]
 pub struct Answer {
     pub refusal: Refusal,
     pub ticket: u32,
@@ -135,21 +137,21 @@ pub struct Answer {
     pub forecast: u32,
 }
 
-#[derive(Drop)]
+#[derive(Clone, Copy)]
 pub struct Outcome {
     pub answer: Answer,
     pub scheduler: Scheduler,
 }
 
 // The minute before which a waiting job cannot start (document 02, No. 7: "soonest minute"); 0 where it is refused.
-#[derive(Drop)]
+#[derive(Clone, Copy)]
 pub struct Earliest {
     pub refusal: Refusal,
     pub minute: u32,
 }
 
 // The question how long a job of this many nodes may be, submitted now by this tenant, to start by this minute (document 02, No. 9).
-#[derive(Drop)]
+#[derive(Clone, Copy)]
 pub struct Inquiry {
     pub nodes: u32,
     pub tenant: Tenant,
@@ -157,27 +159,27 @@ pub struct Inquiry {
 }
 
 // The largest estimate that starts in time; 0 if there is none, and 0 if the question is refused.
-#[derive(Drop)]
+#[derive(Clone, Copy)]
 pub struct Longest {
     pub refusal: Refusal,
     pub estimate: u32,
 }
 
-#[derive(Drop)]
+#[derive(Clone, Copy)]
 pub struct Opening {
     pub settings: Settings,
     pub minute: u32,
     pub ticket: u32,
 }
 
-#[derive(Drop)]
+#[derive(Clone, Copy)]
 pub struct Opened {
     pub refusal: Refusal,
     pub scheduler: Scheduler,
 }
 
 // What a submission asks for (document 01: "intake"): the estimate is the most that the job runs (document 02, No. 7).
-#[derive(Drop)]
+#[derive(Clone, Copy)]
 pub struct Submission {
     pub nodes: u32,
     pub estimate: u32,
@@ -186,7 +188,7 @@ pub struct Submission {
 }
 
 // A corrected order for the waiting job with this ticket (document 02, No. 13): what is asked for it from now on. Its tenant stays.
-#[derive(Drop)]
+#[derive(Clone, Copy)]
 pub struct Amendment {
     pub ticket: u32,
     pub nodes: u32,
@@ -195,14 +197,14 @@ pub struct Amendment {
 }
 
 // How a job leaves on request: one that runs is over early, one that waits is withdrawn.
-#[derive(Drop)]
+#[derive(Clone, Copy)]
 pub enum Departure {
     Complete,
     Cancel,
 }
 
 // What a call asks of a scheduler.
-#[derive(Drop)]
+#[derive(Clone, Copy)]
 pub enum Request {
     Submit(Submission),
     Depart(Departure, u32),
@@ -210,7 +212,7 @@ pub enum Request {
 }
 
 // A test of a job, as a value: definitions pick jobs by it.
-#[derive(Drop)]
+#[derive(Clone, Copy)]
 pub enum Select {
     Live,
     Waiting,

@@ -1,10 +1,11 @@
 // Where a script stands between two of its pieces.
+#![tactic(auto)]
 ghost use Rattle.std.specs.Prelude.{◌≡◌};
 ghost use Rattle.script_play.specs.Progress.{goes_on_of};
 
 use scheduler::Scheduler;
 
-#[derive(Drop)]
+#[derive(Clone, Copy)]
 pub enum Stage {
     First,
     Playing,
@@ -24,7 +25,7 @@ impl Stage {
 }
 
 // The place of the next line, the steps of a wait still to go, and the scheduler.
-#[derive(Drop)]
+#[derive(Clone, Copy)]
 pub struct Play {
     pub stage: Stage,
     pub at: usize,
@@ -33,7 +34,7 @@ pub struct Play {
 }
 
 // What a page is left with: where its lines end, and where the script stands then.
-#[derive(Drop)]
+#[derive(Clone, Copy)]
 pub struct Played {
     pub end: usize,
     pub play: Play,

@@ -1,4 +1,5 @@
 // A line of a script, read into what it asks. Each field goes through the field reader to the number reader: there is no second parser.
+#![tactic(auto)]
 ghost use Rattle.std.specs.Prelude.{◌≡◌, drop};
 ghost use Rattle.std.proofs.Math.Option.{some};
 ghost use Rattle.text.specs.Prefixes.{upto};
@@ -15,14 +16,14 @@ use scheduler::{Departure, Kind, Opening, Request, Scheduler, Settings, Submissi
 use text::{Line, Numbers, Parsed};
 
 // What a script's first line asks.
-#[derive(Drop)]
+#[derive(Clone, Copy)]
 pub enum FirstLine {
     Opens(Opening),
     Malformed,
 }
 
 // What a later line asks.
-#[derive(Drop)]
+#[derive(Clone, Copy)]
 pub enum Asked {
     Call(Request),
     Wait(u32),
@@ -30,7 +31,7 @@ pub enum Asked {
 }
 
 // Which rules a word names.
-#[derive(Drop)]
+#[derive(Clone, Copy)]
 pub enum Named {
     Rules(Kind),
     Nothing,
@@ -99,7 +100,7 @@ pub fn read_first(line: &[u8]) -> FirstLine
 }
 
 // What the fields of a later line ask, as far as they were read: up to a place of the line.
-#[derive(Drop)]
+#[derive(Clone, Copy)]
 struct Row {
     asked: Asked,
     end: usize,
@@ -234,7 +235,7 @@ fn read_row(script: &[u8], at: usize) -> Row
 }
 
 // A later line, and where it ends.
-#[derive(Drop)]
+#[derive(Clone, Copy)]
 pub struct Later {
     pub asked: Asked,
     pub line: Line,

@@ -1,4 +1,5 @@
 // One turn of a script: its first line, played into a lent page; and what comes next of the later ones, a step of a wait or a line.
+#![tactic(auto)]
 ghost use Rattle.std.specs.Prelude.{◌≡◌, ◌≤◌, ◌<◌, length};
 ghost use Rattle.paging.specs.Players.{piece, Turned};
 ghost use Rattle.scheduler.specs.Answers.{code};
@@ -90,14 +91,14 @@ pub fn first(p: Play, script: &[u8], page: &mut [u8]) -> Played
 }
 
 // What comes next: what is asked, or that the script is over.
-#[derive(Drop)]
+#[derive(Clone, Copy)]
 pub enum Turn {
     Asks(Asked),
     Over,
 }
 
 // A turn, where the line after it begins, and how many steps of a wait are left after it.
-#[derive(Drop)]
+#[derive(Clone, Copy)]
 pub struct Next {
     pub turn: Turn,
     pub at: usize,

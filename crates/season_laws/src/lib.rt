@@ -1,1 +1,2 @@
 // What holds of every season: theorems about the definitions of `season_rules`.
+#![tactic(auto)]

@@ -1,4 +1,5 @@
 // A season's list, read line by line: its first line into an opening, each later one into an arrival.
+#![tactic(auto)]
 ghost use Rattle.std.specs.Prelude.{◌≡◌, suc, min, ◌≤◌, length};
 ghost use Rattle.desk_lines.specs.DeskLine.{with_kind};
 ghost use Rattle.script_reading.specs.Meaning.{opens, follows, when_read};
@@ -16,7 +17,7 @@ use text::{Numbers, Parsed};
 const MOST_LINES: usize = 4096;
 
 // What stands next in a list: an arrival, a line that lacks the form, or nothing.
-#[derive(Drop)]
+#[derive(Clone, Copy)]
 pub enum Listed {
     Is(Arrival),
     Malformed,
@@ -24,7 +25,7 @@ pub enum Listed {
 }
 
 // What stands next, and where the line after it begins.
-#[derive(Drop)]
+#[derive(Clone, Copy)]
 pub struct Ahead {
     pub listed: Listed,
     pub next: usize,
@@ -68,7 +69,7 @@ pub fn read_settings(line: &[u8]) -> FirstLine
 }
 
 // What the fields of a line list, as far as they were read: up to a place of the line.
-#[derive(Drop)]
+#[derive(Clone, Copy)]
 struct Row {
     listed: Listed,
     end: usize,

@@ -1,4 +1,5 @@
 // One turn of a season: what comes next, and the parts of it that look at every job. The player's loop is in `season_filling`.
+#![tactic(auto)]
 ghost use Rattle.std.specs.Prelude.{◌≡◌, ◌+◌, ◌-◌, ◌≤◌, ◌<◌, length, set};
 ghost use Rattle.text.specs.WrittenBytes.{Wrote};
 ghost use Rattle.scheduler.specs.Limits.{horizon};
@@ -94,7 +95,7 @@ pub fn note(list: &mut [u32; 4096], ticket: u32, v: u32)
 
 // What comes next: the job in a slot ends at its actual run length; a line is refused without waiting for its minute; a job arrives; minutes pass,
 // up to one in which a line waits to arrive; or the season is over.
-#[derive(Drop)]
+#[derive(Clone, Copy)]
 pub enum Coming {
     Ends(usize),
     Refuses(Refusal),

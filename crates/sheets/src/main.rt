@@ -1,4 +1,5 @@
 // Plays the day sheets that the arguments name, each after its name.
+#![tactic(auto)]
 fn main() {
     script_runner::run_files();
 }

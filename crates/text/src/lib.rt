@@ -1,4 +1,5 @@
 // The text that scripts are written in: lines, their fields, numbers and words, read from byte slices and written to them.
+#![tactic(auto)]
 ghost use Rattle.std.specs.Prelude.{◌≡◌, [], ◌∷◌, ◌+◌, ◌≤◌, length, drop, replicate};
 ghost use Rattle.std.proofs.lemmas.List.Edits.{sets};
 ghost use Rattle.text.specs.Fields.{fields_of, field_of, fields_from};
@@ -73,7 +74,7 @@ pub fn field_count(line: &[u8]) -> usize
 }
 
 // What a part says as a number.
-#[derive(Drop)]
+#[derive(Clone, Copy)]
 pub enum Parsed {
     Is(u32),
     Not,
@@ -120,7 +121,7 @@ fn digits(part: &[u8]) -> Parsed
 }
 
 // Numbers in order; the places past the count are 0.
-#[derive(Drop)]
+#[derive(Clone, Copy)]
 pub struct Numbers {
     pub count: usize,
     pub values: [u32; 8],
@@ -223,7 +224,7 @@ fn field_at(text: &[u8], from: usize) -> &[u8]
 }
 
 // What a field says, and where it ends.
-#[derive(Drop)]
+#[derive(Clone, Copy)]
 pub struct ReadField {
     pub said: Parsed,
     pub end: usize,
@@ -389,7 +390,7 @@ pub fn put_number_right(out: &mut [u8], at: usize, width: usize, v: u32) -> usiz
 }
 
 // Where a line ends, and whether byte 10 closes it there.
-#[derive(Drop)]
+#[derive(Clone, Copy)]
 pub struct Line {
     pub end: usize,
     pub closed: bool,
@@ -407,7 +408,7 @@ pub fn next_line(text: &[u8], from: usize) -> Line
 }
 
 // How a text begins: it is empty; it is too long or its first line is not closed; or that line ends at a place.
-#[derive(Drop)]
+#[derive(Clone, Copy)]
 pub enum Begins {
     Nothing,
     Malformed,

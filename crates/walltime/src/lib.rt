@@ -1,10 +1,12 @@
 // Wall times (document 01: "held time", "the wall chart"): the minutes that an estimate reserves.
+#![tactic(auto)]
+
 ghost use Rattle.std.specs.Prelude.{◌≡◌};
 ghost use Rattle.walltime.specs.WallTime.{wall_time};
 ghost use Rattle.walltime.specs.Laws.{LongestWithin};
 
 // Estimates up to `end` are rounded up to a multiple of `width`.
-#[derive(Drop)]
+#[derive(Clone, Copy)]
 pub struct Band {
     pub end: u32,
     pub width: u32,

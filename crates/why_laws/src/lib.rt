@@ -1,1 +1,2 @@
 // What holds of the sentences that say why jobs wait, all in specs/: there is no code here.
+#![tactic(auto)]
