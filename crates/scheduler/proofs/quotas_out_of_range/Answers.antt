@@ -6,10 +6,8 @@ use mathlib.Core.Logic.{⊎_elim}
 use lib.Dec.{eqb, ltb}
 use borrow.Author.Tests.{eqb-true, eqb-false, eq-eqb, ne_eqb, ltb-true, ltb-false}
 use Rattle.lists.specs.Tests.{case, either, neither}
-use borrow.Author.Rules.{rules}
 use Rattle.scheduler.specs.Limits.{outside, misdivided}
-use Rattle.scheduler.proofs.quotas_out_of_range.Statement.{statement}
-use Rattle.scheduler.proofs.quotas_out_of_range.Tie as tie
+use Rattle.scheduler.proofs.quotas_out_of_range.Goals as goal
 
 -- one that is 0 or above 63 is not divided well, whatever the other
 wrong : (a b : ℕ) → outside 1 63 a ≡ true → misdivided a b ≡ true
@@ -36,20 +34,17 @@ right a b o =
     rw (e, eq-eqb (a + b) 64 (omega arith), ne_eqb a 0 (λ z. omega arith), ne_eqb b 0 (λ z. omega arith)))
     (λ e. rw (e, ne_eqb (a + b) 64 (λ z. omega (arith, eqb-false b (64 - a) e))))
 
-returns : tie.Need-returns
+pub returns-then-outside_range : goal.returns-then-outside_range
+returns-then-outside_range c =
+    let a = c.args in
+    sym (wrong a.a a.b (sym c.outside_range.ensures ∙ c.if-outside_range.true))
+
+pub overflow_sub-result : goal.overflow_sub-result
+overflow_sub-result c =
+    let n = neither (ltb c.args.a 1) (ltb 63 c.args.a) (sym c.outside_range.ensures ∙ c.if-outside_range.false) in
+    omega (arith, ltb-false 63 c.args.a n.1)
+
+pub returns : goal.returns
 returns c =
-    let a = c.before.before.args in
-    sym (wrong a.a a.b (sym c.before.outside-range.ensures ∙ c.if1.true))
-
-sub-result : tie.Need-overflow-sub-result
-sub-result c =
-    let n = neither (ltb c.before.before.args.a 1) (ltb 63 c.before.before.args.a) (sym c.before.outside-range.ensures ∙ c.if1.false) in
-    omega (arith, ltb-false 63 c.before.before.args.a n.1)
-
-returns-2 : tie.Need-returns-2
-returns-2 c =
-    let a = c.before.before.args in
-    sym (right a.a a.b (sym c.before.outside-range.ensures ∙ c.if1.false))
-
-pub quotas-out-of-range-spec : {M : Type 1} → statement M
-quotas-out-of-range-spec = tie.close (tie.spec (λ c κs. search rules) returns sub-result returns-2)
+    let a = c.args in
+    sym (right a.a a.b (sym c.outside_range.ensures ∙ c.if-outside_range.false))

@@ -1,9 +1,0 @@
-use borrow.Author.Rules.{rules}
-use Rattle.scheduler.proofs.Answer.refused.Statement.{statement}
-use Rattle.scheduler.proofs.Answer.refused.Tie as tie
-
-returns : tie.Need-returns
-returns c = rw c.none.ensures
-
-pub refused-spec : {M : Type 1} → statement M
-refused-spec = tie.close (tie.spec (λ c κs. search rules) returns)
