@@ -1,5 +1,6 @@
 // The text that scripts are written in: lines, their fields, numbers and words, read from byte slices and written to them.
 #![tactic(auto)]
+
 ghost use Rattle.std.specs.Prelude.{◌≡◌, [], ◌∷◌, ◌+◌, ◌≤◌, length, drop, replicate};
 ghost use Rattle.std.proofs.lemmas.List.Edits.{sets};
 ghost use Rattle.text.specs.Fields.{fields_of, field_of, fields_from};

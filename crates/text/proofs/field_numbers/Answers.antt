@@ -6,25 +6,17 @@ use Prim.Native.Nat.{ℕ, suc, ◌+◌, ◌-◌, ◌≤◌, ◌<◌}
 use native.Mathlib.Omega.{arith}
 use lib.ListN.{length, drop, set, length-append, length-drop}
 use lib.Seq.{drop-drop, take_all}
-use borrow.Author.Rules.{rules}
 use Rattle.lists.specs.Pads.{pad, pad_push}
 use Rattle.text.specs.declared.Parsed.TheVariants.{Is, Not}
 use Rattle.text.specs.declared.Numbers.{Numbers}
 use Rattle.text.specs.Fields.{fields_of, field_of}
-use Rattle.text.specs.Prefixes.{upto, upto_le}
+use Rattle.text.specs.Prefixes.{upto_le}
 use Rattle.text.specs.FieldLaws.{fields_first}
 use Rattle.text.specs.Numbers.{number_of, numbers_from, leading}
 use Rattle.text.specs.LeadingLaws.{leading_empty, next_not, next_last, next_more}
-use Rattle.text.proofs.field_numbers.Statement.{statement}
-use Rattle.text.proofs.field_numbers.Tie as tie
-
-record Inv (line : List ℕ) (k : ℕ) (values : List ℕ) (count start : ℕ) : Type 0 where
-  kept : List ℕ
-  size : length kept ≡ count
-  few : count ≤ 8
-  inside : start ≤ length line
-  values-are : values ≡ pad 8 0 kept
-  all : kept ++ leading (8 - count) (fields_of (drop start line)) ≡ leading 8 (drop k (fields_of line))
+use Rattle.text.proofs.field_numbers.Invariants.{Inv}
+use Rattle.text.proofs.field_numbers.Goals.{After-field-part, In-Is}
+use Rattle.text.proofs.field_numbers.Goals as goal
 
 -- once the kept ones are all
 ended : (line : List ℕ) (k : ℕ) (kept : List ℕ) {values : List ℕ} {count : ℕ}
@@ -58,15 +50,13 @@ module _ {line : List ℕ} {k : ℕ} {values : List ℕ} {count start : ℕ} (v 
       more-all rest e = append_assoc v.kept (n ∷ []) rest ∙ ap (λ (l : List ℕ). v.kept ++ l) (sym e) ∙ v.all
 
       module _ (is : number_of (field_of (drop start line) 0) ≡ Is n) where
-        last : start + length (field_of (drop start line) 0) ≡ length line
-            → ◌≡◌ {A = Numbers} (record { count = count + 1; values = set values count n }) (numbers_from line k)
+        last : start + length (field_of (drop start line) 0) ≡ length line → ◌≡◌ {A = Numbers} (record { count = count + 1; values = set values count n }) (numbers_from line k)
         last end =
             let e : length (field_of (drop start line) 0) ≡ length (drop start line) = omega (arith, length-drop start line) in
             ended line k (v.kept ++ (n ∷ [])) more-size more-values
             (sym (append-nil _) ∙ more-all [] (rw one_more (next_last (8 - (count + 1)) (drop start line) is e)))
 
-        more : start + length (field_of (drop start line) 0) < length line
-            → Inv line k (set values count n) (count + 1) (start + length (field_of (drop start line) 0) + 1)
+        more : start + length (field_of (drop start line) 0) < length line → Inv line k (set values count n) (count + 1) (start + length (field_of (drop start line) 0) + 1)
         more end =
             let L = length (field_of (drop start line) 0) in
             let e : start + L + 1 ≡ start + suc L = omega arith in
@@ -83,76 +73,59 @@ module _ {line : List ℕ} {k : ℕ} {values : List ℕ} {count start : ℕ} (v 
 field_le : (s : List ℕ) → length (field_of s 0) ≤ length s
 field_le s = omega (arith, ap length (fields_first s), upto_le 9 s)
 
-abbrev invariant-loop : tie.invariant-loop
-invariant-loop line k values₀ count₀ start₀ values count start = Inv line k values count start
+abbrev line : After-field-part → List ℕ
+line c = c.args.line.now
 
-abbrev decreases-loop : tie.decreases-loop
-decreases-loop line k values₀ count₀ start₀ values count start = 8 - count
-
-loop-holds : tie.Need-loop-init invariant-loop decreases-loop
-unfolding pad
-loop-holds c =
-    let e = c.field-start.ensures in
-    let fs = drop c.before.before.args.k (fields_of c.before.before.args.line.now) in
-    record { kept = []; size = refl; few = omega arith; inside = e.0; values-are = refl; all = ap (leading 8) e.1 ∙ leading_empty 8 fs }
-
-abbrev line : tie.After-field invariant-loop decreases-loop → List ℕ
-line c = c.before.before.before.before.before.before.args.line.now
-
-abbrev start : tie.After-field invariant-loop decreases-loop → ℕ
-start c = c.before.before.before.loop.start
+abbrev start : After-field-part → ℕ
+start c = c.loop-count.start
 
 -- the part read is the first field from `start` on,
-part_is : (c : tie.After-field invariant-loop decreases-loop) → c.field.result.now ≡ field_of (drop (start c) (line c)) 0
+part_is : (c : After-field-part) → c.field-part.result.now ≡ field_of (drop (start c) (line c)) 0
 part_is c =
     let s = drop (start c) (line c) in
     let h : length s ≤ length (line c) - start c = omega (arith, length-drop (start c) (line c)) in
-    c.field.ensures ∙ ap (λ (l : List ℕ). field_of l 0) (take_all (length (line c) - start c) s h)
+    c.field-part.ensures ∙ ap (λ (l : List ℕ). field_of l 0) (take_all (length (line c) - start c) s h)
 
 -- and ends within the line
-part-ends : (c : tie.After-field invariant-loop decreases-loop) → start c + length c.field.result.now ≤ length (line c)
+part-ends : (c : After-field-part) → start c + length c.field-part.result.now ≤ length (line c)
 part-ends c =
-    let inside = c.before.before.before.loop.invariant.inside in
+    let inside = c.loop-count.invariant.inside in
     omega (arith, ap length (part_is c), field_le (drop (start c) (line c)), length-drop (start c) (line c))
 
-returns : tie.Need-returns invariant-loop decreases-loop
-returns c =
-    let n = c.before.before in
-    not-next n.before.before.before.before.loop.invariant (omega arith)
-    (ap number_of (sym (part_is n.before)) ∙ sym n.number.ensures ∙ c.enum_told.given.1)
-
-add-end : tie.Need-overflow-add-end invariant-loop decreases-loop
-add-end c = omega (arith, part-ends c.before.before.before.before)
-
-is-next : (c : tie.After-known-told invariant-loop decreases-loop)
-    → number_of (field_of (drop (start c.before.before.before.before) (line c.before.before.before.before)) 0) ≡ Is c.before.said.given.0.0
+is-next : (c : In-Is)
+    → number_of (field_of (drop (start c.After-field-part) (line c.After-field-part)) 0) ≡ Is c.in-Is.v
 is-next c =
-    let n = c.before.before.before in
-    ap number_of (sym (part_is n.before)) ∙ sym n.number.ensures ∙ c.before.said.given.1
+    ap number_of (sym (part_is c.After-field-part)) ∙ sym c.number-said.ensures ∙ c.in-Is.is
 
-returns-2 : tie.Need-returns-2 invariant-loop decreases-loop
-returns-2 c =
-    let f = c.before.before.before.before.before in
-    last f.before.before.before.loop.invariant (omega arith) _ (is-next c.before) (omega (arith, ap length (part_is f)))
+pub loop-count-init : goal.loop-count-init
+unfolding pad
+loop-count-init c =
+    let e = c.field_start-start.ensures in
+    let fs = drop c.args.k (fields_of c.args.line.now) in
+    record { kept = []; size = refl; few = omega arith; inside = e.0; values-are = refl; all = ap (leading 8) e.1 ∙ leading_empty 8 fs }
 
-add_start : tie.Need-overflow-add-start invariant-loop decreases-loop
-add_start c = omega (arith, part-ends c.before.before.before.before.before)
+pub returns-in_default : goal.returns-in_default
+returns-in_default c =
+    not-next c.loop-count.invariant (omega arith)
+    (ap number_of (sym (part_is (goal.at.returns-in_default c).After-field-part)) ∙ sym c.number-said.ensures ∙ c.in_default.is)
 
-loop-again : tie.Need-loop-preserved invariant-loop decreases-loop
-loop-again c =
-    let f = c.before.before.before.before.before in
-    let end = part-ends f in
-    rw (part_is f) (more f.before.before.before.loop.invariant (omega arith) _ (is-next c.before) (omega (arith, ap length (part_is f))))
+pub overflow_add-end : goal.overflow_add-end
+overflow_add-end c = omega (arith, part-ends (goal.at.overflow_add-end c).After-field-part)
 
-returns-3 : tie.Need-returns-3 invariant-loop decreases-loop
+pub returns-then-end-line : goal.returns-then-end-line
+returns-then-end-line c =
+    last c.loop-count.invariant (omega arith) _ (is-next (goal.at.returns-then-end-line c).In-Is) (omega (arith, ap length (part_is (goal.at.returns-then-end-line c).After-field-part)))
+
+pub overflow_add-start : goal.overflow_add-start
+overflow_add-start c = omega (arith, part-ends (goal.at.overflow_add-start c).After-field-part)
+
+pub loop-count-preserved : goal.loop-count-preserved
+loop-count-preserved c =
+    let end = part-ends (goal.at.loop-count-preserved c).After-field-part in
+    rw (part_is (goal.at.loop-count-preserved c).After-field-part) (more c.loop-count.invariant (omega arith) _ (is-next (goal.at.loop-count-preserved c).In-Is) (omega (arith, ap length (part_is (goal.at.loop-count-preserved c).After-field-part))))
+
+pub returns : goal.returns
 unfolding leading
-returns-3 c =
-    let z : 8 - c.before.loop.count ≡ 0 = omega arith in
-    done c.before.loop.invariant (rw z)
-
-pub field-numbers-spec : {M : Type 1} → statement M
-field-numbers-spec =
-    tie.close
-    (tie.spec invariant-loop decreases-loop (λ c κs. search rules) loop-holds (λ c. search rules) (λ c. search rules) (λ c. search rules)
-    (λ c κs. search rules) (λ c κs. search rules) (λ c. search rules) (λ c. search rules) returns (λ c. search rules) (λ c. search rules)
-    (λ c. search rules) add-end returns-2 add_start (λ c. search rules) loop-again returns-3)
+returns c =
+    let z : 8 - c.loop-count.count ≡ 0 = omega arith in
+    done c.loop-count.invariant (rw z)

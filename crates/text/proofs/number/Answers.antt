@@ -1,0 +1,28 @@
+-- `text::number` meets its contract: the tests of its form are the definition's.
+-- Assumes nothing.
+use mathlib.Core.Logic.{⊎_elim}
+use borrow.Author.Tests.{lt-ltb, le-ltb, le-leb, lt-leb, eq-eqb, ne_eqb}
+use Rattle.text.specs.Numbers.{number_of}
+use Rattle.text.proofs.number.Goals as goal
+
+pub returns-then-n-lt1 : goal.returns-then-n-lt1
+unfolding number_of
+returns-then-n-lt1 c = rw (lt-leb 1 _ c.if-n-lt1.true)
+
+pub returns-then-n-gt7 : goal.returns-then-n-gt7
+unfolding number_of
+returns-then-n-gt7 c = rw (le-leb 1 _ c.if-n-lt1.false, lt-leb _ 7 c.if-n-gt7.true)
+
+pub returns-then-part-eq48 : goal.returns-then-part-eq48
+unfolding number_of
+returns-then-part-eq48 c =
+    rw (le-leb 1 _ c.if-n-lt1.false, le-leb _ 7 c.if-n-gt7.false, lt-ltb 1 _ c.if-n-gt1.true, eq-eqb _ 48 c.if-part-eq48.true)
+
+pub returns : goal.returns
+unfolding number_of
+returns c =
+    rw (c.digits.ensures, le-leb 1 _ c.if-n-lt1.false, le-leb _ 7 c.if-n-gt7.false)
+    (⊎_elim
+    (λ w. rw (lt-ltb 1 _ w.0.taken, ne_eqb _ 48 w.2.left))
+    (λ w. rw (le-ltb 1 _ w.left))
+    c.if-n-gt1.branch)
