@@ -92,10 +92,9 @@ part-ends c =
     let inside = c.loop-count.invariant.inside in
     omega (arith, ap length (part_is c), field_le (drop (start c) (line c)), length-drop (start c) (line c))
 
-is-next : (c : In-Is)
-    → number_of (field_of (drop (start c.After-field-part) (line c.After-field-part)) 0) ≡ Is c.in-Is.v
-is-next c =
-    ap number_of (sym (part_is c.After-field-part)) ∙ sym c.number-said.ensures ∙ c.in-Is.is
+is-next : (c : In-Is) → c.field-part.result.now ≡ field_of (drop c.loop-count.start c.args.line.now) 0
+    → number_of (field_of (drop c.loop-count.start c.args.line.now) 0) ≡ Is c.in-Is.v
+is-next c e = ap number_of (sym e) ∙ sym c.number-said.ensures ∙ c.in-Is.is
 
 pub loop-count-init : goal.loop-count-init
 unfolding pad
@@ -114,7 +113,7 @@ overflow_add-end c = omega (arith, part-ends (goal.at.overflow_add-end c).After-
 
 pub returns-then-end-line : goal.returns-then-end-line
 returns-then-end-line c =
-    last c.loop-count.invariant (omega arith) _ (is-next (goal.at.returns-then-end-line c).In-Is) (omega (arith, ap length (part_is (goal.at.returns-then-end-line c).After-field-part)))
+    last c.loop-count.invariant (omega arith) _ (is-next (goal.at.returns-then-end-line c).In-Is (part_is (goal.at.returns-then-end-line c).After-field-part)) (omega (arith, ap length (part_is (goal.at.returns-then-end-line c).After-field-part)))
 
 pub overflow_add-start : goal.overflow_add-start
 overflow_add-start c = omega (arith, part-ends (goal.at.overflow_add-start c).After-field-part)
@@ -122,7 +121,7 @@ overflow_add-start c = omega (arith, part-ends (goal.at.overflow_add-start c).Af
 pub loop-count-preserved : goal.loop-count-preserved
 loop-count-preserved c =
     let end = part-ends (goal.at.loop-count-preserved c).After-field-part in
-    rw (part_is (goal.at.loop-count-preserved c).After-field-part) (more c.loop-count.invariant (omega arith) _ (is-next (goal.at.loop-count-preserved c).In-Is) (omega (arith, ap length (part_is (goal.at.loop-count-preserved c).After-field-part))))
+    rw (part_is (goal.at.loop-count-preserved c).After-field-part) (more c.loop-count.invariant (omega arith) _ (is-next (goal.at.loop-count-preserved c).In-Is (part_is (goal.at.loop-count-preserved c).After-field-part)) (omega (arith, ap length (part_is (goal.at.loop-count-preserved c).After-field-part))))
 
 pub returns : goal.returns
 unfolding leading

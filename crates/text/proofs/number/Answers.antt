@@ -1,8 +1,8 @@
 -- `text::number` meets its contract: the tests of its form are the definition's.
 -- Assumes nothing.
-use mathlib.Core.Logic.{⊎_elim}
 use borrow.Author.Tests.{lt-ltb, le-ltb, le-leb, lt-leb, eq-eqb, ne_eqb}
 use Rattle.text.specs.Numbers.{number_of}
+use Rattle.text.proofs.number.Goals.{then-n-gt1+else-part-eq48, else-n-gt1}
 use Rattle.text.proofs.number.Goals as goal
 
 pub returns-then-n-lt1 : goal.returns-then-n-lt1
@@ -22,7 +22,7 @@ pub returns : goal.returns
 unfolding number_of
 returns c =
     rw (c.digits.ensures, le-leb 1 _ c.if-n-lt1.false, le-leb _ 7 c.if-n-gt7.false)
-    (⊎_elim
-    (λ w. rw (lt-ltb 1 _ w.0.taken, ne_eqb _ 48 w.2.left))
-    (λ w. rw (le-ltb 1 _ w.left))
-    c.if-n-gt1.branch)
+    (elim c.if-n-gt1.branch [
+      then-n-gt1+else-part-eq48 w ↦ rw (lt-ltb 1 _ w.if-n-gt1.true, ne_eqb _ 48 w.if-part-eq48.false)
+    | else-n-gt1 w ↦ rw (le-ltb 1 _ w.if-n-gt1.false)
+    ])
