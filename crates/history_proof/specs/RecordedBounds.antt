@@ -71,7 +71,7 @@ module _ {k : Kind} {R : Rules} {Valid : Model → Type 0} {OnCourse : Model →
         from : (y : Entry) → Came L m c v b a u p u-is p-is y → is_waiting (marked p (c' L m c v b a u p u-is p-is) (r L m c v b a u p u-is p-is) y) ≡ true
             → y.ticket ≡ z.ticket → y.bound ≡ some (bound_of (R m c).model.settings z)
         from y o w e =
-            came y o (waited p _ _ y.ticket y.fate w) z j e ∙ ap (λ (Q : Settings). some (bound_of Q z)) (sym (L.settings m c v))
+            came y o (waited p (c' L m c v b a u p u-is p-is) (r L m c v b a u p u-is p-is) y.ticket y.fate w) z j e ∙ ap (λ (Q : Settings). some (bound_of Q z)) (sym (L.settings m c v))
 
   -- after every list of calls
   list_recorded : (u p : ℕ) (m : Model) (b : Book) (cs : List Call) → InStep L u p m b → AsRecorded m b

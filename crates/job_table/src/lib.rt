@@ -2,6 +2,7 @@
 // from then on. It finds the first unused slot for a job that comes in, counts the jobs that wait, and gives the refusals of these calls by
 // numbers.
 #![tactic(auto)]
+
 ghost use Rattle.std.specs.Prelude.{◌≡◌, length, take, ◌≤◌};
 ghost use Rattle.lists.specs.Lists.{keep};
 ghost use Rattle.scheduler.specs.Limits.{slots};
