@@ -9,18 +9,8 @@ use mathlib.Core.Logic.{◌⊎◌, inl, inr}
 use lib.ListN.{length, set, length-set}
 use lib.Seq.{get_or-set_same, get_or-set_other}
 use Rattle.lists.specs.Tests.{le_or}
-use borrow.Author.Rules.{rules}
-use Rattle.conservative_table.proofs.withdraw.Statement.{statement}
-use Rattle.conservative_table.proofs.withdraw.Tie as tie
-
--- what stood before i has moved down, the rest is as it was
-record Inv (xs : List ℕ) (n k by : ℕ) (ys : List ℕ) (i : ℕ) : Type 0 where
-  long : length ys ≡ length xs
-  low : k + by ≤ i
-  high : i ≤ n
-  before : (j : ℕ) → j < k → get_or ys j 0 ≡ get_or xs j 0
-  moved : (j : ℕ) → k ≤ j → j + by < i → get_or ys j 0 ≡ get_or xs (j + by) 0
-  kept : (j : ℕ) → i ≤ j + by → get_or ys j 0 ≡ get_or xs j 0
+use Rattle.conservative_table.proofs.withdraw.Invariants.{Inv}
+use Rattle.conservative_table.proofs.withdraw.Goals as goal
 
 one_more : {xs : List ℕ} {n k by i : ℕ} (ys : List ℕ) → i < length ys → i < n → Inv xs n k by ys i → Inv xs n k by (set ys (i - by) (get_or ys i 0)) (i + 1)
 one_more {xs} {n} {k} {by} {i} ys h l v = record {
@@ -42,29 +32,17 @@ one_more {xs} {n} {k} {by} {i} ys h l v = record {
         ∙ ap (λ (m : ℕ). get_or xs m 0) f
     go j a b (inr d) = get_or-set_other ys (i - by) j (get_or ys i 0) 0 (λ e. omega (arith, v.low)) ∙ v.moved j a d
 
-abbrev invariant-loop : tie.invariant-loop
-invariant-loop list₀ count at by i₀ list i = Inv list₀ count at by list i
+pub loop-i-init : goal.loop-i-init
+loop-i-init c =
+    record { long = refl; low = omega arith; high = omega (arith, c.requires.2); before = λ j a. refl; moved = λ j a b. absurd (omega arith); kept = λ j a. refl }
 
-abbrev decreases-loop : tie.decreases-loop
-decreases-loop list₀ count at by i₀ list i = count - i
-
-loop-holds : tie.Need-loop-init invariant-loop decreases-loop
-loop-holds c =
-    let s = c in
-    record { long = refl; low = omega arith; high = omega (arith, s.requires.2); before = λ j a. refl; moved = λ j a b. absurd (omega arith); kept = λ j a. refl }
-
-loop-again : tie.Need-loop-preserved invariant-loop decreases-loop
-loop-again c =
-    let l = c.before.before.loop in
-    let h : l.i < length l.list = omega (arith, c.before.before.before.requires.0, c.before.before.before.requires.1, l.invariant.long) in
+pub loop-i-preserved : goal.loop-i-preserved
+loop-i-preserved c =
+    let l = c.loop-i in
+    let h : l.i < length l.list = omega (arith, c.requires.0, c.requires.1, l.invariant.long) in
     one_more l.list h (omega arith) l.invariant
 
-returns : tie.Need-returns invariant-loop decreases-loop
+pub returns : goal.returns
 returns c =
-    let l = c.before.loop in
+    let l = c.loop-i in
     record { long = l.invariant.long; before = l.invariant.before; after = λ j a b. l.invariant.moved j a (omega arith) }
-
-pub withdraw-spec : {M : Type 1} → statement M
-withdraw-spec =
-    tie.close (tie.spec invariant-loop decreases-loop (λ c. search rules) loop-holds (λ c. search rules) (λ c. search rules) (λ c. search rules)
-    (λ c. search rules) (λ c. search rules) (λ c. search rules) (λ c. search rules) loop-again returns)

@@ -5,17 +5,12 @@ use native.Mathlib.Omega.{arith}
 use lib.ListN.{length-set}
 use lib.Seq.{get_or-set_same}
 use Rattle.conservative_table.specs.ProfileLists.{idle_exact}
-use borrow.Author.Rules.{rules}
-use Rattle.conservative_table.proofs.idle.Statement.{statement}
-use Rattle.conservative_table.proofs.idle.Tie as tie
+use Rattle.conservative_table.proofs.idle.Goals as goal
 
-returns : tie.Need-returns
+pub returns : goal.returns
 returns c =
     idle_exact c.args.nodes c.args.minute
     (length-set c.args.minutes.now 0 c.args.minute ∙ c.requires.0)
     (length-set c.args.free.now 0 c.args.nodes ∙ c.requires.1)
     (get_or-set_same c.args.minutes.now 0 c.args.minute 0 (omega (arith, c.requires.0)))
     (get_or-set_same c.args.free.now 0 c.args.nodes 0 (omega (arith, c.requires.1)))
-
-pub idle_spec : {M : Type 1} → statement M
-idle_spec = tie.close (tie.spec (λ c. search rules) (λ c. search rules) returns)

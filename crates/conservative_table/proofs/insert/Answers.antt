@@ -10,17 +10,8 @@ use mathlib.Core.Logic.{◌⊎◌, inl, inr}
 use lib.ListN.{length, set, length-set}
 use lib.Seq.{get_or-set_same, get_or-set_other}
 use Rattle.lists.specs.Tests.{le_or}
-use borrow.Author.Rules.{rules}
-use Rattle.conservative_table.proofs.insert.Statement.{statement}
-use Rattle.conservative_table.proofs.insert.Tie as tie
-
--- places above i have moved up, the others are as they were
-record Inv (xs : List ℕ) (n k : ℕ) (ys : List ℕ) (i : ℕ) : Type 0 where
-  long : length ys ≡ length xs
-  low : k ≤ i
-  high : i ≤ n
-  kept : (j : ℕ) → j ≤ i → get_or ys j 0 ≡ get_or xs j 0
-  moved : (j : ℕ) → i ≤ j → j < n → get_or ys (j + 1) 0 ≡ get_or xs j 0
+use Rattle.conservative_table.proofs.insert.Invariants.{Inv}
+use Rattle.conservative_table.proofs.insert.Goals as goal
 
 module _ {xs : List ℕ} {n k i : ℕ} (ys : List ℕ) where
   one_more : i < length ys → k < i → Inv xs n k ys i → Inv xs n k (set ys i (get_or ys (i - 1) 0)) (i - 1)
@@ -50,26 +41,14 @@ module _ {xs : List ℕ} {n k i : ℕ} (ys : List ℕ) where
     after = λ j a b. get_or-set_other ys k (j + 1) u 0 (λ e. omega arith) ∙ v.moved j (omega arith) b;
   }
 
-abbrev invariant-loop : tie.invariant-loop
-invariant-loop list₀ count at value i₀ list i = Inv list₀ count at list i
-
-abbrev decreases-loop : tie.decreases-loop
-decreases-loop list₀ count at value i₀ list i = i
-
-loop-again : tie.Need-loop-preserved invariant-loop decreases-loop
-loop-again c =
-    let l = c.before.before.loop in
-    let h : l.i < length l.list = omega (arith, c.before.before.before.requires.0, l.invariant.long, l.invariant.high) in
+pub loop-i-preserved : goal.loop-i-preserved
+loop-i-preserved c =
+    let l = c.loop-i in
+    let h : l.i < length l.list = omega (arith, c.requires.0, l.invariant.long, l.invariant.high) in
     one_more l.list h (omega arith) l.invariant
 
-returns : tie.Need-returns invariant-loop decreases-loop
+pub returns : goal.returns
 returns c =
-    let l = c.before.loop in
-    let s = c.before.before in
-    let h : s.args.at < length l.list = omega (arith, s.requires.0, l.invariant.long) in
-    all_moved l.list s.args.value h (omega arith) l.invariant
-
-pub insert-spec : {M : Type 1} → statement M
-insert-spec =
-    tie.close (tie.spec invariant-loop decreases-loop (λ c. search rules) (λ c. search rules) (λ c. search rules) (λ c. search rules) (λ c. search rules)
-    (λ c. search rules) (λ c. search rules) (λ c. search rules) loop-again (λ c. search rules) (λ c. search rules) returns)
+    let l = c.loop-i in
+    let h : c.args.at < length l.list = omega (arith, c.requires.0, l.invariant.long) in
+    all_moved l.list c.args.value h (omega arith) l.invariant
