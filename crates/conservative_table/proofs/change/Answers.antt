@@ -1,7 +1,6 @@
 -- `conservative_table::change` meets its contract: the begin of the span gets a place, and it is laid from there.
 -- Assumes nothing.
 use mathlib.Core.Path.{◌≡◌}
-use mathlib.Core.Logic.{⊎_elim}
 use Prim.Native.Nat.{max}
 use native.Mathlib.Omega.{arith}
 use lib.ListN.{get_or}
