@@ -10,15 +10,9 @@ use lib.Seq.{get_or-set_same, get_or-set_other}
 use Rattle.lists.specs.Tests.{le_or}
 use Rattle.spans.specs.declared.Block.{Block}
 use Rattle.spans.specs.Index.{blocks, size, fewest, most, block_fewest, block_most}
-use Rattle.conservative_index.specs.BuiltIndex.{at, Built, Indexed}
-use borrow.Author.Rules.{rules}
-use Rattle.conservative_index.proofs.build.Statement.{statement}
-use Rattle.conservative_index.proofs.build.Tie as tie
-
-record Inv (fs : List ℕ) (n : ℕ) (lo hi : List ℕ) (b from : ℕ) : Type 0 where
-  from_is : from ≡ 16 * b
-  to : b ≤ 9
-  built : Built fs n lo hi b
+use Rattle.conservative_index.specs.BuiltIndex.{at, Indexed}
+use Rattle.conservative_index.proofs.build.Invariants.{Inv}
+use Rattle.conservative_index.proofs.build.Goals as goal
 
 width : (n b from to : ℕ) → from ≡ 16 * b → from < n → to ≡ from + min 16 (n - from) → to - from - 1 ≡ size n b - 1
 width n b from to e l t =
@@ -57,29 +51,16 @@ all-built fs n lo hi b from q l = record {
   high = λ c i j. q.built.high c (omega (arith, q.from_is)) j;
 }
 
-abbrev invariant-loop : tie.invariant-loop
-invariant-loop free count low₀ high₀ first b₀ from₀ low high b from = Inv free count low high b from
+pub loop-from-init : goal.loop-from-init
+loop-from-init c = record { from_is = omega arith; to = c.requires.3; built = c.requires.0 }
 
-abbrev decreases-loop : tie.decreases-loop
-decreases-loop free count low₀ high₀ first b₀ from₀ low high b from = count - from
+pub loop-from-preserved : goal.loop-from-preserved
+loop-from-preserved c =
+    let l = c.loop-from in
+    one_more _ _ l.low l.high l.b l.from _ _ _ l.invariant (omega arith) c.requires.2 c.end_of-to.ensures
+    (ap (λ (x : Block). x.fewest) c.extremes_of-of.ensures) (ap (λ (x : Block). x.most) c.extremes_of-of.ensures)
 
-loop-holds : tie.Need-loop-init invariant-loop decreases-loop
-loop-holds c = record { from_is = omega arith; to = c.requires.3; built = c.requires.0 }
-
-loop-again : tie.Need-loop-preserved invariant-loop decreases-loop
-loop-again c =
-    let l = c.before.before.before.loop in
-    let s = c.before.before.before.before in
-    one_more _ _ l.low l.high l.b l.from _ _ _ l.invariant (omega arith) s.requires.2 c.before.end_of.ensures
-    (ap (λ (x : Block). x.fewest) c.extremes-of.ensures) (ap (λ (x : Block). x.most) c.extremes-of.ensures)
-
-returns : tie.Need-returns invariant-loop decreases-loop
+pub returns : goal.returns
 returns c =
-    let l = c.before.loop in
+    let l = c.loop-from in
     all-built _ _ l.low l.high l.b l.from l.invariant (omega arith)
-
-pub build-spec : {M : Type 1} → statement M
-build-spec =
-    tie.close (tie.spec invariant-loop decreases-loop (λ c. search rules) loop-holds (λ c κs. search rules)
-    (λ c κs. search rules) (λ c. search rules) (λ c. search rules) (λ c. search rules) (λ c. search rules) (λ c. search rules)
-    (λ c. search rules) (λ c. search rules) loop-again returns)

@@ -7,21 +7,13 @@ use mathlib.Core.Bool.{Bool, false}
 use mathlib.Core.List.{List}
 use mathlib.Core.Logic.{◌⊎◌, inl, inr}
 use lib.Dec.{leb}
-use lib.ListN.{get_or, set, length, length-set}
+use lib.ListN.{get_or, set, length-set}
 use lib.Seq.{get_or-set_same, get_or-set_other}
 use Rattle.lists.specs.Tests.{le_or}
 use Rattle.conservative_index.specs.BuiltIndex.{at}
 use Rattle.conservative_index.specs.Anchors.{has, note, Noted}
-use borrow.Author.Rules.{rules}
-use Rattle.conservative_index.proofs.read_points.Statement.{statement}
-use Rattle.conservative_index.proofs.read_points.Tie as tie
-
--- k points are read, and place i is next
-record Inv (fs : List ℕ) (nodes from to : ℕ) (bs : List Bool) (k i : ℕ) : Type 0 where
-  here : i ≡ from + k
-  inside : i ≤ to
-  long : length bs ≡ 16
-  each : (j : ℕ) → j < k → note bs j ≡ has nodes (at fs) from j
+use Rattle.conservative_index.proofs.read_points.Invariants.{Inv}
+use Rattle.conservative_index.proofs.read_points.Goals as goal
 
 one_more : {fs : List ℕ} {nodes from to : ℕ} {bs : List Bool} {k i : ℕ} → Inv fs nodes from to bs k i → i < to → k < 16
     → Inv fs nodes from to (set bs k (leb nodes (get_or fs i 0))) (k + 1) (i + 1)
@@ -44,30 +36,19 @@ one_more {fs} {nodes} {from} {to} {bs} {k} {i} q l r = record {
 all_read : {fs : List ℕ} {nodes from to : ℕ} {bs : List Bool} {k i : ℕ} → Inv fs nodes from to bs k i → to ≤ i → Noted nodes (at fs) from (to - from) k bs
 all_read q l = record { long = q.long; count = omega (arith, q.here, q.inside); each = λ j u. q.each j (omega (arith, q.here, q.inside)) }
 
-abbrev invariant-loop : tie.invariant-loop
-invariant-loop free from to nodes enough₀ reads₀ place₀ enough reads place = Inv free nodes from to enough reads place
+pub loop-place-init : goal.loop-place-init
+loop-place-init c = record { here = omega arith; inside = c.requires.2; long = c.requires.1; each = λ j l. absurd (omega arith) }
 
-abbrev decreases-loop : tie.decreases-loop
-decreases-loop free from to nodes enough₀ reads₀ place₀ enough reads place = to - place
+pub bounds-enough-reads : goal.bounds-enough-reads
+bounds-enough-reads c = omega (arith, c.loop-place.invariant.here)
 
-loop-holds : tie.Need-loop-init invariant-loop decreases-loop
-loop-holds c = record { here = omega arith; inside = c.requires.2; long = c.requires.1; each = λ j l. absurd (omega arith) }
+pub overflow_add-reads : goal.overflow_add-reads
+overflow_add-reads c = omega (arith, c.loop-place.invariant.here)
 
-element-write-enough : tie.Need-element-write-enough invariant-loop decreases-loop
-element-write-enough c = omega (arith, c.before.before.loop.invariant.here)
-
-add_reads : tie.Need-overflow-add-reads invariant-loop decreases-loop
-add_reads c = omega (arith, c.before.before.loop.invariant.here)
-
-loop-again : tie.Need-loop-preserved invariant-loop decreases-loop
-loop-again c =
-    let q = c.before.before.loop.invariant in
+pub loop-place-preserved : goal.loop-place-preserved
+loop-place-preserved c =
+    let q = c.loop-place.invariant in
     one_more q (omega arith) (omega (arith, q.here))
 
-returns : tie.Need-returns invariant-loop decreases-loop
-returns c = all_read c.before.loop.invariant (omega arith)
-
-pub read-points-spec : {M : Type 1} → statement M
-read-points-spec =
-    tie.close (tie.spec invariant-loop decreases-loop loop-holds (λ c. search rules) (λ c. search rules) element-write-enough add_reads
-    (λ c. search rules) (λ c. search rules) loop-again returns)
+pub returns : goal.returns
+returns c = all_read c.loop-place.invariant (omega arith)
