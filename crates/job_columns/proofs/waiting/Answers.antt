@@ -4,19 +4,14 @@ use mathlib.Core.Path.{ap, ◌∙◌}
 use mathlib.Core.List.{List}
 use lib.Dec.{eqb}
 use lib.ListN.{length}
-use borrow.Author.Rules.{rules}
 use Rattle.lists.specs.Lists.{keep_cong}
 use Rattle.scheduler.specs.declared.Job.{Job}
 use Rattle.scheduler.specs.Jobs.{is_waiting}
 use Rattle.job_columns.specs.JobColumns.{state_of}
 use Rattle.job_columns.specs.Encoding.{number_waiting}
-use Rattle.job_columns.proofs.waiting.Statement.{statement}
-use Rattle.job_columns.proofs.waiting.Tie as tie
+use Rattle.job_columns.proofs.waiting.Goals as goal
 
-returns : tie.Need-returns
+pub returns : goal.returns
 returns c = λ js k n.
     c.count_of.ensures state_of js k n
     ∙ ap (λ (xs : List Job). length xs) (keep_cong (λ (j : Job). eqb (state_of j) 1) is_waiting js (λ j i. number_waiting j.state))
-
-pub waiting-spec : {M : Type 1} → statement M
-waiting-spec = tie.close (tie.spec (λ c κs. search rules) returns)
