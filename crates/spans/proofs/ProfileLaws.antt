@@ -12,7 +12,7 @@ use Rattle.lists.specs.Lists.{keep_in, in_keep, keep_append, keep_cong, keep_non
 use Rattle.spans.specs.declared.Span.{Span}
 use Rattle.spans.specs.declared.Point.{Point}
 use Rattle.spans.specs.Spans.{takes, used, free, last_end, point, minutes, changes, points, profile, IsPoint, Ascend, Profile}
-use Rattle.spans.specs.UsedNodes.{takes_still, used_last}
+use Rattle.spans.proofs.UsedNodes.{takes_still, used_last}
 
 -- Minutes
 

@@ -10,7 +10,7 @@ use Rattle.lists.specs.Tests.{le_or, both}
 use Rattle.lists.specs.Least.{least, least_from, least_holds_lem, least_min}
 use Rattle.spans.specs.declared.Span.{Span}
 use Rattle.spans.specs.Spans.{used, free, last_end, fits, earliest, Fits, Earliest}
-use Rattle.spans.specs.UsedNodes.{used_last}
+use Rattle.spans.proofs.UsedNodes.{used_last}
 
 -- the test says what it is for
 module _ (f : ℕ → ℕ) (n : ℕ) where
