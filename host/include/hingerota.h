@@ -49,7 +49,7 @@
  *   - A tenant never has more live jobs than its quota. Minutes depend on the jobs of both
  *     tenants, and are kept for both.
  *   - After any call no waiting job of a Promise Desk could begin earlier than planned with all
- *     others where they are: `no-gaps` in `crates/guarantees/specs/NoGaps.antt`.
+ *     others where they are: `no_gaps` in `crates/guarantees/specs/NoGaps.antt`.
  *   - A job never starts before a minute that hingerota_earliest_start gave for it, whatever calls
  *     follow, unless its order is corrected: `starts_no_sooner` in
  *     `crates/guarantees/specs/EarliestStart.antt`.
