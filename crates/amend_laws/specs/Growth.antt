@@ -98,6 +98,7 @@ module _ {k : Kind} {Fit : Model → Type 0} {OnCourse : Model → ℕ → ℕ �
       some false c = omega arith
 
       less : (f g : Job → ℕ) (js : List Job) → ((y : Job) → In y js → f y ≤ g y) → In j js → f j < g j → sum f js < sum g js
+      less f g [] p x4 l = elim x4 [ ]
       less f g (y ∷ ys) p (here e) l = omega (arith, l, ap f e, ap g e, sum_le f g ys (λ z u. p z (there u)))
       less f g (y ∷ ys) p (there u) l = omega (arith, p y (here refl), less f g ys (λ z o. p z (there o)) u l)
 
