@@ -13,7 +13,7 @@ use Rattle.lists.specs.Loops.{position, position_says}
 use Rattle.lists.specs.Pads.{pad}
 use Rattle.spans.specs.declared.Span.{Span}
 use Rattle.spans.specs.Spans.{takes, used, free}
-use Rattle.spans.specs.UsedNodes.{takes_in, takes_before, takes_after}
+use Rattle.spans.proofs.UsedNodes.{takes_in, takes_before, takes_after}
 use Rattle.scheduler.specs.declared.Departure.{Departure}
 use Rattle.scheduler.specs.declared.Departure.TheVariants.{Complete, Cancel}
 use Rattle.scheduler.specs.declared.Job.{Job}
