@@ -11,18 +11,15 @@ use Rattle.script_rules.specs.Printout.{longest_script}
 use Rattle.desk_lines.specs.DeskLine.{opening_in}
 use Rattle.script_play.specs.Pieces.{starts}
 use Rattle.script_turns.specs.FirstTurn.{first_by, first_line}
-use Rattle.script_turns.proofs.first.Goals.{In-Line-2}
 use Rattle.script_turns.proofs.first.Goals as goal
 
 -- the first line ends inside the script
-inside : (c : In-Line-2) → c.in-Line.end < length c.args.script.now
-inside c = begins_at longest_script _ c.first_line-begins.ensures c.in-Line.is
-
 pub slice_bounds-read_first-end : goal.slice_bounds-read_first-end
-slice_bounds-read_first-end c = sym (length-take-le _ _ (omega (arith, inside (goal.at.slice_bounds-read_first-end c).In-Line-2)))
+slice_bounds-read_first-end c =
+    let inside = begins_at longest_script _ c.first_line-begins.ensures c.in-Line.is in sym (length-take-le _ _ (omega (arith, inside)))
 
 pub overflow_add-end : goal.overflow_add-end
-overflow_add-end c = omega (arith, inside (goal.at.overflow_add-end c).In-Line-2)
+overflow_add-end c = omega (arith, begins_at longest_script c.args.script.now c.first_line-begins.ensures c.in-Line.is)
 
 pub returns-in-Nothing : goal.returns-in-Nothing
 returns-in-Nothing c = turned_as (first_by _ starts opening_in longest_script _ c.first_line-begins.ensures c.in-Nothing.is) (turned_none _ _ _ _)

@@ -8,13 +8,13 @@ use Rattle.script_turns.proofs.open.Goals as goal
 
 pub returns-then-is_none : goal.returns-then-is_none
 returns-then-is_none c =
-    turned_as (opening_takes _ starts _ _ _ _ c.in-Opens.is c.«open».ensures
+    turned_as (opening_takes _ starts _ _ _ _ c.in-Opens.is c.open-opened.ensures
     (sym c.is_none.ensures ∙ c.if-is_none.true)) (turned_none _ _ _ _)
 
 pub returns-else-is_none : goal.returns-else-is_none
 returns-else-is_none c =
     turned_as (opening_refuses _ starts _ _ _ _ c.in-Opens.is
-    c.«open».ensures
+    c.open-opened.ensures
     (sym c.is_none.ensures ∙ c.if-is_none.false)) c.refuse.ensures
 
 pub returns-in-Malformed : goal.returns-in-Malformed
