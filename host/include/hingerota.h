@@ -58,7 +58,7 @@
  *     hingerota_longest_estimate gives: `in_time_to`, `in_time_only` in
  *     `crates/conservative_laws/specs/LongestEstimate.antt`.
  *   - The index agrees with the profile. The search by the index finds the same minute as a search
- *     through every point: `beside_index` in `crates/conservative_points/specs/Beside.antt`.
+ *     through every point: `beside_index` in `crates/conservative_kept/specs/Beside.antt`.
  *   - Minutes that pass at once count as so many ticks: `host_advanced_keeps` in
  *     `crates/hingerota/specs/Chain.antt`.
  *
