@@ -1,6 +1,7 @@
 // The calls for a host program in C or Rust, exported by plain names. The header is host/include/hingerota.h. An exported function can hold no
 // enum, so the host's desk is the scheduler in numbers. Each call reads it and mirrors the result back.
 #![tactic(auto)]
+
 ghost use Rattle.std.specs.Prelude.{◌≡◌, true};
 ghost use Rattle.scheduler.specs.Answers.{code};
 ghost use Rattle.history.specs.Calls as calls;

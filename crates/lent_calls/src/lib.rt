@@ -1,6 +1,7 @@
 // The calls on a scheduler that is lent (document 01: "A rack lends its desk to each call and finds it changed there afterwards"). Each makes its
 // call by value, and leaves what that hands back where the scheduler was lent.
 #![tactic(auto)]
+
 ghost use Rattle.std.specs.Prelude.{◌≡◌};
 ghost use Rattle.scheduler.specs.Model.{view};
 ghost use Rattle.history.specs.Calls as calls;

@@ -1,0 +1,6 @@
+-- `hingerota_restore` meets its contract.
+-- Assumes nothing.
+use Rattle.hingerota.proofs.hingerota_restore.Goals as goal
+
+pub returns : goal.returns
+returns c = rw (c.mirror_opened.ensures, c.restore.ensures)

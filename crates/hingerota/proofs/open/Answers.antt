@@ -1,0 +1,6 @@
+-- `hingerota::open` meets its contract.
+-- Assumes nothing.
+use Rattle.hingerota.proofs.open.Goals as goal
+
+pub returns : goal.returns
+returns c = rw (c.mirror_opened.ensures, c.open.ensures)

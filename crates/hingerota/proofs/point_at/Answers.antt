@@ -1,0 +1,12 @@
+-- `point_at` meets its contract.
+-- Assumes nothing.
+use mathlib.Core.Path.{ap}
+use borrow.Author.Rules.{rules}
+use Rattle.scheduler.proofs.Lengths.{length_mapped}
+use Rattle.conservative_profile.specs.StoredProfile.{places, no_point}
+use Rattle.calls.specs.ListCall.{past_last}
+use Rattle.hingerota.specs.ProfileContract.{mirror_point}
+use Rattle.hingerota.proofs.point_at.Goals as goal
+
+pub returns-then-i-ge129 : goal.returns-then-i-ge129
+returns-then-i-ge129 c = ap mirror_point (past_last no_point c.args.p.points places (search (rules, length_mapped)) c.if-i-ge129.true)
