@@ -1,5 +1,5 @@
-//! Links libhingerota.a, which `rt staticlib hingerota` writes. HINGEROTA_LIB names another folder that has it; where neither is there, it is
-//! the library that pkg-config finds.
+//! Links libhingerota.a, which `tools/build library` writes. HINGEROTA_LIB names another folder that has it; where neither is there, it is the
+//! library that pkg-config finds.
 
 use std::env;
 use std::path::{Path, PathBuf};

@@ -49,7 +49,7 @@
  *   - A tenant never has more live jobs than its quota. Minutes depend on the jobs of both
  *     tenants, and are kept for both.
  *   - After any call no waiting job of a Promise Desk could begin earlier than planned with all
- *     others where they are: `no-gaps` in `crates/guarantees/specs/NoGaps.antt`.
+ *     others where they are: `no_gaps` in `crates/guarantees/specs/NoGaps.antt`.
  *   - A job never starts before a minute that hingerota_earliest_start gave for it, whatever calls
  *     follow, unless its order is corrected: `starts_no_sooner` in
  *     `crates/guarantees/specs/EarliestStart.antt`.
@@ -58,7 +58,7 @@
  *     hingerota_longest_estimate gives: `in_time_to`, `in_time_only` in
  *     `crates/conservative_laws/specs/LongestEstimate.antt`.
  *   - The index agrees with the profile. The search by the index finds the same minute as a search
- *     through every point: `beside_index` in `crates/conservative_points/specs/Beside.antt`.
+ *     through every point: `beside_index` in `crates/conservative_kept/specs/Beside.antt`.
  *   - Minutes that pass at once count as so many ticks: `host_advanced_keeps` in
  *     `crates/hingerota/specs/Chain.antt`.
  *

@@ -1,5 +1,6 @@
 // The one answer of a corrected order that is withdrawn and taken in anew (document 02, No. 13).
 #![tactic(auto)]
+
 ghost use Rattle.std.specs.Prelude.{◌≡◌, ◌++◌};
 ghost use Rattle.scheduler.specs.Answers.{answer};
 ghost use Rattle.scheduler.specs.Table.{tickets};

@@ -10,7 +10,7 @@ use mathlib.Core.List.{List, [], ◌∷◌, ◌++◌, head?, append-nil}
 use Rattle.std.proofs.Math.Logic.{⊎_elim}
 use borrow.Author.Tests.{eqb-true, eq-eqb, ne_eqb}
 use Rattle.lists.specs.Tests.{case, both}
-use Rattle.lists.specs.Lists.{keep, any, any_in, none_any, first, In, in_nil, keep_in, keep_append, keep_all, keep_none, first_in}
+use Rattle.lists.specs.Lists.{keep, any, any_in, none_any, In, in_nil, keep_in, keep_append, keep_all, keep_none, first_in}
 use Rattle.scheduler.specs.declared.Kind.{Kind}
 use Rattle.scheduler.specs.declared.Kind.TheVariants.{Conservative, Easy}
 use Rattle.scheduler.specs.declared.Job.{Job}

@@ -1,7 +1,7 @@
 -- "and if either grows the rest of intake's": of these only 5 and 6 can still refuse it. 14, 1, 2 and 19 are judged before, and 15 cannot be given,
 -- since the withdrawal gives the house's place back.
 -- Assumes nothing.
-use Rattle.std.specs.Prelude.{ℕ, ◌+◌, ◌≤◌, ◌<◌, ◌≡◌, refl, Bool, true, false, cond, List, [], ◌∷◌, ◌++◌, map, eqb, ltb}
+use Rattle.std.specs.Prelude.{ℕ, ◌≤◌, ◌<◌, ◌≡◌, refl, Bool, true, false, cond, List, [], ◌∷◌, ◌++◌, map, eqb, ltb}
 use Rattle.std.proofs.Common.{arith, sym, ap, subst, ◌∙◌, append-nil, le-ltb, eq-eqb, eqb-true}
 use Rattle.std.proofs.Math.Option.{Option, none, some}
 use Rattle.std.proofs.lemmas.Bool.{lt-leb}
@@ -98,6 +98,7 @@ module _ {k : Kind} {Fit : Model → Type 0} {OnCourse : Model → ℕ → ℕ �
       some false c = omega arith
 
       less : (f g : Job → ℕ) (js : List Job) → ((y : Job) → In y js → f y ≤ g y) → In j js → f j < g j → sum f js < sum g js
+      less f g [] p i l = elim i [ ]
       less f g (y ∷ ys) p (here e) l = omega (arith, l, ap f e, ap g e, sum_le f g ys (λ z u. p z (there u)))
       less f g (y ∷ ys) p (there u) l = omega (arith, p y (here refl), less f g ys (λ z o. p z (there o)) u l)
 

@@ -1,5 +1,6 @@
 // Corrected orders of waiting jobs (document 02, No. 13), of either kind: what becomes of one, and the record that one in place supersedes.
 #![tactic(auto)]
+
 ghost use Rattle.std.specs.Prelude.{◌≡◌, ◌≤◌};
 ghost use Rattle.lists.specs.Loops.{position};
 ghost use Rattle.scheduler.specs.Limits.{max_nodes, longest_estimate};

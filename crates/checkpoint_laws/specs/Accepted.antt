@@ -11,8 +11,9 @@ use Rattle.lists.specs.Tests.{case, true_false, both, on}
 use Rattle.lists.specs.Lists.{keep, sum, All, In, here, there, in_nil, in_cons, all_in, all_of, keep_in, in_keep, sum_map, sum_kept, sum_le}
 use Rattle.lists.specs.Every.{every, when, and_both, when_then, then_when, every_in, every_of}
 use Rattle.spans.specs.Spans.{takes, used}
-use Rattle.spans.specs.UsedNodes.{takes_le}
-use Rattle.spans.specs.EveryMinute.{fits_every, every_minute, minutes_fit_lem}
+use Rattle.spans.proofs.UsedNodes.{takes_le}
+use Rattle.spans.specs.EveryMinute.{fits_every}
+use Rattle.spans.proofs.EveryMinute.{every_minute, minutes_fit_lem}
 use Rattle.scheduler.specs.declared.Kind.{Kind}
 use Rattle.scheduler.specs.declared.Kind.TheVariants.{Conservative, Easy}
 use Rattle.scheduler.specs.declared.State.{State}

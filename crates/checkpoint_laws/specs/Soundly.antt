@@ -7,7 +7,8 @@ use Rattle.lists.specs.Tests.{case, true_false, both, neither, on}
 use Rattle.lists.specs.Lists.{keep, sum, All, In, here, there, all_in, keep_in, in_keep, sum_zero, sum_kept, sum_le}
 use Rattle.lists.specs.Every.{every, when, and_both, when_then, then_when, every_in, every_of}
 use Rattle.spans.specs.Spans.{takes, used}
-use Rattle.spans.specs.EveryMinute.{fits_every, every_minute, minutes_fit_lem}
+use Rattle.spans.specs.EveryMinute.{fits_every}
+use Rattle.spans.proofs.EveryMinute.{every_minute, minutes_fit_lem}
 use Rattle.scheduler.specs.declared.Kind.{Kind}
 use Rattle.scheduler.specs.declared.Kind.TheVariants.{Conservative, Easy}
 use Rattle.scheduler.specs.declared.State.{State}

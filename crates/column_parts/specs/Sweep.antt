@@ -1,7 +1,7 @@
 -- The jobs are looked at one after another, and those whose run ends or who leave are dealt with at once: what has become of the list, where the
 -- next one stands, and which places were left.
 -- Assumes nothing.
-use Rattle.std.specs.Prelude.{ℕ, zero, suc, ◌+◌, ◌-◌, ◌≤◌, ◌<◌, ◌≡◌, refl, true, false, not, List, [], ◌∷◌, ◌++◌, map, length, get_or, set, take, drop}
+use Rattle.std.specs.Prelude.{ℕ, zero, suc, ◌+◌, ◌≤◌, ◌<◌, ◌≡◌, refl, true, false, not, List, [], ◌∷◌, ◌++◌, map, length, get_or, set, take, drop}
 use Rattle.std.proofs.Common.{arith, add-one, sym, ap, ◌∙◌, append_assoc, append-nil, length-append, length-drop, drop-cons}
 use Rattle.std.proofs.lemmas.List.{map-append, length-map, set_at, get_or_at}
 use Rattle.std.proofs.Math.Seq.{take-length, drop-length}
@@ -134,15 +134,15 @@ module _ (S : Settings) (now : ℕ) (s : Select) (js : List Job) where
 
   pub sweep_far : {i at : ℕ} {gone ended : List ℕ} (k : ℕ) → Sweep i at gone ended → i + k ≤ length js → Unmoved i k
       → Sweep (i + k) (at + k) gone ended × (swept (i + k) ≡ swept i)
-  sweep_far {i} {at} zero v l f =
+  sweep_far {i = i} {at = at} zero v l f =
       let a : i + 0 ≡ i = omega arith in
       let b : at + 0 ≡ at = omega arith in
       rw (a, b) (v, refl)
-  sweep_far {i} {at} (suc k) v l f =
+  sweep_far {i = i} {at = at} (suc k) v l f =
       let a : i + suc k ≡ i + 1 + k = omega arith in
       let b : at + suc k ≡ at + 1 + k = omega arith in
       let one = f i (omega arith) (omega arith) in
-      let far = sweep_far k (sweep_on v (omega arith) one.1 one.0) (omega arith) (λ n p q. f n (omega arith) (omega arith)) in
+      let far = sweep_far {i = i + 1} {at = at + 1} k (sweep_on v (omega arith) one.1 one.0) (omega arith) (λ n p q. f n (omega arith) (omega arith)) in
       rw (a, b) (far.0, far.1 ∙ swept_on v (omega arith) one.1 one.0)
 
   -- all have been looked at

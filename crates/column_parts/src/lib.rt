@@ -1,5 +1,6 @@
 // The part that a call does on the columns that both kinds have, and what a call tells.
 #![tactic(auto)]
+
 ghost use Rattle.std.specs.Prelude.{◌≡◌, true, false, List, ℕ, ◌-◌, ◌≤◌, ◌<◌, length, set};
 ghost use Rattle.lists.specs.Tests.{on};
 ghost use Rattle.scheduler.specs.declared.Departure.{Departure};

@@ -1,6 +1,7 @@
 // Conservative backfilling (document 01: "Promise Desk"), by value: submission, early completion, withdrawal and tick. `conservative_plan` places
 // the jobs and has the profile.
 #![tactic(auto)]
+
 ghost use Rattle.std.specs.Prelude.{◌≡◌, ◌≤◌, ◌<◌};
 ghost use Rattle.scheduler.specs.Limits.{max_nodes, longest_estimate, slots, last_ticket};
 ghost use Rattle.scheduler.specs.Table.{tickets};

@@ -11,8 +11,8 @@ use Rattle.scheduler.specs.Limits.{horizon}
 use Rattle.spans.specs.declared.Span.{Span}
 use Rattle.spans.specs.declared.Point.{Point}
 use Rattle.spans.specs.Spans.{free, last_end, earliest, profile, Fits, Earliest}
-use Rattle.spans.specs.UsedNodes.{used_last}
-use Rattle.spans.specs.EarliestStart.{earliest_is, earliest_unique}
+use Rattle.spans.proofs.UsedNodes.{used_last}
+use Rattle.spans.proofs.EarliestStart.{earliest_is, earliest_unique}
 use Rattle.conservative_table.specs.ListChanges.{rows}
 use Rattle.conservative_table.specs.Table.{Table, table_rise}
 use Rattle.conservative_table.specs.Points.{points_of, length_points_of, at_points_of}

@@ -1,6 +1,7 @@
 // The index of a profile (document 02: "for each block of 16 points, the fewest and the most free nodes"), and the search for the earliest start.
 // The search goes through the blocks and counts the points that it reads.
 #![tactic(auto)]
+
 ghost use Rattle.std.specs.Prelude.{◌≡◌, ◌+◌, ◌-◌, min, ◌<◌, ◌≤◌, length};
 ghost use Rattle.conservative_table.specs.ListChanges.{rows};
 ghost use Rattle.conservative_table.specs.ProfileLists.{IsProfile, Laying, Advancing};

@@ -13,7 +13,7 @@ use Rattle.lists.specs.Loops.{position, position_says}
 use Rattle.lists.specs.Pads.{pad}
 use Rattle.spans.specs.declared.Span.{Span}
 use Rattle.spans.specs.Spans.{takes, used, free}
-use Rattle.spans.specs.UsedNodes.{takes_in, takes_before, takes_after}
+use Rattle.spans.proofs.UsedNodes.{takes_in, takes_before, takes_after}
 use Rattle.scheduler.specs.declared.Departure.{Departure}
 use Rattle.scheduler.specs.declared.Departure.TheVariants.{Complete, Cancel}
 use Rattle.scheduler.specs.declared.Job.{Job}
@@ -23,7 +23,7 @@ use Rattle.scheduler.specs.declared.Settings.{Settings}
 use Rattle.scheduler.specs.declared.State.{State}
 use Rattle.scheduler.specs.declared.State.TheVariants.{Unused, Waiting, Running, Cleanup}
 use Rattle.scheduler.specs.Limits.{slots}
-use Rattle.scheduler.specs.Settings.{cleanup, hold_time, until}
+use Rattle.scheduler.specs.Settings.{cleanup, hold_time}
 use Rattle.scheduler.specs.Times.{until_is, until_end, until_cleaned}
 use Rattle.scheduler.specs.States.{live?}
 use Rattle.scheduler.specs.Jobs.{unused, is_cleaning, departs?, departs_as}

@@ -1,6 +1,7 @@
 // Conservative backfilling with the profile and its index kept from call to call, in lists that are lent. Each call brings the lists up to date.
 // Its answer is that of the call by value.
 #![tactic(auto)]
+
 ghost use Rattle.std.specs.Prelude.{◌≡◌, ◌≤◌, length};
 ghost use Rattle.lists.specs.Loops.{position};
 ghost use Rattle.scheduler.specs.Limits.{horizon, longest_hold, longest_cleanup};

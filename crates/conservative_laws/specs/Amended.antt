@@ -6,7 +6,7 @@ use Rattle.lists.specs.Tests.{le_or}
 use Rattle.lists.specs.Lists.{In, sum_map, sum_le}
 use Rattle.spans.specs.declared.Span.{Span}
 use Rattle.spans.specs.Spans.{takes, used}
-use Rattle.spans.specs.UsedNodes.{takes_in, takes_before, takes_after}
+use Rattle.spans.proofs.UsedNodes.{takes_in, takes_before, takes_after}
 use Rattle.scheduler.specs.declared.Job.{Job}
 use Rattle.scheduler.specs.declared.Settings.{Settings}
 use Rattle.scheduler.specs.States.{waiting?}

@@ -8,7 +8,7 @@ use borrow.Author.Tests.{leb-true, le-leb, ltb-false, lt-ltb, le-ltb}
 use Rattle.lists.specs.Tests.{case, true_false, both, le_or}
 use Rattle.lists.specs.Greatest.{greatest_holds, greatest_max, greatest_is}
 use Rattle.spans.specs.Spans.{free}
-use Rattle.spans.specs.EarliestStart.{earliest_mono, Room, room_start, start_room}
+use Rattle.spans.proofs.EarliestStart.{earliest_mono, Room, room_start, start_room}
 use Rattle.scheduler.specs.declared.Inquiry.{Inquiry}
 use Rattle.scheduler.specs.declared.Refusal.{Refusal}
 use Rattle.scheduler.specs.declared.Refusal.TheVariants as refusal

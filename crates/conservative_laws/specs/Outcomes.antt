@@ -7,7 +7,7 @@ use Rattle.std.proofs.lemmas.Bool.{not-false}
 use Rattle.lists.specs.Tests.{case, true_false}
 use Rattle.lists.specs.Lists.{keep, any, In, in_nil, in_cons, in_append, keep_none, sum_append}
 use Rattle.spans.specs.Spans.{used, free, Earliest}
-use Rattle.spans.specs.EarliestStart.{earliest_is}
+use Rattle.spans.proofs.EarliestStart.{earliest_is}
 use Rattle.scheduler.specs.declared.Job.{Job}
 use Rattle.scheduler.specs.declared.Submission.{Submission}
 use Rattle.scheduler.specs.declared.Refusal.{Refusal}

@@ -8,7 +8,7 @@ use Rattle.std.proofs.Math.ListN.{length, length-append}
 use Rattle.std.proofs.Math.Seq.{take-append_seam, drop-append-add, get_or-append_seam, set-append_seam, append_snoc}
 use Rattle.lists.specs.Lists.{In, here, there}
 use Rattle.spans.specs.Spans.{used}
-use Rattle.spans.specs.EarliestStart.{earliest_same}
+use Rattle.spans.proofs.EarliestStart.{earliest_same}
 use Rattle.scheduler.specs.declared.Job.{Job}
 use Rattle.scheduler.specs.Jobs.{is_waiting}
 use Rattle.scheduler.specs.declared.Settings.{Settings}

@@ -5,7 +5,7 @@ use Rattle.std.proofs.Common.{arith, sym, ap, ◌∙◌, eqb-true}
 use Rattle.lists.specs.Tests.{on, case, both}
 use Rattle.lists.specs.Lists.{sum, sum_map, sum_cong, sum_picked}
 use Rattle.spans.specs.Spans.{used}
-use Rattle.spans.specs.UsedNodes.{takes_after}
+use Rattle.spans.proofs.UsedNodes.{takes_after}
 use Rattle.scheduler.specs.declared.Job.{Job}
 use Rattle.scheduler.specs.declared.Select.{Select}
 use Rattle.scheduler.specs.declared.Select.TheVariants as select

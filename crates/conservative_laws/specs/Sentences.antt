@@ -9,8 +9,8 @@ use Rattle.lists.specs.Tests.{case, true_false, and_right_false, on}
 use Rattle.lists.specs.Lists.{keep, any, sum, elem, In, here, there, in_left, in_map, in_keep, keep_keep, keep_cong, keep_none, keep_map, map_cong}
 use Rattle.walltime.specs.WallTime.{wall_time}
 use Rattle.spans.specs.Spans.{takes, used, free, Earliest, Profile}
-use Rattle.spans.specs.EarliestStart.{earliest_is}
-use Rattle.spans.specs.ProfileLaws.{profile_is, profile_agrees, profile_length}
+use Rattle.spans.proofs.EarliestStart.{earliest_is}
+use Rattle.spans.proofs.ProfileLaws.{profile_is, profile_agrees, profile_length}
 use Rattle.scheduler.specs.declared.State.{State}
 use Rattle.scheduler.specs.declared.State.TheVariants.{Unused, Waiting, Running, Cleanup}
 use Rattle.scheduler.specs.declared.Job.{Job}

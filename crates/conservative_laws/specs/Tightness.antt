@@ -7,8 +7,8 @@ use mathlib.Core.List.{List, [], ◌∷◌, ◌++◌, map, head-eq_of_cons-eq, t
 use Rattle.lists.specs.Tests.{case, true_false, le_or}
 use Rattle.lists.specs.Lists.{keep, In, here, there, in_nil, in_cons, in_right, in_append, map_in, keep_all}
 use Rattle.spans.specs.Spans.{takes, used, free, last_end, fits, earliest, Fits, Earliest}
-use Rattle.spans.specs.UsedNodes.{takes_in}
-use Rattle.spans.specs.EarliestStart.{earliest_is}
+use Rattle.spans.proofs.UsedNodes.{takes_in}
+use Rattle.spans.proofs.EarliestStart.{earliest_is}
 use Rattle.scheduler.specs.declared.Job.{Job}
 use Rattle.scheduler.specs.declared.Submission.{Submission}
 use Rattle.scheduler.specs.declared.Departure.{Departure}

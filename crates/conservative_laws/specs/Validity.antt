@@ -9,8 +9,8 @@ use Rattle.lists.specs.Tests.{case, true_false, both, le_or, on}
 use Rattle.lists.specs.Lists.{sum, In, here, there, in_nil, in_cons, keep_in, sum_append, sum_map, sum_keep, sum_le}
 use Rattle.spans.specs.declared.Span.{Span}
 use Rattle.spans.specs.Spans.{takes, used, free, earliest, Fits, Earliest}
-use Rattle.spans.specs.UsedNodes.{takes_in, takes_before, takes_after, takes_less}
-use Rattle.spans.specs.EarliestStart.{earliest_is}
+use Rattle.spans.proofs.UsedNodes.{takes_in, takes_before, takes_after, takes_less}
+use Rattle.spans.proofs.EarliestStart.{earliest_is}
 use Rattle.scheduler.specs.declared.Kind.TheVariants.{Conservative}
 use Rattle.scheduler.specs.declared.State.{State}
 use Rattle.scheduler.specs.declared.State.TheVariants.{Waiting, Running}

@@ -4,7 +4,7 @@ use Rattle.std.specs.Prelude.{◌≡◌, List, ℕ, ◌+◌, ◌≤◌, length}
 use native.Mathlib.Omega.{arith}
 use Rattle.std.proofs.Math.ListN.{length-map}
 use Rattle.spans.specs.Spans.{earliest}
-use Rattle.spans.specs.ProfileLaws.{profile_length}
+use Rattle.spans.proofs.ProfileLaws.{profile_length}
 use Rattle.scheduler.specs.declared.Scheduler.{Scheduler}
 use Rattle.scheduler.specs.Limits.{longest_hold}
 use Rattle.scheduler.specs.Settings.{horizon}

@@ -10,8 +10,8 @@ use Rattle.lists.specs.Lists.{All, In, all_of, all_in, all_at, map_in, in_left, 
 use Rattle.lists.specs.Pads.{pad, sum_pad, length_pad, all_pad}
 use Rattle.spans.specs.declared.Span.{Span}
 use Rattle.spans.specs.Spans.{takes, used, free, last_end, profile}
-use Rattle.spans.specs.UsedNodes.{takes_le, last_le}
-use Rattle.spans.specs.ProfileLaws.{profile_length}
+use Rattle.spans.proofs.UsedNodes.{takes_le, last_le}
+use Rattle.spans.proofs.ProfileLaws.{profile_length}
 use Rattle.scheduler.specs.declared.Job.{Job}
 use Rattle.scheduler.specs.declared.Scheduler.{Scheduler}
 use Rattle.scheduler.specs.Limits.{max_nodes, slots}

@@ -8,8 +8,8 @@ use Rattle.lists.specs.Tests.{case, true_false}
 use Rattle.lists.specs.Lists.{All, In, here, there, in_left, in_right, in_append}
 use Rattle.spans.specs.declared.Span.{Span}
 use Rattle.spans.specs.Spans.{takes, used, last_end, earliest}
-use Rattle.spans.specs.UsedNodes.{used_among, takes_before, takes_in}
-use Rattle.spans.specs.EarliestStart.{earliest_is}
+use Rattle.spans.proofs.UsedNodes.{used_among, takes_before, takes_in}
+use Rattle.spans.proofs.EarliestStart.{earliest_is}
 use Rattle.scheduler.specs.declared.Job.{Job}
 use Rattle.scheduler.specs.Jobs.{is_waiting, is_cleaning, is_live_of}
 use Rattle.scheduler.specs.Limits.{longest_hold, slots}

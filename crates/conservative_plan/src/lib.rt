@@ -1,6 +1,7 @@
 // Where conservative backfilling places jobs: the profile of a scheduler's plan, the earliest start of a job in it, and the passes in which waiting
 // jobs move forward after an early completion or a withdrawal. `conservative` has the calls.
 #![tactic(auto)]
+
 ghost use Rattle.std.specs.Prelude.{◌≡◌, ◌≤◌, ◌<◌, length};
 ghost use Rattle.scheduler.specs.Limits.{horizon, longest_hold, slots};
 ghost use Rattle.scheduler.specs.Settings.{hold_time, until};

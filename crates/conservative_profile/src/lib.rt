@@ -1,6 +1,7 @@
 // The profile of a machine as points by value (document 01: "profile"): now, and each later minute whose free nodes differ from those of
 // the minute before.
 #![tactic(auto)]
+
 ghost use Rattle.std.specs.Prelude.{◌≡◌};
 ghost use Rattle.spans.specs.Spans.{profile};
 ghost use Rattle.conservative_profile.specs.StoredProfile.{stored};

@@ -8,7 +8,7 @@ use Rattle.lists.specs.Tests.{case, le_or}
 use Rattle.scheduler.specs.Limits.{horizon}
 use Rattle.spans.specs.declared.Span.{Span}
 use Rattle.spans.specs.Spans.{takes}
-use Rattle.spans.specs.UsedNodes.{takes_in, takes_before, takes_after, takes_still}
+use Rattle.spans.proofs.UsedNodes.{takes_in, takes_before, takes_after, takes_still}
 use Rattle.conservative_table.specs.declared.Row.{Row}
 use Rattle.conservative_table.specs.ListChanges.{rows, changed, SpareNodes, Adjustable, Adjusted}
 use Rattle.conservative_table.specs.Table.{Table, table_rise, table_same, Ascends, Split, Among, Before}

@@ -11,7 +11,7 @@ use Rattle.lists.specs.Tests.{le_or}
 use Rattle.spans.specs.declared.Span.{Span}
 use Rattle.spans.specs.declared.Point.{Point}
 use Rattle.spans.specs.Spans.{free, last_end, point, points, profile}
-use Rattle.spans.specs.ProfileLaws.{true_changes, points_append, points_still, profile_to}
+use Rattle.spans.proofs.ProfileLaws.{true_changes, points_append, points_still, profile_to}
 use Rattle.conservative_table.specs.Table.{Table, table_rise}
 
 -- m is the minute of a point: it is now, or f differs there from the minute before

@@ -9,8 +9,8 @@ use Rattle.scheduler.specs.Limits.{horizon, max_nodes, slots}
 use Rattle.spans.specs.declared.Span.{Span}
 use Rattle.spans.specs.declared.Point.{Point}
 use Rattle.spans.specs.Spans.{takes, used, free, last_end, point, profile, IsPoint, Ascend, Profile}
-use Rattle.spans.specs.UsedNodes.{free_less, free_more}
-use Rattle.spans.specs.ProfileLaws.{profile_is, profile_within, profile_length, profile_none, profile_same}
+use Rattle.spans.proofs.UsedNodes.{free_less, free_more}
+use Rattle.spans.proofs.ProfileLaws.{profile_is, profile_within, profile_length, profile_none, profile_same}
 use Rattle.conservative_table.specs.ListChanges.{rows}
 use Rattle.conservative_table.specs.declared.Row.{Row}
 use Rattle.conservative_table.specs.Table.{Before}

@@ -6,8 +6,8 @@ use Rattle.std.proofs.Common.{arith, add-one, ap, subst, inl, inr}
 use Rattle.lists.specs.Tests.{le_or}
 use Rattle.spans.specs.declared.Span.{Span}
 use Rattle.spans.specs.Spans.{free, last_end, earliest, Fits}
-use Rattle.spans.specs.UsedNodes.{used_last}
-use Rattle.spans.specs.EarliestStart.{earliest_is, earliest_unique}
+use Rattle.spans.proofs.UsedNodes.{used_last}
+use Rattle.spans.proofs.EarliestStart.{earliest_is, earliest_unique}
 use Rattle.scheduler.specs.Limits.{longest_hold}
 use Rattle.conservative_table.specs.declared.Found.{Found}
 use Rattle.conservative_table.specs.ListChanges.{rows}

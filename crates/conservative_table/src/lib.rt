@@ -1,6 +1,7 @@
 // The profile of a machine in two lent lists that are changed in place: the minutes of its points, and in the same places how many nodes are free
 // from each minute on. While a span is laid over it or taken out, there may be two more places, at which nothing changes.
 #![tactic(auto)]
+
 ghost use Rattle.std.specs.Prelude.{◌≡◌, [], ◌∷◌, ◌+◌, min, ◌<◌, ◌≤◌, length};
 ghost use Rattle.conservative_table.specs.ListChanges.{rows, Inserted, Removed, Adjusted, Adjustable};
 ghost use Rattle.conservative_table.specs.Table.{Ascends, Place, Split};

@@ -1,6 +1,7 @@
 // The earliest possible start of a waiting job, for either kind (document 02, No. 7: "soonest minute"). It is EASY's search for the shadow, over
 // the minutes in which nodes are given back at the earliest. It looks at no minute between these.
 #![tactic(auto)]
+
 ghost use Rattle.std.specs.Prelude.{◌≡◌, true, ◌≤◌, ◌<◌};
 ghost use Rattle.lists.specs.Lists.{first};
 ghost use Rattle.scheduler.specs.Limits.{horizon};

@@ -1,11 +1,11 @@
 -- A forecast written into the record of the job that it is given to.
 -- Assumes nothing.
-use Rattle.std.specs.Prelude.{ℕ, ◌+◌, ◌≤◌, ◌<◌, ◌≡◌, refl, true, false, cond, List, ◌++◌, map, eqb, length, get_or, set, take, drop}
-use Rattle.std.proofs.Common.{arith, sym, ap, ◌∙◌, append-nil, length-append, length-drop, drop_of_length-le, take_all, length-take-le, get_or-append-add, get_or-drop, eq-eqb, ne_eqb}
+use Rattle.std.specs.Prelude.{ℕ, ◌+◌, ◌≤◌, ◌<◌, ◌≡◌, refl, cond, List, ◌++◌, map, eqb, length, get_or, set, take, drop}
+use Rattle.std.proofs.Common.{arith, ap, ◌∙◌, append-nil, length-append, length-drop, drop_of_length-le, take_all, length-take-le, get_or-append-add, get_or-drop, eq-eqb, ne_eqb}
 use Rattle.std.proofs.Math.Option.{Option, none, some}
 use Rattle.std.proofs.lemmas.List.{length-map}
 use Rattle.lists.specs.Loops.{mapped_set, mapped_skip}
-use Rattle.lists.specs.Pads.{pad, map_pad}
+use Rattle.lists.specs.Pads.{map_pad}
 use Rattle.scheduler.specs.declared.Job.{Job}
 use Rattle.scheduler.specs.declared.Scheduler.{Scheduler}
 use Rattle.scheduler.specs.Limits.{slots}

@@ -1,6 +1,7 @@
 // EASY backfilling (document 01: "Loose Desk"): an order corrected in place (document 02, No. 13), by value. The record is superseded; then
 // the call settles, as every call does.
 #![tactic(auto)]
+
 ghost use Rattle.std.specs.Prelude.{◌≡◌};
 ghost use Rattle.scheduler.specs.Model.{view};
 ghost use Rattle.scheduler.specs.Answers.{outcome};

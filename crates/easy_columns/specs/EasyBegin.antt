@@ -4,7 +4,7 @@ use Rattle.std.specs.Prelude.{ℕ, zero, suc, ◌+◌, ◌-◌, ◌≤◌, ◌<�
 use Rattle.std.proofs.Common.{arith, add-one, sym, ap, subst, ◌∙◌, length-append, take_all, take-suc, length-take-le, eqb-true, eq-eqb, ne_eqb}
 use Rattle.std.proofs.lemmas.Bool.{eqb-false}
 use Rattle.lists.specs.Tests.{case, true_false}
-use Rattle.lists.specs.Lists.{In, keep, sum, in_getD, keep_in, sum_append, sum_picked, length_keep_le}
+use Rattle.lists.specs.Lists.{sum, in_getD, keep_in, sum_picked, length_keep_le}
 use Rattle.lists.specs.Loops.{keep_take_yes, keep_take_no}
 use Rattle.scheduler.specs.declared.State.{State}
 use Rattle.scheduler.specs.declared.State.TheVariants.{Unused, Waiting, Running, Cleanup}
@@ -12,13 +12,12 @@ use Rattle.scheduler.specs.declared.Settings.{Settings}
 use Rattle.scheduler.specs.declared.Job.{Job}
 use Rattle.scheduler.specs.Limits.{slots, horizon}
 use Rattle.scheduler.specs.States.{live?, waiting?, running?, cleaning?, holding?}
-use Rattle.scheduler.specs.Jobs.{unused, is_waiting, is_running, is_cleaning, is_holding, held}
-use Rattle.scheduler.specs.Settings.{cleanup, end_of, until}
-use Rattle.scheduler.specs.Times.{cleanup_le, until_end}
+use Rattle.scheduler.specs.Jobs.{unused, is_waiting, is_running, is_holding, held}
+use Rattle.scheduler.specs.Settings.{cleanup, until}
+use Rattle.scheduler.specs.Times.{until_end}
 use Rattle.scheduler.specs.Table.{nodes_held, ticket_of}
 use Rattle.scheduler.specs.Model.{Model}
 use Rattle.jobs.specs.Soundness.{Sound, SoundJob, running_clean}
-use Rattle.easy_rules.specs.Easy.{free}
 use Rattle.easy_laws.specs.Settling.{idle, sound_releasing}
 use Rattle.job_columns.specs.Columns.{Column, Blank, nodes_of, column_at, column_push}
 use Rattle.job_columns.specs.JobColumns.{state_of, due_of, JobColumns}

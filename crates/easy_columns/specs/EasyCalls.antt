@@ -1,7 +1,7 @@
 -- What the calls over columns are lent, and what they give: the reply of the rules, and the columns of the model after it.
 -- Assumes nothing.
-use Rattle.std.specs.Prelude.{ℕ, suc, ◌+◌, ◌≤◌, ◌≡◌, refl, true, false, List}
-use Rattle.std.proofs.Common.{arith, ap, ◌∙◌, ⊎_elim}
+use Rattle.std.specs.Prelude.{ℕ, ◌≡◌, List}
+use Rattle.std.proofs.Common.{ap, ◌∙◌, ⊎_elim}
 use Rattle.std.proofs.Math.Path.{sym, subst}
 use Rattle.std.proofs.Math.ListN.{take}
 use Rattle.scheduler.specs.declared.Settings.{Settings}
@@ -9,11 +9,11 @@ use Rattle.scheduler.specs.declared.Refusal.{Refusal}
 use Rattle.scheduler.specs.declared.Refusal.TheVariants as refusal
 use Rattle.scheduler.specs.declared.Request.{Request}
 use Rattle.scheduler.specs.Model.{Model}
-use Rattle.scheduler.specs.Answers.{Result, accepts, refuse}
+use Rattle.scheduler.specs.Answers.{Result, refuse}
 use Rattle.jobs.specs.Soundness.{Sound}
 use Rattle.history.specs.Calls as calls
 use Rattle.history.specs.Calls.{Call}
-use Rattle.easy_rules.specs.Easy.{head, settled, noted, finished, call}
+use Rattle.easy_rules.specs.Easy.{head, settled, finished, call}
 use Rattle.easy_laws.specs.Settling.{settles, settles_clock, settles_next}
 use Rattle.easy_laws.specs.Noted.{noted_clock, noted_next}
 use Rattle.easy_laws.specs.Validity.{Ready, Valid, CallAccepted, Unchanged, taken_settings, called, call_valid}

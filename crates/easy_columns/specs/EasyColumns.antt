@@ -1,6 +1,6 @@
 -- The columns of a scheduler of EASY backfilling: its live jobs in ticket order, and who holds nodes, in any order.
 -- Assumes nothing.
-use Rattle.std.specs.Prelude.{ℕ, ◌≡◌, List}
+use Rattle.std.specs.Prelude.{ℕ, List}
 use Rattle.scheduler.specs.declared.Job.{Job}
 use Rattle.scheduler.specs.Table.{ticket_of}
 use Rattle.scheduler.specs.Model.{Model}

@@ -1,17 +1,16 @@
 -- Jobs leave over columns: this kind's own columns, and who holds nodes then.
 -- Assumes nothing.
-use Rattle.std.specs.Prelude.{ℕ, suc, ◌-◌, ◌≤◌, ◌<◌, ◌≡◌, Bool, true, false, not, List, [], ◌∷◌, length, take}
+use Rattle.std.specs.Prelude.{ℕ, suc, ◌-◌, ◌≤◌, ◌<◌, ◌≡◌, true, false, not, List, length, take}
 use Rattle.std.proofs.Common.{arith, sym, subst, ◌∙◌, eq-eqb, lt-ltb, le-ltb}
 use Rattle.std.proofs.Math.Path.{refl, ap}
 use Rattle.std.proofs.lemmas.Bool.{not-false}
 use Rattle.lists.specs.Tests.{case, true_false}
-use Rattle.lists.specs.Lists.{In, any, elem}
+use Rattle.lists.specs.Lists.{any, elem}
 use Rattle.lists.specs.Pads.{pad}
 use Rattle.scheduler.specs.declared.Settings.{Settings}
 use Rattle.scheduler.specs.declared.Job.{Job}
 use Rattle.scheduler.specs.declared.Departure.{Departure}
 use Rattle.scheduler.specs.declared.Departure.TheVariants.{Complete, Cancel}
-use Rattle.scheduler.specs.declared.Refusal.{Refusal}
 use Rattle.scheduler.specs.declared.Refusal.TheVariants as refusal
 use Rattle.scheduler.specs.declared.Request.TheVariants as request
 use Rattle.scheduler.specs.declared.Select.{Select}
@@ -22,14 +21,14 @@ use Rattle.scheduler.specs.States.{running?, waiting?}
 use Rattle.scheduler.specs.Limits.{slots}
 use Rattle.scheduler.specs.Jobs.{picks}
 use Rattle.scheduler.specs.Settings.{horizon, cleanup}
-use Rattle.scheduler.specs.Table.{ends, ended_of, staying, ceased, remaining}
-use Rattle.scheduler.specs.Model.{Model, ending, without}
+use Rattle.scheduler.specs.Table.{ends, ceased, remaining}
+use Rattle.scheduler.specs.Model.{Model, without}
 use Rattle.scheduler.specs.Answers.{verdict, accepts, refuse}
 use Rattle.scheduler.specs.Refusals.{not_there_of, depart_refusal, tick_refusal}
 use Rattle.jobs.specs.Departing.{Ran, not_there, left_ran, departs_alone}
 use Rattle.jobs.specs.Soundness.{Sound, passed, ends_runs}
 use Rattle.history.specs.Calls.{depart, tick}
-use Rattle.easy_rules.specs.Easy.{advanced, call}
+use Rattle.easy_rules.specs.Easy.{call}
 use Rattle.job_table.specs.Parts.{Own, refused_own, leaving, withdrawn_by, departing, own_taken, own_refused}
 use Rattle.job_columns.specs.Removal.{removes}
 use Rattle.job_columns.specs.JobColumns.{submitted_of, rank_of, forecast_of}

@@ -17,11 +17,10 @@ use Rattle.scheduler.specs.Times.{longest_le, hold_le, units_le}
 use Rattle.scheduler.specs.Table.{live_of}
 use Rattle.scheduler.specs.Model.{Model, joined}
 use Rattle.scheduler.specs.Answers.{verdict, accepts, refuse}
-use Rattle.jobs.specs.Judgement.{accepts_none}
 use Rattle.jobs.specs.Soundness.{Sound, Fit, submit_fit, fit_room}
 use Rattle.history.specs.Calls.{submit}
 use Rattle.easy_rules.specs.Easy.{head, new_job, rank, submit_refusal, call}
-use Rattle.easy_laws.specs.Validity.{Ready, Valid, latest_end}
+use Rattle.easy_laws.specs.Validity.{Ready, latest_end}
 use Rattle.job_table.specs.Parts.{Own, coming, refusal_by, shared_refusal}
 use Rattle.job_table.specs.Submitting.{Tells, tests_more, judged_alike}
 use Rattle.job_columns.specs.Columns.{Whole, column_push}
@@ -30,7 +29,7 @@ use Rattle.column_parts.specs.declared.Told.{Told}
 use Rattle.column_parts.specs.ToldReply.{refused_told}
 use Rattle.easy_engine.specs.Survey.{asks, ticket_in, head_before}
 use Rattle.easy.specs.Parts.{own}
-use Rattle.easy_columns.specs.EasyColumns.{QueueColumns, Holders, EasyColumns}
+use Rattle.easy_columns.specs.EasyColumns.{QueueColumns, EasyColumns}
 use Rattle.easy_columns.specs.HoldersLeave.{holders_joined}
 use Rattle.easy_columns.specs.Finishing.{Unfinished, Finishes}
 use Rattle.easy_columns.specs.EasyCalls.{Kept, Gives, refused_gives, finished_gives, call_gives, before_is, ready_is}

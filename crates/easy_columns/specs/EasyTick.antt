@@ -1,7 +1,7 @@
 -- A tick over columns: it is refused, or runs end, nodes are free again, and the columns are settled.
 -- Assumes nothing.
 use Rattle.std.specs.Prelude.{ℕ, suc, ◌+◌, ◌≤◌, ◌<◌, ◌≡◌, refl, List}
-use Rattle.std.proofs.Common.{arith, add-one, sym, ap, subst, ◌∙◌}
+use Rattle.std.proofs.Common.{arith, add-one, ap, subst, ◌∙◌}
 use Rattle.scheduler.specs.declared.Settings.{Settings}
 use Rattle.scheduler.specs.declared.Refusal.TheVariants as refusal
 use Rattle.scheduler.specs.declared.Request.TheVariants as request

@@ -1,15 +1,13 @@
 -- A call that has done its own part settles: the columns after it are those of the model that it leaves.
 -- Assumes nothing.
-use Rattle.std.specs.Prelude.{ℕ, zero, suc, ◌+◌, ◌≤◌, ◌<◌, ◌≡◌, refl, List, [], ◌∷◌, ◌++◌, map, length, get_or, set, replicate}
+use Rattle.std.specs.Prelude.{ℕ, zero, suc, ◌+◌, ◌<◌, ◌≡◌, refl, List, [], ◌∷◌, ◌++◌, map, length, get_or, replicate}
 use Rattle.std.proofs.Common.{arith, sym, ap, subst, ◌∙◌, get_or-append-add}
 use Rattle.std.proofs.Math.Option.{Option, none, some}
-use Rattle.std.proofs.lemmas.List.{map-append, length-replicate, length-map}
+use Rattle.std.proofs.lemmas.List.{map-append, length-map}
 use Rattle.std.proofs.Math.ListN.{get_or-map}
-use Rattle.lists.specs.Lists.{In}
 use Rattle.lists.specs.Pads.{pad}
 use Rattle.scheduler.specs.declared.Settings.{Settings}
 use Rattle.scheduler.specs.declared.Job.{Job}
-use Rattle.scheduler.specs.declared.Refusal.{Refusal}
 use Rattle.scheduler.specs.declared.Refusal.TheVariants as refusal
 use Rattle.scheduler.specs.Limits.{slots}
 use Rattle.scheduler.specs.Jobs.{unused}
@@ -18,11 +16,10 @@ use Rattle.scheduler.specs.Table.{ticket_of, tickets_of}
 use Rattle.scheduler.specs.Model.{Model}
 use Rattle.scheduler.specs.Answers.{Forecast, head_ticket, head_minute}
 use Rattle.jobs.specs.Order.{Asc, asc_in}
-use Rattle.jobs.specs.Soundness.{Sound}
 use Rattle.easy_rules.specs.Easy.{head, begun, Settling, settled, forecast, noted}
 use Rattle.easy_laws.specs.Settling.{settles, settles_settings}
 use Rattle.easy_laws.specs.Course as course
-use Rattle.easy_laws.specs.Noted.{forecast_says, noted_clock, noted_next, noted_settings}
+use Rattle.easy_laws.specs.Noted.{forecast_says}
 use Rattle.easy_laws.specs.Validity.{Ready, settles_ready}
 use Rattle.job_columns.specs.Columns.{Column, Whole, column_at}
 use Rattle.job_columns.specs.JobColumns.{submitted_of, rank_of, forecast_of, JobColumns}
@@ -30,10 +27,10 @@ use Rattle.column_parts.specs.declared.Told.{Told}
 use Rattle.column_parts.specs.ColumnParts.{Listing}
 use Rattle.easy_engine.specs.declared.Announced.{Announced}
 use Rattle.easy_engine.specs.declared.SlotAnswer.{SlotAnswer}
-use Rattle.easy_engine.specs.Survey.{asks, begins, ticket_in, announced}
+use Rattle.easy_engine.specs.Survey.{begins, ticket_in}
 use Rattle.easy_engine.specs.Shadows.{holding_few}
 use Rattle.easy_engine.specs.BySlot.{SlotSurvey, SlotAnswers, AtRest, with_starts}
-use Rattle.easy_engine.specs.WrittenStarts.{begins_keep, begins_settings, applied}
+use Rattle.easy_engine.specs.WrittenStarts.{begins_keep, applied}
 use Rattle.easy_columns.specs.EasyColumns.{QueueColumns, Holders, EasyColumns}
 use Rattle.easy_columns.specs.Starting.{tickets_at, Starting, Begun}
 use Rattle.easy_columns.specs.HeadNoted.{Heard, core_noted, queue_noted, holders_noted}

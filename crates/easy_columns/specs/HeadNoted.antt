@@ -4,7 +4,7 @@ use Rattle.std.specs.Prelude.{ℕ, ◌≤◌, ◌<◌, ◌≡◌, refl, true, le
 use Rattle.std.proofs.Common.{arith, ap, ◌∙◌, eq-eqb}
 use Rattle.std.proofs.Math.Path.{sym, subst}
 use Rattle.std.proofs.Math.Option.{Option, none, some}
-use mathlib.Core.List.{List, [], ◌∷◌, map}
+use mathlib.Core.List.{List, map}
 use Rattle.std.proofs.Math.ListN.{length-map}
 use Rattle.lists.specs.Tests.{true_false}
 use Rattle.lists.specs.Lists.{In, keep_all}

@@ -1,9 +1,9 @@
 -- Who holds nodes, where jobs leave, are changed or come in.
 -- Assumes nothing.
-use Rattle.std.specs.Prelude.{ℕ, zero, suc, ◌+◌, ◌-◌, ◌≤◌, ◌<◌, ◌≡◌, refl, Bool, true, false, not, ◌&&◌, cond, List, [], ◌∷◌, ◌++◌, map, length, get_or, set}
-use Rattle.std.proofs.Common.{arith, sym, ap, subst, ◌∙◌, eqb-true, eq-eqb, ne_eqb}
-use Rattle.lists.specs.Tests.{case, true_false, on, on_le}
-use Rattle.lists.specs.Lists.{In, here, there, keep, sum, in_getD, map_in, keep_in, map_same, sum_append, sum_map, sum_picked, sum_cong, sum_zero, sum_in, sum_le}
+use Rattle.std.specs.Prelude.{ℕ, zero, suc, ◌≤◌, ◌<◌, ◌≡◌, refl, Bool, true, false, not, cond, List, [], ◌∷◌, map, length, get_or, set}
+use Rattle.std.proofs.Common.{arith, sym, ap, ◌∙◌, eqb-true, eq-eqb, ne_eqb}
+use Rattle.lists.specs.Tests.{case, on, on_le}
+use Rattle.lists.specs.Lists.{In, keep, sum, in_getD, map_in, keep_in, map_same, sum_append, sum_map, sum_picked, sum_cong, sum_zero, sum_in, sum_le}
 use Rattle.scheduler.specs.declared.Job.{Job}
 use Rattle.scheduler.specs.Jobs.{unused, is_holding}
 use Rattle.scheduler.specs.Model.{Model, joined}

@@ -1,15 +1,14 @@
 -- Who holds nodes after a call's own part: at a tick, at an early end, at a withdrawal, and where a job comes in.
 -- Assumes nothing.
-use Rattle.std.specs.Prelude.{ℕ, suc, ◌+◌, ◌-◌, ◌≤◌, ◌<◌, ◌≡◌, refl, Bool, true, false, not, ◌&&◌, ◌||◌, cond, List, [], ◌∷◌, ◌++◌, map, eqb, ltb, length, get_or, set}
+use Rattle.std.specs.Prelude.{ℕ, suc, ◌+◌, ◌-◌, ◌≤◌, ◌<◌, ◌≡◌, refl, Bool, true, false, not, ◌&&◌, ◌||◌, cond, List, [], ◌∷◌, map, eqb, ltb, length, get_or, set}
 use Rattle.std.proofs.Common.{arith, sym, ap, subst, ◌∙◌, length-set, eqb-true, eq-eqb, ne_eqb, ltb-true, lt-ltb}
 use Rattle.std.proofs.Math.Option.{Option, none, some}
 use Rattle.std.proofs.lemmas.List.{length-map}
 use Rattle.std.proofs.lemmas.Bool.{eqb-false}
-use Rattle.lists.specs.Tests.{case, true_false, on, on_le, both, and_right_false}
-use Rattle.lists.specs.Lists.{In, keep, sum, in_getD, keep_in, keep_all, map_same, sum_append, sum_map, sum_keep, sum_picked, sum_cong, sum_in, sum_le, sum_zero}
+use Rattle.lists.specs.Tests.{case, true_false, on, both, and_right_false}
+use Rattle.lists.specs.Lists.{In, sum, in_getD, keep_all, sum_append, sum_map, sum_keep, sum_picked, sum_cong, sum_in, sum_zero}
 use Rattle.lists.specs.FirstLaws.{first_none, first_nowhere}
 use Rattle.lists.specs.Loops.{position, position_says}
-use Rattle.scheduler.specs.declared.Departure.{Departure}
 use Rattle.scheduler.specs.declared.Departure.TheVariants.{Complete, Cancel}
 use Rattle.scheduler.specs.declared.State.{State}
 use Rattle.scheduler.specs.declared.State.TheVariants.{Unused, Waiting, Running, Cleanup}
@@ -19,19 +18,19 @@ use Rattle.scheduler.specs.declared.Select.{Select}
 use Rattle.scheduler.specs.declared.Select.TheVariants as select
 use Rattle.scheduler.specs.declared.Submission.{Submission}
 use Rattle.scheduler.specs.Limits.{slots, max_nodes}
-use Rattle.scheduler.specs.States.{running?, waiting?, cleaning?, holding?}
-use Rattle.scheduler.specs.Jobs.{unused, is_waiting, is_running, is_cleaning, is_holding, held, cleaning, departs_as}
+use Rattle.scheduler.specs.States.{running?, cleaning?}
+use Rattle.scheduler.specs.Jobs.{unused, is_waiting, is_running, is_cleaning, is_holding, held, cleaning}
 use Rattle.scheduler.specs.Settings.{horizon, cleanup, end_of, until}
 use Rattle.scheduler.specs.Times.{cleanup_le, until_end, until_cleaned}
-use Rattle.scheduler.specs.Table.{nodes_held, ticket_of, ends, withdraws, releases, leaves, staying, ceased, remaining}
+use Rattle.scheduler.specs.Table.{nodes_held, ticket_of, ends, leaves, staying, ceased}
 use Rattle.scheduler.specs.Model.{Model, ending, joined, without}
 use Rattle.jobs.specs.Order.{asc_one}
-use Rattle.jobs.specs.Soundness.{Sound, SoundJob, Leaving, early, in_time_lem, running_holds, holding_runs, running_clean, ends_runs, withdraws_waits, ceased_ticket, ceased_held, sound_leave}
+use Rattle.jobs.specs.Soundness.{Sound, Leaving, early, in_time_lem, running_holds, holding_runs, running_clean, ends_runs, ceased_ticket, sound_leave}
 use Rattle.easy_rules.specs.Easy.{free, new_job}
 use Rattle.easy_laws.specs.Settling.{sound_releasing, idle}
 use Rattle.job_columns.specs.Columns.{Column, nodes_of, column_at, column_set, column_map, column_still}
 use Rattle.job_columns.specs.Searches.{place_of, has_ticket}
-use Rattle.easy_engine.specs.Survey.{Runs, Holding}
+use Rattle.easy_engine.specs.Survey.{Runs}
 use Rattle.easy_engine.specs.Shadows.{holding_few}
 use Rattle.easy_columns.specs.EasyColumns.{Holders}
 use Rattle.easy_columns.specs.HoldersChange.{runs_kept, runs_alike, runs_joined, runs_have, runs_once, runs_there, once_set, once_sum}

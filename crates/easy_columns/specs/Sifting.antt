@@ -1,7 +1,7 @@
 -- Holders leave the lists, in any order: the last of them takes the place of one that leaves.
 -- Assumes nothing.
 use Rattle.std.specs.Prelude.{ℕ, zero, suc, ◌+◌, ◌-◌, ◌≤◌, ◌<◌, ◌≡◌, refl, Bool, true, false, not, List, [], ◌∷◌, ◌++◌, map, ◌⊎◌, eqb, length, get_or, set, take, replicate}
-use Rattle.std.proofs.Common.{arith, add-one, sym, ap, subst, ◌∙◌, append_assoc, inl, inr, length-append, length-set, length-take-le, take-suc, take_all, get_or-take, get_or-set_same, get_or-set_other, eqb-true, ne_eqb, eq-eqb}
+use Rattle.std.proofs.Common.{arith, sym, ap, subst, ◌∙◌, append_assoc, inl, inr, length-set, length-take-le, take-suc, take_all, get_or-take, get_or-set_same, get_or-set_other, eqb-true, ne_eqb, eq-eqb}
 use Rattle.std.proofs.lemmas.List.{map-append, length-map, set_at}
 use Rattle.std.proofs.lemmas.Bool.{eqb-false}
 use Rattle.lists.specs.Tests.{case, on, on_le}

@@ -10,7 +10,7 @@ use Rattle.scheduler.specs.declared.Job.{Job}
 use Rattle.scheduler.specs.declared.State.TheVariants.{Running}
 use Rattle.scheduler.specs.Limits.{slots}
 use Rattle.scheduler.specs.Jobs.{unused, job_at}
-use Rattle.scheduler.specs.Settings.{cleanup, run_time, hold_time, until}
+use Rattle.scheduler.specs.Settings.{cleanup, run_time, until}
 use Rattle.scheduler.specs.Times.{hold_is, until_at}
 use Rattle.scheduler.specs.Table.{ticket_of, tickets_of}
 use Rattle.scheduler.specs.Model.{Model}

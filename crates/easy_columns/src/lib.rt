@@ -2,6 +2,7 @@
 // it answers. Besides the columns that both kinds have there are, of each live job, the nodes that it asks for while it waits, when it was
 // submitted, its rank and its forecast; and of those that hold nodes, in any order, how many, until when, and their tickets.
 #![tactic(auto)]
+
 ghost use Rattle.std.specs.Prelude.{◌≡◌, List, [], ◌∷◌, ◌++◌, cond, ℕ, ◌+◌, ◌-◌, ◌≤◌, ◌<◌, eqb, length, take};
 ghost use Rattle.std.proofs.Math.Option.{Option};
 ghost use Rattle.lists.specs.Loops.{position};

@@ -3,7 +3,7 @@
 -- Assumes nothing.
 use Rattle.std.specs.Prelude.{ℕ, ◌+◌, ◌≤◌, ◌<◌, ◌≡◌, refl, List, [], ◌++◌, map, length, get_or, drop}
 use Rattle.std.proofs.Common.{arith, sym, ap, subst, ◌∙◌}
-use Rattle.std.proofs.Math.Option.{Option, none, some}
+use Rattle.std.proofs.Math.Option.{none, some}
 use Rattle.std.proofs.Math.ListN.{get_or-append}
 use Rattle.std.proofs.lemmas.List.Edits.{sets-eq}
 use Rattle.lists.specs.Lists.{In, first}
@@ -15,7 +15,7 @@ use Rattle.scheduler.specs.Jobs.{unused}
 use Rattle.scheduler.specs.Table.{ticket_of, tickets_of}
 use Rattle.scheduler.specs.Model.{Model}
 use Rattle.jobs.specs.Order.{asc_in}
-use Rattle.easy_rules.specs.Easy.{head, free, choice, begun, Settling, settled, forecast}
+use Rattle.easy_rules.specs.Easy.{head, free, choice, begun, settled, forecast}
 use Rattle.easy_laws.specs.Settling.{settles, settles_rest}
 use Rattle.easy_laws.specs.EngineLaws.{settle_rests}
 use Rattle.easy_laws.specs.Validity.{Ready}

@@ -2,7 +2,6 @@
 -- Assumes nothing.
 use Rattle.std.specs.Prelude.{ℕ, suc, ◌+◌, ◌-◌, ◌≤◌, ◌≡◌, refl, Bool, true, false, ◌||◌, List, [], ◌∷◌, length, drop}
 use Rattle.std.proofs.Common.{arith, ap, ◌∙◌, drop_of_length-le}
-use Rattle.std.proofs.Math.Option.{Option, none, some}
 use Rattle.lists.specs.Tests.{case}
 use Rattle.lists.specs.Lists.{In, here, there}
 use Rattle.lists.specs.Loops.{position_from, position}

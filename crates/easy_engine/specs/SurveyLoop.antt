@@ -8,7 +8,7 @@ use Rattle.std.proofs.Math.ListN.{length, get_or, get_or-append}
 use Rattle.std.proofs.lemmas.List.{length-map, set_at}
 use Rattle.std.proofs.Math.Seq.{get_or_at}
 use Rattle.lists.specs.Tests.{case}
-use Rattle.lists.specs.Lists.{In, keep, sum, in_append, in_cons, in_nil, keep_in, keep_all, sum_append, sum_picked, length_keep_le}
+use Rattle.lists.specs.Lists.{In, sum, in_append, in_cons, in_nil, keep_in, keep_all, sum_append, sum_picked, length_keep_le}
 use Rattle.lists.specs.Loops.{keep_take_yes, keep_take_no}
 use Rattle.lists.specs.Pads.{pad, keep_pad, sum_pad, pad_push, pad_set}
 use Rattle.scheduler.specs.declared.Settings.{Settings}

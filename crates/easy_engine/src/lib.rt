@@ -2,6 +2,7 @@
 // hold nodes the lists have the nodes and the minutes in which they are free again, in any order. For the waiting jobs, in ticket order, they have
 // nodes and estimates.
 #![tactic(auto)]
+
 ghost use Rattle.std.specs.Prelude.{◌≡◌, true, cond, ◌&&◌, ◌||◌, List, ◌+◌, ◌≤◌, ◌<◌, leb, ltb, length};
 ghost use Rattle.lists.specs.Tests.{on};
 ghost use Rattle.lists.specs.Loops.{position};

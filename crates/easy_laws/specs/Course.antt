@@ -10,7 +10,7 @@ use Rattle.std.proofs.Math.Logic.{⊎_elim}
 use Rattle.std.proofs.Math.Dec.{leb}
 use borrow.Author.Tests.{leb-true, leb-false, le-leb, lt-ltb, le-ltb, eqb-true, eq-eqb, ne_eqb}
 use Rattle.lists.specs.Tests.{case, true_false, on, on_le, both, either}
-use Rattle.lists.specs.Lists.{keep, first, elem, sum, In, here, in_nil, in_cons, in_map, in_left, in_right, keep_in, in_keep, first_in}
+use Rattle.lists.specs.Lists.{keep, elem, sum, In, here, in_nil, in_cons, in_map, in_left, in_right, keep_in, in_keep, first_in}
 use Rattle.lists.specs.Lists.{keep_append, keep_cong, keep_all, sum_append, sum_map, sum_cong, sum_keep, sum_le, sum_zero, sum_in, length_keep}
 use Rattle.lists.specs.Least.{least}
 use Rattle.scheduler.specs.declared.Submission.{Submission}

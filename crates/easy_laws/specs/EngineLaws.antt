@@ -15,7 +15,7 @@ use Rattle.scheduler.specs.declared.Job.{Job}
 use Rattle.scheduler.specs.Limits as limit
 use Rattle.scheduler.specs.Jobs.{unused, is_waiting, is_holding, held}
 use Rattle.scheduler.specs.declared.Settings.{Settings}
-use Rattle.scheduler.specs.Settings.{slots, until}
+use Rattle.scheduler.specs.Settings.{until}
 use Rattle.scheduler.specs.Table.{with_jobs}
 use Rattle.scheduler.specs.Model.{Model, store, with_model_jobs}
 use Rattle.scheduler.specs.TableLaws.{put_stored}
@@ -62,7 +62,7 @@ module _ (S : Settings) (t c : ℕ) where
       (λ e. rw e (omega (arith, latest_by js l, leb-true (until S j) t (both (is_holding j) (leb (until S j) t) e).1)))
       (λ e. rw e (omega (arith, latest_by js l)))
 
-  latest_from : {js : List Job} {j : Job} → In j js → over_by S t j ≡ true → until S j ≤ latest S t c js
+  latest_from : {j : Job} {js : List Job} → In j js → over_by S t j ≡ true → until S j ≤ latest S t c js
   latest_from (here {x = x} z) e = rw (ap (over_by S t) (sym z) ∙ e) (omega (arith, ap (until S) z))
   latest_from (there i) e = omega (arith, latest_from i e)
 
@@ -139,9 +139,9 @@ module _ (m : Model) (n : ℕ) where
   earliest_by best (j ∷ js) = omega (arith, earliest_by (sooner m n best j) js, sooner_by best j)
 
   -- no end at which the nodes suffice is earlier
-  pub earliest_min : (best : ℕ) {js : List Job} {j : Job} → In j js → is_holding j ≡ true → n ≤ avail m (until m.settings j)
+  pub earliest_min : {j : Job} (best : ℕ) {js : List Job} → In j js → is_holding j ≡ true → n ≤ avail m (until m.settings j)
       → earliest m n best js ≤ until m.settings j
-  earliest_min best {j = j} (here {x = x} {xs = xs} z) r l =
+  earliest_min {j = j} best (here {x = x} {xs = xs} z) r l =
       let S = m.settings in
       by (le_or best (until S j))
     where

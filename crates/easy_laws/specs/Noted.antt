@@ -1,27 +1,26 @@
 -- A forecast that is kept in the record of its job (document 02, No. 11) changes nothing else: who waits, the nodes, the shadow, who may start and
 -- what is on course stay as they were.
 -- Assumes nothing.
-use Prim.Native.Nat.{ℕ, suc, ◌+◌, ◌-◌, ◌*◌, ◌≤◌, ◌<◌}
+use Prim.Native.Nat.{ℕ, ◌+◌, ◌-◌, ◌*◌, ◌<◌}
 use Rattle.std.proofs.Common.{arith, sym, subst, ◌∙◌, eqb-true}
 use Rattle.std.proofs.Math.Path.{◌≡◌, refl, ap, ap₂}
 use Rattle.std.proofs.Math.Bool.{Bool}
-use Rattle.std.specs.Prelude.{true, false, not, ◌&&◌, ◌||◌, cond, eqb, length}
+use Rattle.std.specs.Prelude.{true, ◌&&◌, ◌||◌, cond, eqb, length}
 use Rattle.std.proofs.Math.Option.{Option, none, some}
 use mathlib.Core.List.{List, [], ◌∷◌, map, head?, map-map}
 use Rattle.std.proofs.Math.Dec.{leb}
 use Rattle.std.proofs.lemmas.List.{length-map}
-use Rattle.lists.specs.Tests.{case, true_false, on}
-use Rattle.lists.specs.Lists.{keep, first, sum, In, in_nil, here, there, in_map, map_in, map_cong, keep_map, keep_cong, map_same, sum_map, sum_cong}
+use Rattle.lists.specs.Tests.{case, on}
+use Rattle.lists.specs.Lists.{first, sum, In, in_map, map_in, map_cong, keep_map, keep_cong, map_same, sum_map, sum_cong}
 use Rattle.lists.specs.Least.{least}
 use Rattle.scheduler.specs.declared.Job.{Job}
 use Rattle.scheduler.specs.declared.Settings.{Settings}
-use Rattle.scheduler.specs.declared.Tenant.{Tenant}
-use Rattle.scheduler.specs.Jobs.{is_waiting, is_holding, held, foretold}
+use Rattle.scheduler.specs.Jobs.{is_waiting, held, foretold}
 use Rattle.scheduler.specs.Settings.{hold_time, unit, end_of, until}
 use Rattle.scheduler.specs.Table.{ticket_of, tickets_of, of_tenant}
 use Rattle.scheduler.specs.Model.{Model}
 use Rattle.scheduler.specs.Answers.{Forecast}
-use Rattle.jobs.specs.Order.{Asc, asc_same}
+use Rattle.jobs.specs.Order.{asc_same}
 use Rattle.jobs.specs.Soundness.{Sound, SoundJob}
 use Rattle.easy_rules.specs.Easy.{queue, head, free, freed, avail, shadow, extra, qualifies, pick, choice, noting, noted, on_choice, head_is, forecast}
 use Rattle.easy_laws.specs.Course.{Waits, before, ahead, OnCourse, Head}

@@ -4,4 +4,3 @@ pub mod Tickets
 pub mod Book
 pub mod Beginning
 pub mod Guarantee
-pub mod Breaches

@@ -119,7 +119,7 @@ pub soonest_to : (never : ℕ) (xs : List ℕ) → soonest never xs ≤ never
 soonest_to never [] = omega arith
 soonest_to never (x ∷ xs) = omega (arith, soonest_to never xs)
 
-pub soonest_le : (never : ℕ) {xs : List ℕ} {x : ℕ} → In x xs → soonest never xs ≤ x
+pub soonest_le : (never : ℕ) {x : ℕ} {xs : List ℕ} → In x xs → soonest never xs ≤ x
 soonest_le never (here e) = omega arith
 soonest_le never (there {x = y} {xs = xs} i) = omega (arith, soonest_le never i)
 

@@ -1,6 +1,7 @@
 // The live jobs of a scheduler in columns: lent lists of numbers, one for each field, in ticket order; the places after them are 0. Here are the
 // columns that both kinds have, and what becomes of them where a job comes in, begins, is in cleanup or leaves.
 #![tactic(auto)]
+
 ghost use Rattle.std.specs.Prelude.{◌≡◌, List, [], ◌∷◌, ◌++◌, map, ℕ, ◌+◌, ◌-◌, ◌≤◌, ◌<◌, eqb, length, get_or, set, take};
 ghost use Rattle.lists.specs.Lists.{keep};
 ghost use Rattle.lists.specs.Loops.{position};

@@ -6,8 +6,8 @@ use Rattle.lists.specs.Tests.{case, le_or}
 use Rattle.scheduler.specs.Limits.{horizon}
 use Rattle.spans.specs.declared.Span.{Span}
 use Rattle.spans.specs.Spans.{free, last_end, Fits}
-use Rattle.spans.specs.UsedNodes.{used_last}
-use Rattle.spans.specs.EarliestStart.{Room}
+use Rattle.spans.proofs.UsedNodes.{used_last}
+use Rattle.spans.proofs.EarliestStart.{Room}
 use Rattle.conservative_table.specs.ListChanges.{rows}
 use Rattle.conservative_table.specs.Table.{Table, table_rise}
 use Rattle.conservative_table.specs.ProfileLists.{IsProfile, exact_kept}

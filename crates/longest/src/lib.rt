@@ -1,6 +1,7 @@
 // How long may a job be and still start by a wanted minute (document 02, No. 9)? Only conservative backfilling answers this. Longer estimates never
 // get earlier starts. So the answer follows from the longest free stretch that begins no later than the wanted minute.
 #![tactic(auto)]
+
 ghost use Rattle.std.specs.Prelude.{◌≡◌, ◌<◌, ◌≤◌, length};
 ghost use Rattle.scheduler.specs.Model.{view};
 ghost use Rattle.jobs.specs.Premise.{Holds};

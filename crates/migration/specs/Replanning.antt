@@ -13,7 +13,7 @@ use Rattle.lists.specs.Tests.{case}
 use Rattle.lists.specs.Lists.{In, here, there, all_at, in_left, in_right, in_append}
 use Rattle.spans.specs.declared.Span.{Span}
 use Rattle.spans.specs.Spans.{takes, used, free, last_end, earliest}
-use Rattle.spans.specs.EarliestStart.{earliest_same}
+use Rattle.spans.proofs.EarliestStart.{earliest_same}
 use Rattle.scheduler.specs.declared.Job.{Job}
 use Rattle.scheduler.specs.declared.Scheduler.{Scheduler}
 use Rattle.scheduler.specs.declared.Settings.{Settings}

@@ -6,8 +6,8 @@ use Rattle.std.proofs.Math.Path.{refl}
 use Rattle.lists.specs.Tests.{case, on}
 use Rattle.lists.specs.Lists.{keep, sum, In, here, there, sum_map, sum_picked}
 use Rattle.spans.specs.Spans.{used, free, earliest}
-use Rattle.spans.specs.UsedNodes.{takes_in, takes_after}
-use Rattle.spans.specs.EarliestStart.{earliest_is}
+use Rattle.spans.proofs.UsedNodes.{takes_in, takes_after}
+use Rattle.spans.proofs.EarliestStart.{earliest_is}
 use Rattle.scheduler.specs.declared.Job.{Job}
 use Rattle.scheduler.specs.declared.Settings.{Settings}
 use Rattle.scheduler.specs.declared.Tenant.{Tenant}

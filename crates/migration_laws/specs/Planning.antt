@@ -14,8 +14,8 @@ use Rattle.lists.specs.Tests.{case, true_false, on, and_right_false, neither, le
 use Rattle.lists.specs.Lists.{keep, sum, In, here, there, in_cons, in_keep, keep_in, map_in, all_of, sum_in, sum_zero}
 use Rattle.spans.specs.declared.Span.{Span}
 use Rattle.spans.specs.Spans.{takes, used, free, last_end, Earliest}
-use Rattle.spans.specs.UsedNodes.{takes_in, last_le, used_last}
-use Rattle.spans.specs.EarliestStart.{earliest_is}
+use Rattle.spans.proofs.UsedNodes.{takes_in, last_le, used_last}
+use Rattle.spans.proofs.EarliestStart.{earliest_is}
 use Rattle.scheduler.specs.declared.State.{State}
 use Rattle.scheduler.specs.declared.State.TheVariants.{Unused, Waiting, Running, Cleanup}
 use Rattle.scheduler.specs.declared.Job.{Job}

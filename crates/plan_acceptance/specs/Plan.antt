@@ -10,7 +10,7 @@ use Rattle.lists.specs.Loops.{sum_drop, sum_done, keep_take_yes, keep_take_no}
 use Rattle.lists.specs.Every.{every, every_map}
 use Rattle.spans.specs.declared.Span.{Span}
 use Rattle.spans.specs.Spans.{takes, used}
-use Rattle.spans.specs.UsedNodes.{takes_le}
+use Rattle.spans.proofs.UsedNodes.{takes_le}
 use Rattle.spans.specs.EveryMinute.{fits_every}
 use Rattle.scheduler.specs.declared.Kind.{Kind}
 use Rattle.scheduler.specs.declared.Kind.TheVariants.{Conservative, Easy}

@@ -10,8 +10,9 @@ use Rattle.lists.specs.Tests.{case, on}
 use Rattle.lists.specs.Lists.{first, In, keep_in, sum_cong, sum_zero, sum_picked}
 use Rattle.lists.specs.FirstLaws.{head_keep}
 use Rattle.spans.specs.Spans.{used}
-use Rattle.spans.specs.UsedNodes.{takes_in}
-use Rattle.spans.specs.EveryMinute.{fits_every, every_minute}
+use Rattle.spans.proofs.UsedNodes.{takes_in}
+use Rattle.spans.specs.EveryMinute.{fits_every}
+use Rattle.spans.proofs.EveryMinute.{every_minute}
 use Rattle.scheduler.specs.declared.Kind.{Kind}
 use Rattle.scheduler.specs.declared.Kind.TheVariants.{Easy}
 use Rattle.scheduler.specs.declared.Job.{Job}

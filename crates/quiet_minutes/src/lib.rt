@@ -1,6 +1,7 @@
 // Minutes in which nothing is due: their ticks only move the clock, so that they can be passed over. A program that passes over them asks the slots
 // of its scheduler one after another, in place.
 #![tactic(auto)]
+
 ghost use Rattle.std.specs.Prelude.{◌≡◌, suc, ◌+◌, ◌≤◌, ◌<◌};
 ghost use Rattle.scheduler.specs.Limits.{horizon};
 ghost use Rattle.jobs.specs.Slots.{Low, Orderly};

@@ -92,7 +92,8 @@ module _ (S : Settings) where
   until_cleaning j c = rw c
 
   pub until_cleaned : (m : ℕ) (j : Job) → until S (cleaning m j) ≡ m + cleanup S
-  until_cleaned m j = until_cleaning (cleaning m j) refl
+  unfolding until
+  until_cleaned m j = refl
 
   pub until_at : (s : State) (start : ℕ) (j : Job) → cleaning? s ≡ false → until S (job_at s start j) ≡ start + hold_time S j.estimate
   until_at s start j n = until_is (job_at s start j) n

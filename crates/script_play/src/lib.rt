@@ -1,5 +1,6 @@
 // Where a script stands between two of its pieces.
 #![tactic(auto)]
+
 ghost use Rattle.std.specs.Prelude.{◌≡◌};
 ghost use Rattle.script_play.specs.Progress.{goes_on_of};
 

@@ -1,5 +1,6 @@
 // A line of a script, read into what it asks. Each field goes through the field reader to the number reader: there is no second parser.
 #![tactic(auto)]
+
 ghost use Rattle.std.specs.Prelude.{◌≡◌, drop};
 ghost use Rattle.std.proofs.Math.Option.{some};
 ghost use Rattle.text.specs.Prefixes.{upto};

@@ -1,5 +1,6 @@
 // One turn of a script: its first line, played into a lent page; and what comes next of the later ones, a step of a wait or a line.
 #![tactic(auto)]
+
 ghost use Rattle.std.specs.Prelude.{◌≡◌, ◌≤◌, ◌<◌, length};
 ghost use Rattle.paging.specs.Players.{piece, Turned};
 ghost use Rattle.scheduler.specs.Answers.{code};

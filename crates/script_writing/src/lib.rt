@@ -1,5 +1,6 @@
 // The lines of an answer, written into a page of bytes.
 #![tactic(auto)]
+
 ghost use Rattle.std.specs.Prelude.{◌≡◌, [], ◌∷◌, ◌++◌, ◌+◌, ◌*◌, ◌≤◌, length, take};
 ghost use Rattle.text.specs.Numbers.{decimal_of};
 ghost use Rattle.scheduler.specs.Answers.{code};

@@ -1,7 +1,5 @@
 // Plays the season whose list is on standard input, and prints its printout.
 #![tactic(auto)]
-use libc::{STDIN_FILENO, STDOUT_FILENO};
-
-fn main() {
-    season_runner::run(STDIN_FILENO, STDOUT_FILENO);
+fn main(rt: HostRuntime) {
+    season_runner::run(&rt, &mut rt.stdin(), &mut rt.stdout());
 }

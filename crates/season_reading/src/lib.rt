@@ -1,5 +1,6 @@
 // A season's list, read line by line: its first line into an opening, each later one into an arrival.
 #![tactic(auto)]
+
 ghost use Rattle.std.specs.Prelude.{◌≡◌, suc, min, ◌≤◌, length};
 ghost use Rattle.desk_lines.specs.DeskLine.{with_kind};
 ghost use Rattle.script_reading.specs.Meaning.{opens, follows, when_read};

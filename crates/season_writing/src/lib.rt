@@ -1,5 +1,6 @@
 // What a season prints of a job that ends, and when the job ends: at its actual run length, which the scheduler does not know.
 #![tactic(auto)]
+
 ghost use Rattle.std.specs.Prelude.{◌≡◌, ◌&&◌, ℕ, ◌+◌, ◌-◌, ◌*◌, ◌/◌, ◌≤◌, ◌<◌, min, max, eqb, ltb, length, get_or};
 ghost use Rattle.text.specs.WrittenBytes.{Wrote};
 ghost use Rattle.scheduler.specs.Limits.{horizon, longest_hold};

@@ -1,5 +1,5 @@
 // Plays the seasons whose lists the arguments name, each after its name.
 #![tactic(auto)]
-fn main() {
-    season_runner::run_files();
+fn main(rt: HostRuntime) {
+    season_runner::run_files(&rt);
 }

@@ -1,5 +1,5 @@
 // Plays the day sheets that the arguments name, each after its name.
 #![tactic(auto)]
-fn main() {
-    script_runner::run_files();
+fn main(rt: HostRuntime) {
+    script_runner::run_files(&rt);
 }

@@ -1,6 +1,7 @@
 // The status page of a scheduler (document 02, No. 8: "the board in the corridor"), written into a page of bytes: the heading, a line for each
 // slot, and one more line. The line of an unused slot has only spaces.
 #![tactic(auto)]
+
 ghost use mathlib.Core.List.{[], ◌∷◌, ◌++◌, flat_map};
 ghost use Rattle.std.specs.Prelude.{◌+◌, ◌≤◌, length, replicate};
 ghost use Rattle.lists.specs.Lists.{All};

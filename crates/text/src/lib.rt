@@ -60,6 +60,7 @@ pub fn field(line: &[u8], k: usize) -> &[u8]
 }
 
 // How many fields a line has: one more than its tabs.
+#[tactic(auto, using(crate::specs::FieldLaws::count_tab, crate::specs::FieldLaws::count_other))]
 pub fn field_count(line: &[u8]) -> usize
     ensures { result ≡ length (fields_of line.now) }
 {

@@ -23,6 +23,6 @@ unfolding number_of
 returns c =
     rw (c.digits.ensures, le-leb 1 _ c.if-n-lt1.false, le-leb _ 7 c.if-n-gt7.false)
     (elim c.if-n-gt1.branch [
-      then-n-gt1+else-part-eq48 w ↦ rw (lt-ltb 1 _ w.if-n-gt1.true, ne_eqb _ 48 w.if-part-eq48.false)
-    | else-n-gt1 w ↦ rw (le-ltb 1 _ w.if-n-gt1.false)
+      | then-n-gt1+else-part-eq48 w ↦ rw (lt-ltb 1 _ w.if-n-gt1.true, ne_eqb _ 48 w.if-part-eq48.false)
+      | else-n-gt1 w ↦ rw (le-ltb 1 _ w.if-n-gt1.false)
     ])

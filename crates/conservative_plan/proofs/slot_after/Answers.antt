@@ -1,0 +1,10 @@
+-- `conservative_plan::slot_after` meets its contract.
+-- Assumes nothing.
+use borrow.Author.Tests.{lt-ltb, le-ltb}
+use Rattle.conservative_plan.proofs.slot_after.Goals as goal
+
+pub returns-then-i-size : goal.returns-then-i-size
+returns-then-i-size c = rw (lt-ltb _ _ c.if-i-size.true)
+
+pub returns : goal.returns
+returns c = rw (le-ltb _ _ c.if-i-size.false)

@@ -1,0 +1,29 @@
+-- `easy_columns::note_head` meets its contract: there is no new head, or it stands in its place.
+-- Assumes nothing.
+use native.Mathlib.Omega.{arith}
+use mathlib.Core.Path.{sym, ap, ◌∙◌}
+use mathlib.Core.Option.{Option}
+use mathlib.Core.List.{map}
+use Rattle.lists.specs.Pads.{pad}
+use Rattle.scheduler.specs.Limits.{slots}
+use Rattle.scheduler.specs.Answers.{Forecast}
+use Rattle.easy_rules.specs.Easy.{noted}
+use Rattle.job_columns.specs.JobColumns.{forecast_of}
+use Rattle.easy_columns.specs.HeadNoted.{none_heard, head_place, head_stored}
+use Rattle.easy_columns.proofs.note_head.Goals as goal
+
+pub returns-then-at-live : goal.returns-then-at-live
+returns-then-at-live c = λ m o a n t f et em h.
+    head_stored m a o h _ _ _ _ n et em c.if-head-ne0.true (c.find-at.ensures m.jobs t a n) c.if-at-live.true _ f
+
+pub returns-else-at-live : goal.returns-else-at-live
+returns-else-at-live c = λ m o a n t f et em h.
+    absurd (omega (
+      arith,
+      head_place m a o h _ _ _ _ n et em c.if-head-ne0.true (c.find-at.ensures m.jobs t a n),
+      c.if-at-live.false,
+    ))
+
+pub returns-else-head-ne0 : goal.returns-else-head-ne0
+returns-else-head-ne0 c = λ m o a n t f et em h.
+    f ∙ ap (λ (x : Option Forecast). pad slots 0 (map forecast_of (noted x m).jobs)) (sym (none_heard m.jobs o h (sym c.if-head-ne0.false ∙ et)))

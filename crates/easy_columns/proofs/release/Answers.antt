@@ -1,0 +1,43 @@
+-- `easy_columns::release` meets its contract. The invariant: of those left the first `i` stay, and who is missing has left.
+-- Assumes nothing.
+use native.Mathlib.Omega.{arith}
+use mathlib.Core.Path.{◌≡◌}
+use Rattle.easy_columns.specs.Sifting.{sift_first, sift_within, sift_stays, sift_goes}
+use Rattle.easy_columns.proofs.release.Goals as goal
+
+pub loop-i-init : goal.loop-i-init
+loop-i-init c = (omega arith, c.requires.few, λ s. sift_first s c.args.minute)
+
+pub overflow_add-left : goal.overflow_add-left
+overflow_add-left c =
+    let l = c.loop-i in
+    omega (arith, sift_within c.requires c.args.minute (l.invariant.2 c.requires) c.loop-i-test.true c.if-ends-i.true)
+
+pub loop-i-preserved-then-ends-i : goal.loop-i-preserved-then-ends-i
+loop-i-preserved-then-ends-i c =
+    let l = c.loop-i in (
+      omega arith,
+      omega arith,
+      λ s. rw (c.take_out.ensures, c.take_out-then-ends-i.ensures, c.take_out-then-ends-i-2.ensures)
+          (sift_goes (l.invariant.2 s) c.loop-i-test.true c.if-ends-i.true),
+    )
+
+pub loop-i-preserved : goal.loop-i-preserved
+loop-i-preserved c =
+    let l = c.loop-i in
+    (omega arith, omega arith, λ s. sift_stays (l.invariant.2 s) c.loop-i-test.true c.if-ends-i.false)
+
+pub returns : goal.returns
+returns c =
+    let l = c.loop-i in
+    let e : l.i ≡ l.n = omega arith in
+    λ s. rw e at (l.invariant.2 s)
+
+pub take_out-requires : goal.take_out-requires
+take_out-requires c = omega arith
+
+pub take_out-requires-then-ends-i : goal.take_out-requires-then-ends-i
+take_out-requires-then-ends-i c = omega arith
+
+pub take_out-requires-then-ends-i-2 : goal.take_out-requires-then-ends-i-2
+take_out-requires-then-ends-i-2 c = omega arith

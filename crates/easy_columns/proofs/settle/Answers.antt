@@ -1,0 +1,33 @@
+-- `easy_columns::settle` meets its contract: the engine settles by slot, the starts are written, and a new head keeps its forecast.
+-- Assumes nothing.
+use native.Mathlib.Omega.{arith}
+use Rattle.easy_engine.specs.Shadows.{holding_few}
+use Rattle.easy_columns.specs.Finishing.{survey, starting, forecasts_kept, tickets_kept, live_kept, heard, head_told, minute_told, settled_asc, settled_finished}
+use Rattle.easy_columns.proofs.settle.Goals as goal
+
+pub settle_slots-s-requires : goal.settle_slots-s-requires
+settle_slots-s-requires c = survey c.requires
+
+pub write_starts-requires : goal.write_starts-requires
+write_starts-requires c =
+    let u = c.requires in
+    starting u (c.settle_slots-s.ensures (survey u)) _ c.cleanup.ensures
+
+pub note_head-requires : goal.note_head-requires
+note_head-requires c =
+    let u = c.requires in
+    omega (arith, u.columns.core.live_is, u.ready.sound.few)
+
+pub overflow_add-result : goal.overflow_add-result
+overflow_add-result c =
+    let u = c.requires in
+    omega (arith, holding_few (c.settle_slots-s.ensures (survey u)).holding)
+
+pub returns : goal.returns
+returns c =
+    λ u b q.
+    let a = c.settle_slots-s.ensures (survey u) in
+    let v = c.write_starts.ensures (starting u a _ c.cleanup.ensures) in
+    settled_finished u a v b q _
+    (c.note_head.ensures _ _ (settled_asc u) (live_kept u a v) (tickets_kept u a v) (forecasts_kept u a v) (head_told u a b q)
+    (minute_told u a b q) (heard u a v b)) _ _ _

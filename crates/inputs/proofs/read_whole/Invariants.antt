@@ -1,0 +1,9 @@
+-- The bytes read so far lie in the buffer, which keeps its length; the room that is left is the measure.
+use Rattle.std.proofs.Common.{length, ◌-◌, ◌≤◌, ◌≡◌}
+use Rattle.inputs.proofs.read_whole.Given as goal
+
+abbrev pub invariant-loop-done : goal.invariant-loop-done
+invariant-loop-done g l = (length l.space ≡ length l.initial.space) × (l.done ≤ length l.space)
+
+abbrev pub decreases-loop-done : goal.decreases-loop-done
+decreases-loop-done g l = length l.space - l.done

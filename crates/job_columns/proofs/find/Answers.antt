@@ -1,0 +1,56 @@
+-- `job_columns::find` meets its contract: the ticket stands neither before `low` nor from `high` on.
+-- Assumes nothing.
+use Prim.Native.Nat.{◌+◌, ◌/◌, ◌<◌}
+use native.Mathlib.Omega.{arith}
+use mathlib.Core.Path.{sym, ap, ◌∙◌}
+use lib.ListN.{length}
+use Rattle.scheduler.specs.Jobs.{unused}
+use Rattle.scheduler.specs.Table.{ticket_of}
+use Rattle.job_columns.specs.Columns.{column_at}
+use Rattle.job_columns.specs.Searches.{place_of, between_later, between_sooner, between_here, between_none}
+use Rattle.job_columns.proofs.find.Goals as goal
+
+pub loop-low-init : goal.loop-low-init
+loop-low-init c = (omega arith, omega arith, λ js k a n. record { before = λ i l. absurd (omega arith); after = λ i l q. absurd (omega arith) })
+
+pub loop-low-preserved-then-tickets-middle : goal.loop-low-preserved-then-tickets-middle
+loop-low-preserved-then-tickets-middle c =
+    let l = c.loop-low in
+    let m = (l.low + l.high) / 2 in (
+      omega arith,
+      omega arith,
+      λ js k a n.
+          let h : m < length js = omega arith in
+          between_later a (l.invariant.2 js k a n) m h (omega (arith, c.if-tickets-middle.true, column_at ticket_of js c.args.tickets.now k unused m h)),
+    )
+
+pub loop-low-preserved : goal.loop-low-preserved
+loop-low-preserved c =
+    let l = c.loop-low in
+    let m = (l.low + l.high) / 2 in (
+      omega arith,
+      omega arith,
+      λ js k a n.
+          let h : m < length js = omega arith in
+          between_sooner a (l.invariant.2 js k a n) m h (omega (arith, c.if-tickets-middle.false, column_at ticket_of js c.args.tickets.now k unused m h)),
+    )
+
+pub returns-then-tickets-low : goal.returns-then-tickets-low
+returns-then-tickets-low c =
+    let l = c.loop-low in
+    λ js k a n.
+    let h : l.low < length js = omega arith in
+    sym (ap (λ o. place_of o c.args.live) (between_here a (l.invariant.2 js k a n) (omega arith) h
+    (sym (column_at ticket_of js c.args.tickets.now k unused l.low h) ∙ c.if-tickets-low.true)))
+
+pub returns-else-tickets-low : goal.returns-else-tickets-low
+returns-else-tickets-low c =
+    let l = c.loop-low in
+    λ js k a n.
+    sym (ap (λ o. place_of o c.args.live) (between_none a (l.invariant.2 js k a n) (omega arith)
+    (λ h q. c.if-tickets-low.false (column_at ticket_of js c.args.tickets.now k unused l.low h ∙ q))))
+
+pub returns-else-low-live : goal.returns-else-low-live
+returns-else-low-live c =
+    let l = c.loop-low in
+    λ js k a n. sym (ap (λ o. place_of o c.args.live) (between_none a (l.invariant.2 js k a n) (omega arith) (λ h q. omega arith)))

@@ -1,0 +1,19 @@
+-- `script_reading::read_kind` meets its contract.
+-- Assumes nothing.
+use mathlib.Core.Path.{sym, ◌∙◌}
+use Rattle.desk_lines.specs.DeskLine.{kind_of}
+use Rattle.script_reading.proofs.read_kind.Goals as goal
+
+pub returns-then-is_word : goal.returns-then-is_word
+unfolding kind_of
+returns-then-is_word c = rw (sym c.is_word.ensures ∙ c.if-is_word.true)
+
+pub returns-then-is_word-2 : goal.returns-then-is_word-2
+unfolding kind_of
+returns-then-is_word-2 c =
+    rw (sym c.is_word.ensures ∙ c.if-is_word.false, sym c.is_word-2.ensures ∙ c.if-is_word-2.true)
+
+pub returns : goal.returns
+unfolding kind_of
+returns c =
+    rw (sym c.is_word.ensures ∙ c.if-is_word.false, sym c.is_word-2.ensures ∙ c.if-is_word-2.false)

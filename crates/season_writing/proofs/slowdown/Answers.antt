@@ -1,0 +1,6 @@
+-- `season_writing::slowdown` meets its contract.
+-- Assumes nothing.
+use Rattle.season_writing.proofs.slowdown.Goals as goal
+
+pub returns : goal.returns
+returns c = rw c.larger.ensures at c.hundredths.ensures

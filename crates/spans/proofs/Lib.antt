@@ -1,0 +1,4 @@
+pub mod UsedNodes
+pub mod EarliestStart
+pub mod ProfileLaws
+pub mod EveryMinute
