@@ -146,8 +146,8 @@ module _ (k c : ℕ) (e : News) where
       by Cleanup y = true_false false y refl
 
 -- one less is smaller by one
-sum_less : {A : Type 0} (f g : A → ℕ) {xs : List A} {a : A} → ((x : A) → f x ≤ g x) → In a xs → f a < g a → sum f xs < sum g xs
-sum_less f g {xs} {a} le (here {x = x} {xs = ys} q) l =
+sum_less : {A : Type 0} (f g : A → ℕ) {a : A} {xs : List A} → ((x : A) → f x ≤ g x) → In a xs → f a < g a → sum f xs < sum g xs
+sum_less f g {a} {xs} le (here {x = x} {xs = ys} q) l =
     omega (arith, sum_le f g ys (λ y i. le y), subst (λ z. f z < g z) q l)
 sum_less f g le (there {x = x} i) l = omega (arith, le x, sum_less f g le i l)
 

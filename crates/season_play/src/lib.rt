@@ -1,5 +1,6 @@
 // Where a season stands between two of its pieces.
 #![tactic(auto)]
+
 use scheduler::Scheduler;
 use script_play::Stage;
 

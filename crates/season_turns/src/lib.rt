@@ -1,5 +1,6 @@
 // One turn of a season: what comes next, and the parts of it that look at every job. The player's loop is in `season_filling`.
 #![tactic(auto)]
+
 ghost use Rattle.std.specs.Prelude.{◌≡◌, ◌+◌, ◌-◌, ◌≤◌, ◌<◌, length, set};
 ghost use Rattle.text.specs.WrittenBytes.{Wrote};
 ghost use Rattle.scheduler.specs.Limits.{horizon};

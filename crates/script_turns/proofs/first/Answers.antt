@@ -1,9 +1,7 @@
 -- `script_turns::first` meets its contract, by how the script begins.
 -- Assumes nothing.
 use mathlib.Core.Path.{sym}
-use Prim.Native.Nat.{◌<◌}
 use native.Mathlib.Omega.{arith}
-use lib.ListN.{length}
 use lib.Seq.{length-take-le}
 use Rattle.text.specs.LineLaws.{begins_at}
 use Rattle.paging.specs.Players.{turned_as, turned_none}
