@@ -1,6 +1,7 @@
 // The calls on a scheduler of either kind, by value, for programs that make many calls. The points of a conservative scheduler and their index are
 // kept from call to call in lists that are lent. EASY keeps none.
 #![tactic(auto)]
+
 ghost use Rattle.std.specs.Prelude.{◌≡◌, length};
 ghost use Rattle.scheduler.specs.Model.{view};
 ghost use Rattle.scheduler.specs.Answers.{outcome};
