@@ -4,12 +4,8 @@ use mathlib.Core.Path.{refl}
 use Rattle.lists.specs.Pads.{pad}
 use Rattle.conservative_profile.specs.StoredProfile.{stored}
 use Rattle.calls.specs.ProfileCall.{showing}
-use Rattle.calls.proofs.no_points.Statement.{statement}
-use Rattle.calls.proofs.no_points.Tie as tie
+use Rattle.calls.proofs.no_points.Goals as goal
 
-returns : tie.Need-returns
+pub returns : goal.returns
 unfolding showing stored pad
 returns c = refl
-
-pub no-points-spec : {M : Type 1} → statement M
-no-points-spec = tie.close (tie.spec returns)
