@@ -1,5 +1,6 @@
 // Reads the lines of a scheduler that was written out (document 02, No. 11): a record's line. (`script_reading::read_first` reads the `desk` line.)
 #![tactic(auto)]
+
 ghost use Rattle.std.specs.Prelude.{◌≡◌, [], ◌≤◌, length};
 ghost use Rattle.lists.specs.Pads.{pad};
 ghost use Rattle.scheduler.specs.Jobs.{unused};
