@@ -1,6 +1,7 @@
 // A scheduler read back from its lines (document 02, No. 11: "A desk must be written out and read back"): the lines are read, and what they give is
 // tested.
 #![tactic(auto)]
+
 ghost use Rattle.std.specs.Prelude.{◌≡◌, ◌≤◌, length};
 ghost use Rattle.checkpoint_rules.specs.Texts.{not_restored, restored_from, model_with, both};
 ghost use Rattle.script_reading.specs.Meaning.{opens};
