@@ -1,6 +1,7 @@
 // Tests whether calls may be made on a scheduler (document 02, No. 11: "A desk read back is tested"). Each record is tested by itself first, then
 // the plan and EASY's queue. The scheduler may hold any numbers.
 #![tactic(auto)]
+
 ghost use Rattle.std.specs.Prelude.{◌≡◌};
 ghost use Rattle.scheduler.specs.Model.{view};
 ghost use Rattle.checkpoint_rules.specs.Acceptance.{accepted};

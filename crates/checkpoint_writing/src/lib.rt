@@ -1,5 +1,6 @@
 // A scheduler written out (document 02, No. 11): its lines, written into a page of bytes with room for the longest.
 #![tactic(auto)]
+
 ghost use Rattle.std.specs.Prelude.{[], ◌∷◌, ◌+◌, ◌≤◌, length};
 ghost use Rattle.text.specs.Numbers.{decimal_of};
 ghost use Rattle.text.specs.WrittenBytes.{Wrote};

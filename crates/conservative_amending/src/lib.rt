@@ -1,5 +1,6 @@
 // Corrected orders in place (document 02, No. 13) in conservative backfilling: the record is superseded, and the waiting jobs move forward.
 #![tactic(auto)]
+
 ghost use Rattle.std.specs.Prelude.{◌≡◌};
 ghost use Rattle.scheduler.specs.Model.{view};
 ghost use Rattle.scheduler.specs.Answers.{outcome};

@@ -1,6 +1,6 @@
 -- A minute passes over columns: who leaves is taken out of every column, those that are due start, and the points move with the clock.
 -- Assumes nothing.
-use Rattle.std.specs.Prelude.{ℕ, suc, ◌+◌, ◌-◌, ◌≤◌, ◌<◌, ◌≡◌, refl, true, false, List, [], ◌∷◌, map, length}
+use Rattle.std.specs.Prelude.{ℕ, suc, ◌+◌, ◌≤◌, ◌<◌, ◌≡◌, refl, true, false, List, [], ◌∷◌, map, length}
 use Rattle.std.proofs.Common.{arith, sym, ap, ◌∙◌, lt-ltb, le-ltb}
 use Rattle.std.proofs.Math.Path.{subst}
 use Rattle.lists.specs.Tests.{case}

@@ -1,6 +1,7 @@
 // Conservative backfilling over columns: the live jobs stand in lent lists of numbers, and the profile and its index are kept beside them. What
 // a call answers, and the columns after it, are those of the call by its definition.
 #![tactic(auto)]
+
 ghost use Rattle.std.specs.Prelude.{◌≡◌, cond, List, [], ◌∷◌, ℕ, ◌-◌, ◌≤◌, ◌<◌, eqb, length, get_or, set, take};
 ghost use Rattle.scheduler.specs.declared.Job.{Job};
 ghost use Rattle.scheduler.specs.declared.Settings.{Settings};

@@ -1,5 +1,6 @@
 // From EASY to conservative backfilling while jobs run (document 02, No. 12: "From the Loose Desk to the new one"), by value.
 #![tactic(auto)]
+
 ghost use Rattle.std.specs.Prelude.{◌≡◌, length};
 ghost use Rattle.scheduler.specs.Model.{store, view};
 ghost use Rattle.jobs.specs.Premise.{Holds};

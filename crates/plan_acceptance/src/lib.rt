@@ -2,6 +2,7 @@
 // have enough nodes. On EASY the queue must also be at rest, with its head's forecast and all bounds in time. A survey puts the plan into lent
 // lists of numbers, and the tests go over these.
 #![tactic(auto)]
+
 ghost use Rattle.std.specs.Prelude.{◌≡◌, true, ◌&&◌, ◌-◌, max, leb, ltb};
 ghost use Rattle.lists.specs.Tests.{on};
 ghost use Rattle.lists.specs.Lists.{first};

@@ -2,6 +2,7 @@
 // of each record by itself. Any number may stand in a field, so that no sum is made of numbers that may be high. The code compares a difference, or
 // tests the parts first.
 #![tactic(auto)]
+
 ghost use Rattle.std.specs.Prelude.{◌≡◌, ◌&&◌, leb};
 ghost use Rattle.lists.specs.Every.{every, when};
 ghost use Rattle.scheduler.specs.Settings.{horizon, until};

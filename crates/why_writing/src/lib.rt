@@ -1,6 +1,7 @@
 // Why each waiting job waits (document 02, No. 14: "Why is mine waiting?"), written into a page of bytes with room for the longest text. The plan is
 // surveyed into lists of numbers once, and the sentences are written from these.
 #![tactic(auto)]
+
 ghost use Rattle.std.specs.Prelude.{◌≡◌, true, ◌≤◌, length};
 ghost use Rattle.text.specs.WrittenBytes.{Wrote};
 ghost use Rattle.scheduler.specs.Limits.{slots};

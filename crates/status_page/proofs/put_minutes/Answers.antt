@@ -12,11 +12,10 @@ put_start-a-requires c =
     (rw c.is_waiting-waits.ensures c.requires.0.0, search rules)
 
 pub put_number_right-requires : goal.put_number_right-requires
-put_number_right-requires c =
-    (
-      rw c.run_time-held.ensures c.requires.0.1.1.0.within,
-      room_after (and_then c.put_start-a.ensures c.put_promised-b.ensures) 6 (omega (arith, c.requires.1)),
-    )
+put_number_right-requires c = (
+  rw c.run_time-held.ensures c.requires.0.1.1.0.within,
+  room_after (and_then c.put_start-a.ensures c.put_promised-b.ensures) 6 (omega (arith, c.requires.1)),
+)
 
 pub returns : goal.returns
 unfolding flat_map

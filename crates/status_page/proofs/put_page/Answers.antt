@@ -18,11 +18,10 @@ pub loop-i-init : goal.loop-i-init
 loop-i-init c = record { low = omega arith; written = rw (slots_none _ _) (wrote_none _ _ _) }
 
 pub put_slot-at-requires : goal.put_slot-at-requires
-put_slot-at-requires c =
-    (
-      slot_fits _ c.requires.0 c.loop-i.i (omega arith),
-      room_after (and_then c.put_heading-at.ensures c.loop-i.invariant.written) line_bytes (omega (arith, c.requires.1)),
-    )
+put_slot-at-requires c = (
+  slot_fits _ c.requires.0 c.loop-i.i (omega arith),
+  room_after (and_then c.put_heading-at.ensures c.loop-i.invariant.written) line_bytes (omega (arith, c.requires.1)),
+)
 
 pub loop-i-preserved : goal.loop-i-preserved
 loop-i-preserved c =

@@ -1,0 +1,99 @@
+-- `conservative_columns::start_due` meets its contract: the jobs before place `at` that were due have started.
+-- Assumes nothing.
+use Prim.Native.Nat.{◌+◌, ◌<◌}
+use native.Mathlib.Omega.{arith}
+use Rattle.scheduler.specs.Limits.{slots}
+use Rattle.conservative_columns.specs.Due.{Starting, Starts, starts_begin, few_started, starts_next, clears, run_there, run_low, starts_past, starts_now, starts_end, starts_nobody}
+use Rattle.conservative_columns.proofs.start_due.Goals.{In-loop-at, Joined-states-at-eq1}
+use Rattle.conservative_columns.proofs.start_due.Goals.{else-states-at-eq1, then-states-at-eq1}
+use Rattle.conservative_columns.proofs.start_due.Goals as goal
+
+-- the place that is looked at
+low : (c : In-loop-at) → c.loop-at.at < slots
+low c = omega (arith, c.loop-at-test.true, c.requires.0.few)
+
+-- and the list of those started has room
+room : (c : In-loop-at) → c.loop-at.n < slots
+room c =
+    let q = c.requires.0 in
+    omega (arith, low c, few_started q (c.loop-at.invariant.0 q))
+
+-- this place has been looked at too
+one_more : (c : Joined-states-at-eq1) → (q : Starting c.args.tickets.now c.args.states.now c.args.holds.now c.args.dues.now c.args.starts.now c.args.live c.args.starting c.args.minute
+    c.args.cleanup)
+    → Starts q (c.loop-at.at + 1) c.if-states-at-eq1.n c.if-states-at-eq1.states c.if-states-at-eq1.dues c.if-states-at-eq1.starts c.if-states-at-eq1.started
+one_more c q =
+    let l = c.loop-at in
+    let v = l.invariant.0 q in
+    let t = c.loop-at-test.true in
+    elim c.if-states-at-eq1.branch [
+      | then-states-at-eq1 w ↦ rw (w.states-is, w.dues-is, w.starts-is, w.started-is, w.n-is)
+          (starts_now q v t w.if-states-at-eq1.true (l.invariant.1 t) (w.begin.ensures _ _ _ _ _ _ _ _ v.columns t (run_there q v t)))
+      | else-states-at-eq1 w ↦ rw (w.states-is, w.dues-is, w.starts-is, w.started-is, w.n-is) (starts_past q v t w.if-states-at-eq1.false)
+    ]
+
+pub first_due-at-requires : goal.first_due-at-requires
+first_due-at-requires c = (omega arith, c.requires.0.few)
+
+pub loop-at-init : goal.loop-at-init
+loop-at-init c =
+    let f = c.first_due-at.ensures in
+    (λ q. starts_next q (starts_begin q _ c.requires.1) f, f.here)
+
+pub overflow_sub-holds : goal.overflow_sub-holds
+overflow_sub-holds c =
+    let q = c.requires.0 in
+    clears q (c.loop-at.invariant.0 q) c.loop-at-test.true
+
+pub begin-requires : goal.begin-requires
+begin-requires c =
+    let q = c.requires.0 in
+    (low (goal.at.begin-requires c).In-loop-at, q.minute_to, run_low q (c.loop-at.invariant.0 q) c.loop-at-test.true)
+
+pub first_due-at-requires-in-loop-at : goal.first_due-at-requires-in-loop-at
+first_due-at-requires-in-loop-at c =
+    (omega (arith, c.loop-at-test.true), c.requires.0.few)
+
+pub loop-at-smaller : goal.loop-at-smaller
+loop-at-smaller c = omega (arith, c.first_due-at-in-loop-at.ensures.from_to, c.loop-at-test.true)
+
+pub loop-at-preserved : goal.loop-at-preserved
+loop-at-preserved c =
+    let f = c.first_due-at-in-loop-at.ensures in
+    (λ q. starts_next q (one_more (goal.at.loop-at-preserved c).Joined-states-at-eq1 q) f, f.here)
+
+pub returns-then-starting-eq0 : goal.returns-then-starting-eq0
+returns-then-starting-eq0 c = λ q. starts_nobody q c.if-starting-eq0.true _ c.requires.1
+
+pub returns : goal.returns
+returns c = λ q. starts_end q (c.loop-at.invariant.0 q) c.loop-at-test.false
+
+pub offset_bounds-states-at : goal.offset_bounds-states-at
+offset_bounds-states-at c = omega (arith, low c)
+
+pub bounds-states-at : goal.bounds-states-at
+bounds-states-at c = low (goal.at.bounds-states-at c).In-loop-at
+
+pub offset_bounds-tickets-at : goal.offset_bounds-tickets-at
+offset_bounds-tickets-at c = omega (arith, low (goal.at.offset_bounds-tickets-at c).In-loop-at)
+
+pub bounds-tickets-at : goal.bounds-tickets-at
+bounds-tickets-at c = low (goal.at.bounds-tickets-at c).In-loop-at
+
+pub offset_bounds-started-n : goal.offset_bounds-started-n
+offset_bounds-started-n c = omega (arith, room (goal.at.offset_bounds-started-n c).In-loop-at)
+
+pub bounds-started-n : goal.bounds-started-n
+bounds-started-n c = room (goal.at.bounds-started-n c).In-loop-at
+
+pub overflow_add-n : goal.overflow_add-n
+overflow_add-n c = omega (arith, room (goal.at.overflow_add-n c).In-loop-at)
+
+pub offset_bounds-holds-at : goal.offset_bounds-holds-at
+offset_bounds-holds-at c = omega (arith, low (goal.at.offset_bounds-holds-at c).In-loop-at)
+
+pub bounds-holds-at : goal.bounds-holds-at
+bounds-holds-at c = low (goal.at.bounds-holds-at c).In-loop-at
+
+pub overflow_add-at : goal.overflow_add-at
+overflow_add-at c = omega (arith, c.loop-at-test.true)

@@ -1,0 +1,76 @@
+-- `migration::migrate` meets its contract: it is the turn of slot i, and the lists are the profile of the plan and its index.
+-- Assumes nothing.
+use mathlib.Core.Path.{refl, sym, ap, ◌∙◌}
+use Prim.Native.Nat.{◌<◌}
+use native.Mathlib.Omega.{arith}
+use lib.ListN.{set}
+use Rattle.scheduler.specs.declared.Scheduler.{Scheduler}
+use Rattle.scheduler.specs.Table.{with_jobs}
+use Rattle.scheduler.specs.Model.{view}
+use Rattle.conservative_index.specs.BuiltIndex.{built_none}
+use Rattle.migration.specs.HeldSlots.{holders_few}
+use Rattle.migration.specs.Replanning.{replanning_begins, replanning_ends, kept_turn, searches, span_low, lays, planned_turn, changed_scheduler}
+use Rattle.migration.proofs.migrate.Goals.{else-is_waiting, then-is_waiting}
+use Rattle.migration.proofs.migrate.Goals as goal
+
+pub tabulate_holders-count-requires : goal.tabulate_holders-count-requires
+tabulate_holders-count-requires c = (c.requires, refl, refl)
+
+pub build-requires : goal.build-requires
+build-requires c =
+    let t = c.tabulate_holders-count.ensures in
+    (built_none refl refl, t.free_long, holders_few c.args.d c.requires t, omega arith)
+
+pub loop-i-init : goal.loop-i-init
+unfolding view
+loop-i-init c =
+    record {
+      settings-are = c.promise_settings-settings.ensures;
+      scheduler_is = refl;
+      turn = replanning_begins c.requires.holds (ap (λ (e : Scheduler). e.jobs) c.requires.stored) c.tabulate_holders-count.ensures c.build.ensures;
+    }
+
+pub search-found-requires : goal.search-found-requires
+unfolding view
+search-found-requires c =
+    let g = c.loop-i.invariant in
+    searches g.turn (omega (arith, c.loop-i-test.true)) (sym c.is_waiting.ensures ∙ c.if-is_waiting.true) (rw g.settings-are at c.hold_time-hold.ensures)
+
+pub span-taken-requires : goal.span-taken-requires
+unfolding view
+span-taken-requires c =
+    let g = c.loop-i.invariant in
+    span_low g.turn (omega (arith, c.loop-i-test.true)) (sym c.is_waiting.ensures ∙ c.if-is_waiting.true)
+    (rw g.settings-are at c.hold_time-hold.ensures) c.search-found.ensures
+
+pub take_in-count-requires : goal.take_in-count-requires
+unfolding view
+take_in-count-requires c =
+    let g = c.loop-i.invariant in
+    rw c.span-taken.ensures (
+      lays g.turn (omega (arith, c.loop-i-test.true)) (sym c.is_waiting.ensures ∙ c.if-is_waiting.true)
+          (rw g.settings-are at c.hold_time-hold.ensures) c.search-found.ensures,
+      g.turn.indexed,
+    )
+
+pub loop-i-preserved : goal.loop-i-preserved
+unfolding view
+loop-i-preserved c =
+    let g = c.loop-i.invariant in
+    let low : c.loop-i.i < 64 = omega arith in
+    record {
+      settings-are = g.settings-are;
+      scheduler_is = ap (λ (f : Scheduler). with_jobs f (set c.loop-i.e.jobs c.loop-i.i c.kept.result)) g.scheduler_is;
+      turn = rw c.kept.ensures
+          (elim c.if-is_waiting.branch [
+            | then-is_waiting x ↦ rw (x.minutes-is, x.free-is, x.count-is, x.low-is, x.high-is, x.j-is, x.place-j.ensures)
+                (planned_turn g.turn low (sym c.is_waiting.ensures ∙ x.if-is_waiting.true) (rw g.settings-are at x.hold_time-hold.ensures) x.search-found.ensures
+                (rw x.span-taken.ensures at x.take_in-count.ensures))
+            | else-is_waiting x ↦ rw (x.minutes-is, x.free-is, x.count-is, x.low-is, x.high-is, x.j-is) (kept_turn g.turn low (sym c.is_waiting.ensures ∙ x.if-is_waiting.false))
+          ]);
+    }
+
+pub returns : goal.returns
+returns c =
+    let g = c.loop-i.invariant in
+    rw g.settings-are (changed_scheduler _ c.loop-i.e g.scheduler_is (replanning_ends g.turn (omega (arith, c.loop-i-test.false))))

@@ -1,0 +1,37 @@
+-- `plan_acceptance::asked_first` meets its contract. The invariant: the first among the slots that are left is the first among all.
+-- Assumes nothing.
+use native.Mathlib.Omega.{arith}
+use mathlib.Core.Path.{refl, sym, ap, ◌∙◌}
+use mathlib.Core.Option.{Option}
+use Rattle.lists.specs.FirstLaws.{first_hit, first_miss, first_end}
+use Rattle.scheduler.specs.declared.Job.{Job}
+use Rattle.scheduler.specs.Jobs.{unused, is_waiting}
+use Rattle.scheduler.proofs.Lengths.{whole}
+use Rattle.easy_rules.specs.Easy.{on_choice}
+use Rattle.job_columns.specs.Columns.{nodes_of}
+use Rattle.plan_acceptance.proofs.asked_first.Goals as goal
+
+pub returns-then-is_waiting : goal.returns-then-is_waiting
+returns-then-is_waiting c =
+    let o = c.loop-i in
+    ap (λ (f : Option Job). on_choice f 0 nodes_of)
+    (sym (first_hit is_waiting c.args.d.jobs unused o.i (omega (arith, whole c.args.d c.well_formed.0))
+    (sym c.is_waiting.ensures ∙ c.if-is_waiting.true)) ∙ o.invariant.1)
+
+pub loop-i-preserved : goal.loop-i-preserved
+loop-i-preserved c =
+    let o = c.loop-i in (
+      omega arith,
+      sym (first_miss is_waiting c.args.d.jobs unused o.i (omega (arith, whole c.args.d c.well_formed.0))
+          (sym c.is_waiting.ensures ∙ c.if-is_waiting.false))
+          ∙ o.invariant.1,
+    )
+
+pub returns : goal.returns
+returns c =
+    let o = c.loop-i in
+    let l = whole c.args.d c.well_formed.0 in
+    ap (λ (f : Option Job). on_choice f 0 nodes_of) (sym (first_end is_waiting c.args.d.jobs unused o.i (omega arith)) ∙ o.invariant.1)
+
+pub loop-i-init : goal.loop-i-init
+loop-i-init c = (omega arith, refl)

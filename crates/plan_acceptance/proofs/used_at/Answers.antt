@@ -1,0 +1,61 @@
+-- `plan_acceptance::used_at` meets its contract. The invariant: the sum and what the jobs that are left take is the whole.
+-- Assumes nothing.
+use Prim.Native.Nat.{◌+◌}
+use native.Mathlib.Omega.{arith}
+use mathlib.Core.Path.{◌≡◌}
+use lib.ListN.{drop}
+use borrow.Author.Rules.{rules}
+use Rattle.lists.specs.Lists as lists
+use Rattle.conservative_laws.specs.Validity.{taken}
+use Rattle.plan_acceptance.specs.Plan.{Planned, used_first, used_step, used_done, used_low}
+use Rattle.plan_acceptance.proofs.used_at.Goals.{After-taken-sum}
+use Rattle.plan_acceptance.proofs.used_at.Goals as goal
+
+-- one step
+step : (c : After-taken-sum)
+    → let l = c.loop-i in
+    let a = c.args in
+    (p : Planned a.held.now a.froms.now a.untils.now a.count)
+    → c.taken-sum.result + lists.sum (taken p.settings a.minute) (drop (l.i + 1) p.jobs) ≡ lists.sum (taken p.settings a.minute) (drop l.i p.jobs)
+step c p =
+    let l = c.loop-i in
+    used_step p c.args.minute l.i c.taken-sum.result (omega arith) c.taken-sum.ensures
+
+pub loop-i-init : goal.loop-i-init
+loop-i-init c = (search rules, λ p. omega (arith, used_first p c.args.minute))
+
+pub offset_bounds-held-i : goal.offset_bounds-held-i
+offset_bounds-held-i c = omega (arith, c.requires.few)
+
+pub bounds-held-i : goal.bounds-held-i
+bounds-held-i c = omega (arith, c.requires.few)
+
+pub offset_bounds-froms-i : goal.offset_bounds-froms-i
+offset_bounds-froms-i c = omega (arith, c.requires.few)
+
+pub bounds-froms-i : goal.bounds-froms-i
+bounds-froms-i c = omega (arith, c.requires.few)
+
+pub offset_bounds-untils-i : goal.offset_bounds-untils-i
+offset_bounds-untils-i c = omega (arith, c.requires.few)
+
+pub bounds-untils-i : goal.bounds-untils-i
+bounds-untils-i c = omega (arith, c.requires.few)
+
+pub overflow_add-sum : goal.overflow_add-sum
+overflow_add-sum c =
+    let l = c.loop-i in
+    omega (arith, l.invariant.1 c.requires, step c c.requires, used_low c.requires c.args.minute)
+
+pub overflow_add-i : goal.overflow_add-i
+overflow_add-i c = omega (arith, c.requires.few)
+
+pub loop-i-preserved : goal.loop-i-preserved
+loop-i-preserved c =
+    let l = c.loop-i in
+    (omega arith, λ p. omega (arith, l.invariant.1 p, step c p))
+
+pub returns : goal.returns
+returns c =
+    let l = c.loop-i in
+    λ p. omega (arith, l.invariant.1 p, used_done p c.args.minute l.i (omega arith))
