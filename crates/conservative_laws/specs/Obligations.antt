@@ -70,14 +70,14 @@ begun_tells R lo (j ∷ js) (k ∷ ks) a z =
     let rest = begun_tells R (suc j.ticket) js ks a.1 z.1 in
     case (is_waiting j && is_running k)
     (λ e.
-      let q : begun (j ∷ js) (k ∷ ks) ≡ j.ticket ∷ begun js ks = rw e in
-      let more : Zip (Told R (j.ticket ∷ begun js ks)) js ks =
-          zip_map (Told R (begun js ks)) (Told R (j.ticket ∷ begun js ks)) js ks
-              (λ x y i r. (r.0, rw (ne_eqb x.ticket j.ticket (λ q. omega (arith, asc_in (suc j.ticket) js a.1 i))) r.1)) rest in
-      subst (λ ts. Zip (Told R ts) (j ∷ js) (k ∷ ks)) (sym q) ((z.0, rw (eq-eqb j.ticket j.ticket refl, e)), more))
+    let q : begun (j ∷ js) (k ∷ ks) ≡ j.ticket ∷ begun js ks = rw e in
+    let more : Zip (Told R (j.ticket ∷ begun js ks)) js ks =
+    zip_map (Told R (begun js ks)) (Told R (j.ticket ∷ begun js ks)) js ks
+    (λ x y i r. (r.0, rw (ne_eqb x.ticket j.ticket (λ q. omega (arith, asc_in (suc j.ticket) js a.1 i))) r.1)) rest in
+    subst (λ ts. Zip (Told R ts) (j ∷ js) (k ∷ ks)) (sym q) ((z.0, rw (eq-eqb j.ticket j.ticket refl, e)), more))
     (λ e.
-      let q : begun (j ∷ js) (k ∷ ks) ≡ begun js ks = rw e in
-      subst (λ ts. Zip (Told R ts) (j ∷ js) (k ∷ ks)) (sym q) ((z.0, rw e (begun_low j.ticket (suc j.ticket) js ks (omega arith) a.1)), rest))
+    let q : begun (j ∷ js) (k ∷ ks) ≡ begun js ks = rw e in
+    subst (λ ts. Zip (Told R ts) (j ∷ js) (k ∷ ks)) (sym q) ((z.0, rw e (begun_low j.ticket (suc j.ticket) js ks (omega arith) a.1)), rest))
 
 -- so a job that starts waited before
 pub begun_waited : (t : ℕ) (js ks : List Job) → elem t (begun js ks) ≡ true → (j : Job) × In j js × (is_waiting j ≡ true) × (j.ticket ≡ t)

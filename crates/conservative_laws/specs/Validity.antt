@@ -22,7 +22,7 @@ use Rattle.scheduler.specs.declared.Select.{Select}
 use Rattle.scheduler.specs.States.{live?, waiting?, running?, cleaning?, holding?}
 use Rattle.scheduler.specs.Jobs.{is_waiting, is_running, is_holding, cleaning, held}
 use Rattle.scheduler.specs.declared.Settings.{Settings}
-use Rattle.scheduler.specs.Settings.{refused_settings, horizon, hold_time, until}
+use Rattle.scheduler.specs.Settings.{refused_settings, horizon, hold_time}
 use Rattle.scheduler.specs.Times.{run_pos, hold_pos, end_is, until_is, until_end, until_cleaned, until_at, until_still}
 use Rattle.scheduler.specs.Table as table
 use Rattle.scheduler.specs.Table.{nodes_held, live_of, tickets_of, ends, staying, ceased, remaining}

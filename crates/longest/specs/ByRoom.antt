@@ -5,7 +5,6 @@ use Rattle.std.proofs.Common.{arith, sym, ap, ◌∙◌}
 use mathlib.Core.List.{List, []}
 use Rattle.spans.proofs.EarliestStart.{room_less}
 use Rattle.scheduler.specs.declared.Inquiry.{Inquiry}
-use Rattle.scheduler.specs.declared.Refusal.{Refusal}
 use Rattle.scheduler.specs.declared.Refusal.TheVariants as refusal
 use Rattle.scheduler.specs.declared.Scheduler.{Scheduler}
 use Rattle.scheduler.specs.declared.Settings.{Settings}
