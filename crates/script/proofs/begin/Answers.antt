@@ -15,5 +15,5 @@ from d = record { stage = First; at = 0; steps = 0; scheduler = d }
 
 pub returns : goal.returns
 returns c =
-    ap (λ (x : Opened). from x.scheduler) c.«open».ensures
+    ap (λ (x : Opened). from x.scheduler) c.open-none.ensures
     ∙ ap (λ (S : Settings). from (opened (record { settings = S; minute = 0; ticket = 1 })).scheduler) c.of_refused.ensures

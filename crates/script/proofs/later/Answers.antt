@@ -1,13 +1,11 @@
 -- `script::later` meets its contract: each turn adds its lines to the page and takes them from what is left to print.
 -- Assumes nothing.
 use mathlib.Core.Path.{◌≡◌, refl, sym, ◌∙◌}
-use mathlib.Core.List.{List}
-use Prim.Native.Nat.{ℕ, ◌+◌, ◌-◌, ◌≤◌, ◌<◌}
+use Prim.Native.Nat.{◌+◌, ◌-◌, ◌≤◌}
 use native.Mathlib.Omega.{arith}
 use lib.ListN.{length}
 use Rattle.paging.specs.Players.{Skips, Turned}
 use Rattle.paging.specs.PageFilling.{Filling, filling_none, filling_skip, filling_less, filling_more, filled_full, filled_over}
-use Rattle.scheduler.specs.declared.Scheduler.{Scheduler}
 use Rattle.scheduler.specs.Model.{view}
 use Rattle.guarantees.specs.Premise.{premise_sound}
 use Rattle.quiet_minutes.specs.QuietCount.{Ahead, ahead_none, slots_whole, slot_ready, asked_none, asked_more, asked_all}
@@ -15,11 +13,11 @@ use Rattle.quiet_minutes.specs.QuietTicks.{passed_over}
 use Rattle.kept_calls.specs.KeptPoints.{KeptBeside, Passing, beside_handed, passed_none}
 use Rattle.script_writing.specs.AnswerText.{page_bytes}
 use Rattle.script_play.specs.Pieces.{going, piece_of}
-use Rattle.script_play.specs.Progress.{InPlay, weight, script_player}
+use Rattle.script_play.specs.Progress.{InPlay, script_player}
 use Rattle.script.specs.QuietWait.{in_time_lem, passes_quiet, passes_skips}
 use Rattle.script.specs.PageTurns.{call_few, over_turned, call_turned, lacks_turned, wait_turned, refused_turned}
 use Rattle.script.specs.PageFilling.{filled_as}
-use Rattle.script.proofs.later.Goals.{After-next_turn-next, After-put_answer-end, After-put_refusal-end, After-put_refusal-end-in-Malformed, In-loop-end, In-loop-i, Joined-minutes-gt0, Joined-steps-gt0, Start, Then-is_none}
+use Rattle.script.proofs.later.Goals.{After-put_answer-end, After-put_refusal-end, After-put_refusal-end-in-Malformed, In-loop-end, In-loop-i, Joined-minutes-gt0, Joined-steps-gt0, Start, Then-is_none}
 use Rattle.script.proofs.later.Goals.{else-minutes-gt0, else-steps-gt0, then-minutes-gt0, then-steps-gt0+else-loop-i-test}
 use Rattle.script.proofs.later.Goals as goal
 
@@ -41,10 +39,11 @@ ahead : (c : Joined-steps-gt0) → let l = c.loop-end in Ahead l.d l.steps c.if-
 ahead c =
     let l = c.loop-end in
     elim c.if-steps-gt0.branch [
-      then-steps-gt0+else-loop-i-test w ↦ let x = w.loop-i in
-    rw w.minutes-is (asked_all l.d w.latest-until.result x.until l.steps x.i (slots_whole l.d l.invariant.0.ready.premise) (omega (arith, w.loop-i-test.false)) x.invariant
-    w.latest-until.ensures.1 w.latest-until.ensures.2)
-    | else-steps-gt0 w ↦ rw w.minutes-is (ahead_none _ _) ]
+      | then-steps-gt0+else-loop-i-test w ↦ let x = w.loop-i in
+          rw w.minutes-is (asked_all l.d w.latest-until.result x.until l.steps x.i (slots_whole l.d l.invariant.0.ready.premise) (omega (arith, w.loop-i-test.false)) x.invariant
+          w.latest-until.ensures.1 w.latest-until.ensures.2)
+      | else-steps-gt0 w ↦ rw w.minutes-is (ahead_none _ _)
+    ]
 
 passing : (c : Joined-steps-gt0)
     → let l = c.loop-end in
@@ -78,50 +77,21 @@ passes c =
       until = in_time_lem (going l.at l.steps l.d) l.invariant.0.ready.premise (ahead c);
     }
 
--- where the turn that is then taken is known
-abbrev passed : After-next_turn-next → Joined-steps-gt0
-passed n = n.before.before.before
-
--- it leaves the page, the place in it, the steps and the scheduler so
-abbrev Turn : (n : After-next_turn-next) (after : List ℕ) (end steps : ℕ) (d : Scheduler) → Type 0
-Turn n after end steps d =
-    let l = (passed n).loop-end in
-    let k = (passed n).if-steps-gt0.minutes in
-    Turned page_bytes (piece_of n.args.script.now
-    (going l.at (l.steps - k) (passed_over l.d k))) l.page l.end after end
-    (going n.next_turn-next.result.at steps d)
-
--- the scheduler that it finds
-abbrev found : After-next_turn-next → Scheduler
-found n = passed_over (passed n).loop-end.d (passed n).if-steps-gt0.minutes
-
-more : (n : After-next_turn-next) {after : List ℕ} {end steps : ℕ} {d : Scheduler} → Turn n after end steps d
-    → let a = n.args in
-    Filling (script_player a.script.now) page_bytes (going a.p.at a.p.steps a.p.scheduler) (length a.page.now) after end
-    (going n.next_turn-next.result.at steps d)
-more n t = filling_more (quiet-filling (passed n)) (omega arith) t (room (passed n).before)
-
-less : (n : After-next_turn-next) {after : List ℕ} {end steps : ℕ} {d : Scheduler} → Turn n after end steps d
-    → let s = n.args.script.now in
-    let l = (passed n).loop-end in
-    weight s (going n.next_turn-next.result.at steps d) < weight s (going l.at l.steps l.d)
-less n t = omega (arith, filling_less (quiet-filling (passed n)) (omega arith) t, (passing (passed n)).no_more)
-
 call-turn : (c : After-put_answer-end)
-    → Turn c.before.before.before.before.before.before.before.before.before.before.before.before.before.before.before.before.before c.put_answer-end.new.0 c.put_answer-end.result c.next_turn-next.result.steps c.call-kept.result.outcome.scheduler
+    → Turned page_bytes (piece_of c.args.script.now (going c.loop-end.at (c.loop-end.steps - c.if-steps-gt0.minutes) (passed_over c.loop-end.d c.if-steps-gt0.minutes))) c.loop-end.page c.loop-end.end c.put_answer-end.new.page c.put_answer-end.result (going c.next_turn-next.result.at c.next_turn-next.result.steps c.call-kept.result.outcome.scheduler)
 call-turn c =
     call_turned _ _ _ _ _ c.next_turn-next.ensures _ c.in-Asks.is _
     c.in-Call.is _ c.call-kept.ensures.0 c.put_answer-end.ensures
 
-wait-turn : (c : Then-is_none) → let l =
-    (passed c.before.before.before.before.before.before.before.before.before).loop-end in Turn c.before.before.before.before.before.before.before.before.before l.page l.end c.in-Wait.n (found c.before.before.before.before.before.before.before.before.before)
+wait-turn : (c : Then-is_none)
+    → Turned page_bytes (piece_of c.args.script.now (going c.loop-end.at (c.loop-end.steps - c.if-steps-gt0.minutes) (passed_over c.loop-end.d c.if-steps-gt0.minutes))) c.loop-end.page c.loop-end.end c.loop-end.page c.loop-end.end (going c.next_turn-next.result.at c.in-Wait.n (passed_over c.loop-end.d c.if-steps-gt0.minutes))
 wait-turn c =
     wait_turned _ _ _ _ _ c.next_turn-next.ensures _ c.in-Asks.is _
     c.in-Wait.is _ c.wait_refusal-reason.ensures _ _
     (sym c.is_none.ensures ∙ c.if-is_none.true)
 
 refused-turn : (c : After-put_refusal-end)
-    → Turn c.before.before.before.before.before.before.before.before.before.before.before c.put_refusal-end.new.0 c.put_refusal-end.result c.next_turn-next.result.steps (found c.before.before.before.before.before.before.before.before.before.before.before)
+    → Turned page_bytes (piece_of c.args.script.now (going c.loop-end.at (c.loop-end.steps - c.if-steps-gt0.minutes) (passed_over c.loop-end.d c.if-steps-gt0.minutes))) c.loop-end.page c.loop-end.end c.put_refusal-end.new.page c.put_refusal-end.result (going c.next_turn-next.result.at c.next_turn-next.result.steps (passed_over c.loop-end.d c.if-steps-gt0.minutes))
 refused-turn c =
     refused_turned _ _ _ _ _ c.next_turn-next.ensures _ c.in-Asks.is _
     c.in-Wait.is _ c.wait_refusal-reason.ensures
@@ -129,7 +99,7 @@ refused-turn c =
     c.put_refusal-end.ensures
 
 lacks-turn : (c : After-put_refusal-end-in-Malformed)
-    → Turn c.before.before.before.before.before.before.before c.put_refusal-end-in-Malformed.new.0 c.put_refusal-end-in-Malformed.result c.next_turn-next.result.steps (found c.before.before.before.before.before.before.before)
+    → Turned page_bytes (piece_of c.args.script.now (going c.loop-end.at (c.loop-end.steps - c.if-steps-gt0.minutes) (passed_over c.loop-end.d c.if-steps-gt0.minutes))) c.loop-end.page c.loop-end.end c.put_refusal-end-in-Malformed.new.page c.put_refusal-end-in-Malformed.result (going c.next_turn-next.result.at c.next_turn-next.result.steps (passed_over c.loop-end.d c.if-steps-gt0.minutes))
 lacks-turn c = lacks_turned _ _ _ _ _ c.next_turn-next.ensures _ c.in-Asks.is
     c.in-Malformed.is c.put_refusal-end-in-Malformed.ensures
 
@@ -139,15 +109,23 @@ whole c = let l = c.loop-end in slots_whole l.d l.invariant.0.ready.premise
 
 -- the points after the minutes passed over
 kept-over : (c : Joined-minutes-gt0)
+    → Ahead c.loop-end.d c.loop-end.steps c.if-steps-gt0.minutes
     → KeptBeside (view (passed_over c.loop-end.d c.if-steps-gt0.minutes)) c.if-minutes-gt0.count c.if-minutes-gt0.points c.if-minutes-gt0.free c.if-minutes-gt0.low c.if-minutes-gt0.high
-kept-over c =
+kept-over c quiet =
     let l = c.loop-end in
+    let following : Passing l.d.settings.kind (l.d.clock + c.if-steps-gt0.minutes) l.count l.points l.free l.low l.high = record {
+      scheduler = l.d;
+      minutes = c.if-steps-gt0.minutes;
+      premise = l.invariant.0.ready.premise;
+      beside = l.invariant.1;
+      kind_is = refl;
+      clock_is = refl;
+      until = in_time_lem (going l.at l.steps l.d) l.invariant.0.ready.premise quiet;
+    } in
     elim c.if-minutes-gt0.branch [
-      then-minutes-gt0 x ↦ rw (x.points-is, x.free-is, x.low-is, x.high-is, x.count-is) (x.pass_over-count.ensures (passes c.before.before))
-    | else-minutes-gt0 x ↦ rw (x.points-is, x.free-is, x.low-is, x.high-is, x.count-is) (passed_none l.d c.if-steps-gt0.minutes (omega (arith, x.if-minutes-gt0.false)) l.invariant.1) ]
-
-abbrev over : After-next_turn-next → Joined-minutes-gt0
-over n = n.before
+      | then-minutes-gt0 x ↦ rw (x.points-is, x.free-is, x.low-is, x.high-is, x.count-is) (x.pass_over-count.ensures following)
+      | else-minutes-gt0 x ↦ rw (x.points-is, x.free-is, x.low-is, x.high-is, x.count-is) (passed_none l.d c.if-steps-gt0.minutes (omega (arith, x.if-minutes-gt0.false)) l.invariant.1)
+    ]
 
 pub overflow_sub-last : goal.overflow_sub-last
 overflow_sub-last c = omega (arith, c.page_len.ensures, c.requires.2)
@@ -204,57 +182,56 @@ pass_over-count-requires c =
 
 pub call-kept-requires : goal.call-kept-requires
 call-kept-requires c =
-    ((quiet-filling (passed (goal.at.call-kept-requires c).After-next_turn-next)).ready.premise, kept-over (over (goal.at.call-kept-requires c).After-next_turn-next))
+    ((quiet-filling (goal.at.call-kept-requires c).Joined-steps-gt0).ready.premise, kept-over (goal.at.call-kept-requires c).Joined-minutes-gt0 (ahead (goal.at.call-kept-requires c).Joined-steps-gt0))
 
 pub put_answer-end-requires : goal.put_answer-end-requires
 put_answer-end-requires c =
-    let f = call_few _ _ _ c.call-kept.ensures.0 (quiet-filling (passed (goal.at.put_answer-end-requires c).After-next_turn-next)).ready.premise in
-    (f.0, f.1, room (passed (goal.at.put_answer-end-requires c).After-next_turn-next).before)
+    let f = call_few _ _ _ c.call-kept.ensures.0 (quiet-filling (goal.at.put_answer-end-requires c).Joined-steps-gt0).ready.premise in
+    (f.0, f.1, room (goal.at.put_answer-end-requires c).In-loop-end)
 
 pub loop-end-smaller-in-Call : goal.loop-end-smaller-in-Call
-loop-end-smaller-in-Call c = less (goal.at.loop-end-smaller-in-Call c).After-next_turn-next (call-turn (goal.at.loop-end-smaller-in-Call c).After-put_answer-end)
+loop-end-smaller-in-Call c = omega (arith, filling_less (quiet-filling (goal.at.loop-end-smaller-in-Call c).Joined-steps-gt0) (omega arith) (call-turn (goal.at.loop-end-smaller-in-Call c).After-put_answer-end), (passing (goal.at.loop-end-smaller-in-Call c).Joined-steps-gt0).no_more)
 
 pub loop-end-preserved-in-Call : goal.loop-end-preserved-in-Call
 loop-end-preserved-in-Call c =
     let e = c.call-kept.ensures in
-    (more (goal.at.loop-end-preserved-in-Call c).After-next_turn-next (call-turn (goal.at.loop-end-preserved-in-Call c).After-put_answer-end), beside_handed _ _ _ (quiet-filling (passed (goal.at.loop-end-preserved-in-Call c).After-next_turn-next)).ready.premise e.0 e.1)
+    (filling_more (quiet-filling (goal.at.loop-end-preserved-in-Call c).Joined-steps-gt0) (omega arith) (call-turn (goal.at.loop-end-preserved-in-Call c).After-put_answer-end) (room (goal.at.loop-end-preserved-in-Call c).In-loop-end), beside_handed _ _ _ (quiet-filling (goal.at.loop-end-preserved-in-Call c).Joined-steps-gt0).ready.premise e.0 e.1)
 
 pub wait_refusal-reason-requires : goal.wait_refusal-reason-requires
-wait_refusal-reason-requires c = (quiet-filling (passed (goal.at.wait_refusal-reason-requires c).After-next_turn-next)).ready.premise
+wait_refusal-reason-requires c = (quiet-filling (goal.at.wait_refusal-reason-requires c).Joined-steps-gt0).ready.premise
 
 pub loop-end-smaller-then-is_none : goal.loop-end-smaller-then-is_none
-loop-end-smaller-then-is_none c = less (goal.at.loop-end-smaller-then-is_none c).After-next_turn-next (wait-turn c)
+loop-end-smaller-then-is_none c = omega (arith, filling_less (quiet-filling (goal.at.loop-end-smaller-then-is_none c).Joined-steps-gt0) (omega arith) (wait-turn c), (passing (goal.at.loop-end-smaller-then-is_none c).Joined-steps-gt0).no_more)
 
 pub loop-end-preserved-then-is_none : goal.loop-end-preserved-then-is_none
-loop-end-preserved-then-is_none c = (more (goal.at.loop-end-preserved-then-is_none c).After-next_turn-next (wait-turn c), kept-over (over (goal.at.loop-end-preserved-then-is_none c).After-next_turn-next))
+loop-end-preserved-then-is_none c = (filling_more (quiet-filling (goal.at.loop-end-preserved-then-is_none c).Joined-steps-gt0) (omega arith) (wait-turn c) (room (goal.at.loop-end-preserved-then-is_none c).In-loop-end), kept-over (goal.at.loop-end-preserved-then-is_none c).Joined-minutes-gt0 (ahead (goal.at.loop-end-preserved-then-is_none c).Joined-steps-gt0))
 
 pub put_refusal-end-requires : goal.put_refusal-end-requires
-put_refusal-end-requires c = omega (arith, room (passed (goal.at.put_refusal-end-requires c).After-next_turn-next).before)
+put_refusal-end-requires c = omega (arith, room (goal.at.put_refusal-end-requires c).In-loop-end)
 
 pub loop-end-smaller-in-Wait : goal.loop-end-smaller-in-Wait
-loop-end-smaller-in-Wait c = less (goal.at.loop-end-smaller-in-Wait c).After-next_turn-next
-    (refused-turn (goal.at.loop-end-smaller-in-Wait c).After-put_refusal-end)
+loop-end-smaller-in-Wait c = omega (arith, filling_less (quiet-filling (goal.at.loop-end-smaller-in-Wait c).Joined-steps-gt0) (omega arith) (refused-turn (goal.at.loop-end-smaller-in-Wait c).After-put_refusal-end), (passing (goal.at.loop-end-smaller-in-Wait c).Joined-steps-gt0).no_more)
 
 pub loop-end-preserved-in-Wait : goal.loop-end-preserved-in-Wait
-loop-end-preserved-in-Wait c = (more (goal.at.loop-end-preserved-in-Wait c).After-next_turn-next (refused-turn (goal.at.loop-end-preserved-in-Wait c).After-put_refusal-end), kept-over (over (goal.at.loop-end-preserved-in-Wait c).After-next_turn-next))
+loop-end-preserved-in-Wait c = (filling_more (quiet-filling (goal.at.loop-end-preserved-in-Wait c).Joined-steps-gt0) (omega arith) (refused-turn (goal.at.loop-end-preserved-in-Wait c).After-put_refusal-end) (room (goal.at.loop-end-preserved-in-Wait c).In-loop-end), kept-over (goal.at.loop-end-preserved-in-Wait c).Joined-minutes-gt0 (ahead (goal.at.loop-end-preserved-in-Wait c).Joined-steps-gt0))
 
 pub put_refusal-end-requires-in-Malformed : goal.put_refusal-end-requires-in-Malformed
-put_refusal-end-requires-in-Malformed c = omega (arith, room (passed (goal.at.put_refusal-end-requires-in-Malformed c).After-next_turn-next).before)
+put_refusal-end-requires-in-Malformed c = omega (arith, room (goal.at.put_refusal-end-requires-in-Malformed c).In-loop-end)
 
 pub loop-end-smaller : goal.loop-end-smaller
-loop-end-smaller c = less (goal.at.loop-end-smaller c).After-next_turn-next (lacks-turn (goal.at.loop-end-smaller c).After-put_refusal-end-in-Malformed)
+loop-end-smaller c = omega (arith, filling_less (quiet-filling (goal.at.loop-end-smaller c).Joined-steps-gt0) (omega arith) (lacks-turn (goal.at.loop-end-smaller c).After-put_refusal-end-in-Malformed), (passing (goal.at.loop-end-smaller c).Joined-steps-gt0).no_more)
 
 pub loop-end-preserved : goal.loop-end-preserved
-loop-end-preserved c = (more (goal.at.loop-end-preserved c).After-next_turn-next (lacks-turn (goal.at.loop-end-preserved c).After-put_refusal-end-in-Malformed), kept-over (over (goal.at.loop-end-preserved c).After-next_turn-next))
+loop-end-preserved c = (filling_more (quiet-filling (goal.at.loop-end-preserved c).Joined-steps-gt0) (omega arith) (lacks-turn (goal.at.loop-end-preserved c).After-put_refusal-end-in-Malformed) (room (goal.at.loop-end-preserved c).In-loop-end), kept-over (goal.at.loop-end-preserved c).Joined-minutes-gt0 (ahead (goal.at.loop-end-preserved c).Joined-steps-gt0))
 
 pub shape_of-page-in-Over : goal.shape_of-page-in-Over
-shape_of-page-in-Over c = (passed (goal.at.shape_of-page-in-Over c).After-next_turn-next).loop-end.invariant.0.whole
+shape_of-page-in-Over c = c.loop-end.invariant.0.whole
 
 pub returns-in-Over : goal.returns-in-Over
 returns-in-Over c =
     filled_as c.requires.1
-    (filled_over (filling_more (quiet-filling (passed (goal.at.returns-in-Over c).After-next_turn-next)) (omega arith) (over_turned _ _ _ _ _ c.next_turn-next.ensures _ _ c.in-Over.is)
-    (room (passed (goal.at.returns-in-Over c).After-next_turn-next).before)) refl)
+    (filled_over (filling_more (quiet-filling (goal.at.returns-in-Over c).Joined-steps-gt0) (omega arith) (over_turned _ _ _ _ _ c.next_turn-next.ensures _ _ c.in-Over.is)
+    (room (goal.at.returns-in-Over c).In-loop-end)) refl)
 
 pub shape_of-page : goal.shape_of-page
 shape_of-page c = c.loop-end.invariant.0.whole
