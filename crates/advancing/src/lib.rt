@@ -1,5 +1,6 @@
 // Minutes that pass at once, on a scheduler of either kind, by value: up to the first in which something is due.
 #![tactic(auto)]
+
 ghost use Rattle.std.specs.Prelude.{◌≡◌, true, ◌+◌, ◌≤◌};
 ghost use Rattle.scheduler.specs.Model.{view};
 ghost use Rattle.scheduler.specs.Answers.{accepts};

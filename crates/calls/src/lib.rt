@@ -1,5 +1,6 @@
 // The calls on a scheduler of either kind, by value: each goes by the kind's rules.
 #![tactic(auto)]
+
 ghost use Rattle.std.specs.Prelude.{◌≡◌, []};
 ghost use Rattle.scheduler.specs.Model.{view};
 ghost use Rattle.scheduler.specs.Answers.{outcome};

@@ -1,22 +1,21 @@
 -- What the readers of a record's line answer, in the words of its definition.
 -- Assumes nothing.
-use Rattle.std.specs.Prelude.{◌≡◌, refl, Bool, true, false, cond, ◌||◌, List, [], ◌∷◌, ℕ, ◌≤◌, eqb, leb, ltb, length, get_or}
-use Rattle.std.proofs.Common.{sym, ap, ◌∙◌, arith}
+use Rattle.std.specs.Prelude.{◌≡◌, Bool, cond, ◌||◌, List, [], ◌∷◌, ℕ, ltb, length, get_or}
+use Rattle.std.proofs.Common.{◌∙◌, arith}
 use Rattle.std.proofs.Math.Option.{Option, none, some}
 use Rattle.lists.specs.Tests.{case}
 use Rattle.text.specs.declared.Parsed.{Parsed}
-use Rattle.text.specs.declared.Parsed.TheVariants.{Is, Not}
 use Rattle.text.specs.declared.Numbers.{Numbers}
 use Rattle.text.specs.Numbers.{numbers_from}
 use Rattle.text.specs.Fields.{fields_of, field_of}
 use Rattle.text.specs.Words.{is_word}
 use Rattle.scheduler.specs.declared.State.{State}
-use Rattle.scheduler.specs.declared.State.TheVariants.{Unused, Waiting, Running, Cleanup}
+use Rattle.scheduler.specs.declared.State.TheVariants.{Unused}
 use Rattle.scheduler.specs.declared.Job.{Job}
 use Rattle.scheduler.specs.States.{live?}
 use Rattle.scheduler.specs.Limits.{max_nodes, longest_estimate}
 use Rattle.scheduler.specs.Tenants.{tenant_of}
-use Rattle.desk_lines.specs.DeskLine.{number_at, letter_at, with_number}
+use Rattle.desk_lines.specs.DeskLine.{letter_at, with_number}
 use Rattle.checkpoint_rules.specs.Texts.{state_of, with_state, job_in}
 use Rattle.script_reading.specs.Meaning.{with_numbers, when_read, with_read}
 use Rattle.checkpoint_reading.specs.declared.Given.{Given}

@@ -12,7 +12,7 @@ use Rattle.scheduler.specs.Limits.{slots}
 use Rattle.scheduler.specs.Jobs.{unused}
 use Rattle.scheduler.specs.Table.{with_jobs}
 use Rattle.scheduler.specs.Model.{Model}
-use Rattle.desk_lines.specs.LineLaws.{line_of, past, Past, past_line}
+use Rattle.desk_lines.specs.LineLaws.{line_of, past, past_line}
 use Rattle.checkpoint_rules.specs.Acceptance.{accepted}
 use Rattle.checkpoint_rules.specs.Texts.{job_in, job_of}
 use Rattle.desk_lines.specs.DeskLine.{closed_only}

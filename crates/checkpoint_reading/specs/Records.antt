@@ -1,6 +1,6 @@
 -- The records of a text, line after line: what a loop over the lines has read, and what that makes of the whole.
 -- Assumes nothing.
-use Rattle.std.specs.Prelude.{◌≡◌, refl, Bool, true, false, ◌||◌, ◌⊎◌, ℕ, ◌+◌, ◌≤◌, ◌<◌, leb, ltb, length, drop}
+use Rattle.std.specs.Prelude.{◌≡◌, refl, true, false, ◌||◌, ◌⊎◌, ℕ, ◌≤◌, ◌<◌, leb, ltb, length, drop}
 use Rattle.std.proofs.Common.{sym, ◌∙◌, inl, inr, arith, leb-true, ltb-true}
 use Rattle.std.proofs.Math.Path.{ap}
 use mathlib.Core.List.{List, [], ◌∷◌, ◌++◌, append-nil, append_assoc}

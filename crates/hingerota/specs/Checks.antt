@@ -1,7 +1,7 @@
 -- Whether numbers that a host holds in a desk's place are a desk that it may pass to calls. Document 02, No. 11: "A desk read back is tested, where
 -- document 01 asked only that calls had made it"; 23, "one of these conditions is broken".
 -- Assumes nothing.
-use Rattle.std.specs.Prelude.{◌≡◌, refl, Bool, true, false, not, cond, ◌&&◌, List, [], ◌∷◌, ◌++◌, map, ℕ, zero, suc, ◌+◌, ◌-◌, ◌≤◌, leb, eqb, length, replicate}
+use Rattle.std.specs.Prelude.{◌≡◌, refl, Bool, true, false, not, cond, ◌&&◌, List, [], ◌∷◌, ◌++◌, map, ℕ, zero, suc, ◌-◌, ◌≤◌, leb, eqb, length, replicate}
 use Rattle.std.proofs.Common.{sym, ap, subst, ◌∙◌, arith, length-append, leb-true, eqb-true, eq-eqb}
 use Rattle.std.proofs.lemmas.List.{length-map, length-replicate}
 use Rattle.std.proofs.lemmas.Bool.{eqb-false}

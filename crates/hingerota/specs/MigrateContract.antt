@@ -3,7 +3,6 @@
 use Rattle.std.specs.Prelude.{◌≡◌}
 use Rattle.std.proofs.Common.{sym, ap, subst, ◌∙◌}
 use Rattle.scheduler.specs.declared.Scheduler.{Scheduler}
-use Rattle.scheduler.specs.Limits.{longest_estimate}
 use Rattle.scheduler.specs.Model.{store, view}
 use Rattle.guarantees.specs.Migration.{changed_longest}
 use Rattle.calls.specs.MigrateCall.{migrating, migrating_premise}

@@ -1,2 +1,3 @@
-// Lemmas for functions over what is lent: the walk through such a body, once for every type and contract. There is no code here.
+// What contracts and proofs over lent lists cite: a list by its places, and what a loop that fills the front of a list has written. There is no
+// code here.
 #![tactic(auto)]

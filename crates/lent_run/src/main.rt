@@ -24,7 +24,7 @@ use scheduler::{
 use spans::{Block, Point};
 use std::io::{self, Write};
 
-// A program makes no reference to a struct by itself. These functions lend a scheduler, or a list, of their own.
+// These functions lend a scheduler, or a list, of their own, and hand back what was left there.
 fn lent_submit(d: Scheduler, s: Submission) -> Outcome
     requires { Premise d }
     ensures { Leaves d (calls.submit s) result.answer result.scheduler }

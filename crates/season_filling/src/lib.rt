@@ -1,6 +1,7 @@
 // A season played into a lent page, page after page. A turn is an end, an arrival, a line that is refused, or a minute. Its lines stand in the page
 // after those of the turns before. What is noted of the jobs, by ticket, stands in two lists that are lent with the page.
 #![tactic(auto)]
+
 ghost use Rattle.std.specs.Prelude.{◌≡◌, List, ℕ, ◌≤◌, length};
 ghost use Rattle.scheduler.specs.Answers.{code};
 ghost use Rattle.paging.specs.Players.{piece, Turned};
