@@ -17,7 +17,7 @@ use Rattle.conservative_index.specs.declared.Blocks.{Blocks}
 use Rattle.conservative_index.specs.StoredIndex.{no_block, stored_blocks}
 use Rattle.conservative_rules.specs.Conservative.{points}
 use Rattle.calls.specs.declared.IndexOutcome.{IndexOutcome}
-use Rattle.calls.specs.ListCall.{list_refusal, written, of_conservative, items_of, none_of_easy}
+use Rattle.calls.specs.ListCall.{list_refusal, written, of_conservative, items_of}
 
 -- the index of a conservative scheduler's profile
 abbrev pub indexed : Model → List Block
@@ -62,4 +62,4 @@ module _ (d : Scheduler) (room : ℕ) where
 
   pub index_easy : d.settings.kind ≡ Easy → indexing refusal.None [] ≡ index_outcome (view d) room
   unfolding written verdict
-  index_easy e = rw (none_of_easy indexed d e, le-ltb room 0 (omega arith))
+  index_easy e = rw (items_of indexed d Easy e, le-ltb room 0 (omega arith))

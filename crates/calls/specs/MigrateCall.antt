@@ -7,7 +7,7 @@ use Rattle.std.proofs.Common.{sym, ap, ◌∙◌}
 use Rattle.scheduler.specs.declared.Kind.{Kind}
 use Rattle.scheduler.specs.declared.Kind.TheVariants.{Conservative, Easy}
 use Rattle.scheduler.specs.declared.Scheduler.{Scheduler}
-use Rattle.scheduler.specs.Model.{Model, store, view}
+use Rattle.scheduler.specs.Model.{store, view}
 use Rattle.migration_rules.specs.Migration.{migrated, changed_by, changed}
 use Rattle.guarantees.specs.Premise.{Premise, stored_premise}
 use Rattle.guarantees.specs.Proof.{change_valid}

@@ -16,7 +16,7 @@ use Rattle.conservative_profile.specs.declared.Profile.{Profile}
 use Rattle.conservative_profile.specs.StoredProfile.{no_point, stored}
 use Rattle.conservative_rules.specs.Conservative.{points}
 use Rattle.calls.specs.declared.ProfileOutcome.{ProfileOutcome}
-use Rattle.calls.specs.ListCall.{list_refusal, written, of_conservative, items_of, none_of_easy}
+use Rattle.calls.specs.ListCall.{list_refusal, written, of_conservative, items_of}
 
 -- of a scheduler of either kind
 abbrev pub points_of : Model → List Point
@@ -57,4 +57,4 @@ module _ (d : Scheduler) (room : ℕ) where
 
   pub show_easy : d.settings.kind ≡ Easy → showing refusal.None [] ≡ profile_outcome (view d) room
   unfolding written verdict
-  show_easy e = rw (none_of_easy points d e, le-ltb room 0 (omega arith))
+  show_easy e = rw (items_of points d Easy e, le-ltb room 0 (omega arith))

@@ -2,14 +2,9 @@
 -- page"), the lines that it is written out in (No. 11: "A desk must be written out and read back"), and why its jobs wait (No. 14: "print a
 -- sentence into a lent text").
 -- Assumes nothing.
-use Rattle.std.specs.Prelude.{◌≡◌, List, ℕ, ◌+◌, ◌≤◌, ◌<◌, length, take, drop}
-use Rattle.std.proofs.Math.Path.{refl}
-use Rattle.std.proofs.Common.{ap, ◌∙◌, arith, take_at}
-use Rattle.std.proofs.Math.Bool.{true}
-use Rattle.std.proofs.lemmas.List.Edits.{sets, sets-eq}
-use borrow.Author.Tests.{lt-ltb, le-ltb}
-use Rattle.lists.specs.Tests.{true_false}
-use Rattle.text.specs.WrittenBytes.{Wrote}
+use Rattle.std.specs.Prelude.{◌≡◌, List, ℕ, ◌≤◌, length}
+use Rattle.std.proofs.Common.{arith}
+use borrow.Author.Tests.{le-ltb}
 use Rattle.scheduler.specs.declared.Refusal.TheVariants as refusal
 use Rattle.scheduler.specs.declared.Scheduler.{Scheduler}
 use Rattle.scheduler.specs.Model.{Model, view}
@@ -21,7 +16,7 @@ use Rattle.checkpoint_writing.specs.TextSize.{text_bytes, text_fits}
 use Rattle.why_rules.specs.Why.{why_text}
 use Rattle.why_laws.specs.Sizes.{why_bytes, why_fits}
 use Rattle.calls.specs.declared.Shown.{Shown}
-use Rattle.calls.specs.ListCall.{over, list_refusal, written, Shows}
+use Rattle.calls.specs.ListCall.{list_refusal, Shows}
 
 abbrev pub ShowsPage : Scheduler → (lent : List ℕ) → Shown → (after : List ℕ) → Type 0
 ShowsPage d lent a after = Shows status_page_of d lent a after
@@ -35,49 +30,6 @@ ShowsWhy d lent a after = Shows why_text d lent a after
 -- of whatever text these bytes are
 abbrev pub ShowsBytes : (bytes lent : List ℕ) → Shown → (after : List ℕ) → Type 0
 ShowsBytes bytes lent a after = (text : Model → List ℕ) (d : Scheduler) → bytes ≡ text (view d) → Shows text d lent a after
-
--- bytes written from the first on
-front : (bytes page : List ℕ) → length bytes ≤ length page → sets page 0 bytes ≡ over bytes page
-front bytes page l = let z : 0 + length bytes ≡ length bytes = omega arith in rw z at (sets-eq bytes page 0 (omega arith))
-
-module _ {most : ℕ} {page bytes after : List ℕ} {end : ℕ} (l : most ≤ length page) (w : Wrote most page 0 bytes after end) where
-  -- what stands there once they are written
-  pub front_is : take end after ≡ bytes
-  front_is = ap (take end) (w.left ∙ front bytes page (omega (arith, w.few))) ∙ take_at bytes (drop (length bytes) page) end (omega (arith, w.place))
-
-  pub front_size : end ≡ length (take end after)
-  front_size = omega (arith, w.place, ap length front_is)
-
--- of every text
-module _ (text : Model → List ℕ) (d : Scheduler) (lent : List ℕ) where
-  abbrev size : ℕ
-  size = length (text (view d))
-
-  pub text_refused : length lent < size → Shows text d lent (record { refusal = refusal.TooShort; count = 0 }) lent
-  unfolding written verdict
-  text_refused l = let e = lt-ltb (length lent) size l in record { answers = rw e; writes = rw e; refused = λ a. refl }
-
-  pub text_shown_lem : {most : ℕ} {after : List ℕ} {end : ℕ} → size ≤ length lent → Wrote most lent 0 (text (view d)) after end
-      → Shows text d lent (record { refusal = refusal.None; count = end }) after
-  unfolding written verdict
-  text_shown_lem {end = end} l w =
-      let e = le-ltb (length lent) size l in
-      let p : end ≡ size = omega (arith, w.place) in
-      record {
-        answers = rw (e, p);
-        writes = rw e (w.left ∙ front (text (view d)) lent l);
-        refused = λ a. true_false true refl a;
-      }
-
--- the same of bytes that a text is
-pub bytes_refused : (bytes lent : List ℕ) → length lent < length bytes → ShowsBytes bytes lent (record { refusal = refusal.TooShort; count = 0 }) lent
-bytes_refused bytes lent l text d e = text_refused text d lent (omega (arith, ap length e))
-
-pub bytes_shown : (bytes lent after : List ℕ) (end : ℕ) → length bytes ≤ length lent → (end ≡ 0 + length bytes) × (after ≡ sets lent 0 bytes)
-    → ShowsBytes bytes lent (record { refusal = refusal.None; count = end }) after
-bytes_shown bytes lent after end l c text d e =
-    text_shown_lem text d lent {most = length bytes} (omega (arith, ap length e))
-    (record { place = omega (arith, c.0, ap length e); left = c.1 ∙ ap (sets lent 0) e; few = omega (arith, ap length e) })
 
 -- ## The texts of every valid model fit into these numbers of bytes, so that a call that lends as many is not refused
 

@@ -1,6 +1,7 @@
 // The calls of either kind over columns, lent lists that are kept from call to call. Conservative backfilling keeps the profile and its index beside
 // the jobs, EASY backfilling who holds nodes and until when. What a kind does not keep of a job stays 0.
 #![tactic(auto)]
+
 ghost use Rattle.std.specs.Prelude.{List, ◌≤◌, ◌≡◌, length};
 ghost use Rattle.scheduler.specs.declared.Job.{Job};
 ghost use Rattle.scheduler.specs.declared.Settings.{Settings};

@@ -8,7 +8,7 @@ use Rattle.script_play.specs.declared.Play.{Play}
 use Rattle.script_play.specs.declared.Stage.{Stage}
 use Rattle.script_play.specs.declared.Stage.TheVariants.{Playing}
 use Rattle.script_play.specs.Pieces.{piece_by, piece_of, going, beginning}
-use Rattle.script_play.specs.Progress.{script_player}
+use Rattle.script_play.proofs.Progress.{script_player}
 
 -- From the beginning until the script is over, they are its printout.
 pub pages_whole : {s out : List ℕ} → Pages (script_player s) beginning out → out ≡ printout s

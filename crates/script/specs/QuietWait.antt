@@ -25,7 +25,8 @@ use Rattle.script_play.specs.declared.Play.{Play}
 use Rattle.script_play.specs.declared.Stage.TheVariants.{First, Playing, Over}
 use Rattle.script_play.specs.declared.Stage.{Stage}
 use Rattle.script_play.specs.Remainder.{from_here, left_by, left}
-use Rattle.script_play.specs.Progress.{InPlay, weight, weight_by, script_player}
+use Rattle.script_play.specs.Progress.{InPlay, weight, weight_by}
+use Rattle.script_play.proofs.Progress.{script_player}
 
 -- r stands some quiet minutes after p, with the scheduler that as many ticks hand back. How many minutes they are may differ from one correct
 -- program to another; what is left to print may not

@@ -7,7 +7,8 @@ ghost use Rattle.paging.specs.PageFilling.{Filled};
 ghost use Rattle.script_writing.specs.AnswerText.{page_bytes};
 ghost use Rattle.script_play.specs.declared.Stage.TheVariants.{Playing};
 ghost use Rattle.script_play.specs.Pieces.{beginning};
-ghost use Rattle.script_play.specs.Progress.{InPlay, script_player};
+ghost use Rattle.script_play.specs.Progress.{InPlay};
+ghost use Rattle.script_play.proofs.Progress.{script_player};
 
 use scheduler::{Kind, Opening, Refusal, Scheduler, Settings};
 use script_play::{Play, Played, Stage};

@@ -1,6 +1,6 @@
 -- `calls::show_bytes` meets its contract.
 -- Assumes nothing.
-use Rattle.calls.specs.TextCall.{bytes_refused, bytes_shown}
+use Rattle.calls.proofs.TextCall.{bytes_refused, bytes_shown}
 use Rattle.calls.proofs.show_bytes.Goals as goal
 
 pub returns-then-lent-written : goal.returns-then-lent-written

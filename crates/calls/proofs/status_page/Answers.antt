@@ -4,7 +4,7 @@ use native.Mathlib.Omega.{arith}
 use Rattle.scheduler.specs.Model.{view}
 use Rattle.status_page_rules.specs.StatusPage.{status_page_of}
 use Rattle.status_page_laws.specs.Pages.{page_size}
-use Rattle.calls.specs.TextCall.{text_refused, text_shown_lem}
+use Rattle.calls.proofs.TextCall.{text_refused, text_shown_lem}
 use Rattle.calls.proofs.status_page.Goals as goal
 
 pub returns-then-page-lt-PAGE : goal.returns-then-page-lt-PAGE

@@ -2,7 +2,7 @@
 -- Assumes nothing.
 use borrow.Author.Rules.{rules}
 use Rattle.why_rules.specs.Why.{why_text}
-use Rattle.calls.specs.TextCall.{front_is, front_size}
+use Rattle.calls.proofs.TextCall.{front_is, front_size}
 use Rattle.calls.proofs.why.Goals as goal
 
 pub slice_bounds-show_bytes-end : goal.slice_bounds-show_bytes-end
