@@ -13,7 +13,8 @@ use Rattle.quiet_minutes.specs.QuietTicks.{passed_over}
 use Rattle.kept_calls.specs.KeptPoints.{KeptBeside, Passing, beside_handed, passed_none}
 use Rattle.script_writing.specs.AnswerText.{page_bytes}
 use Rattle.script_play.specs.Pieces.{going, piece_of}
-use Rattle.script_play.specs.Progress.{InPlay, script_player}
+use Rattle.script_play.specs.Progress.{InPlay}
+use Rattle.script_play.proofs.Progress.{script_player}
 use Rattle.script.specs.QuietWait.{in_time_lem, passes_quiet, passes_skips}
 use Rattle.script.specs.PageTurns.{call_few, over_turned, call_turned, lacks_turned, wait_turned, refused_turned}
 use Rattle.script.specs.PageFilling.{filled_as}

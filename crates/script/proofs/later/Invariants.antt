@@ -8,7 +8,8 @@ use Rattle.quiet_minutes.specs.QuietCount.{Asked}
 use Rattle.kept_calls.specs.KeptPoints.{KeptBeside}
 use Rattle.script_writing.specs.AnswerText.{page_bytes}
 use Rattle.script_play.specs.Pieces.{going}
-use Rattle.script_play.specs.Progress.{weight, script_player}
+use Rattle.script_play.specs.Progress.{weight}
+use Rattle.script_play.proofs.Progress.{script_player}
 use Rattle.script.proofs.later.Given as goal
 
 abbrev pub invariant-loop-i : goal.invariant-loop-i
