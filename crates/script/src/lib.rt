@@ -1,6 +1,7 @@
 // A script played into a lent page, page after page. A line, or one step of a wait, is a turn. Its lines stand in the page after those of the turns
 // before.
 #![tactic(auto)]
+
 ghost use Rattle.std.specs.Prelude.{◌≡◌, ◌≤◌, length};
 ghost use Rattle.paging.specs.PageFilling.{Filled};
 ghost use Rattle.script_writing.specs.AnswerText.{page_bytes};

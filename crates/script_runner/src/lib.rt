@@ -1,5 +1,6 @@
 // Scripts from files and readers: a script is read whole, played page after page, and each page is written out.
 #![tactic(auto)]
+
 ghost use Rattle.std.specs.Prelude.{◌≤◌, length};
 ghost use Rattle.script_writing.specs.AnswerText.{page_bytes};
 

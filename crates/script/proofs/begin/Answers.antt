@@ -7,18 +7,13 @@ use Rattle.scheduler.specs.declared.Scheduler.{Scheduler}
 use Rattle.scheduler.specs.Opening.{opened}
 use Rattle.script_play.specs.declared.Play.{Play}
 use Rattle.script_play.specs.declared.Stage.TheVariants.{First}
-use borrow.Author.Rules.{rules}
-use Rattle.script.proofs.begin.Statement.{statement}
-use Rattle.script.proofs.begin.Tie as tie
+use Rattle.script.proofs.begin.Goals as goal
 
 -- the script stands at its beginning, with this scheduler
 abbrev from : Scheduler → Play
 from d = record { stage = First; at = 0; steps = 0; scheduler = d }
 
-returns : tie.Need-returns
+pub returns : goal.returns
 returns c =
-    ap (λ (x : Opened). from x.scheduler) c.before.«open».ensures
-    ∙ ap (λ (S : Settings). from (opened (record { settings = S; minute = 0; ticket = 1 })).scheduler) c.before.before.of-refused.ensures
-
-pub begin-spec : {M : Type 1} → statement M
-begin-spec = tie.close (tie.spec (λ c κs. search rules) (λ c κs. search rules) returns)
+    ap (λ (x : Opened). from x.scheduler) c.open-none.ensures
+    ∙ ap (λ (S : Settings). from (opened (record { settings = S; minute = 0; ticket = 1 })).scheduler) c.of_refused.ensures
