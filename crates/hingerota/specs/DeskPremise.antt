@@ -1,5 +1,4 @@
--- What a host program has to keep, and that every opening, every reading of lines and every call, refused ones too, hands it back. Document 01: "a desk
--- came from an opening or from a call here".
+-- What a host program has to keep (document 01: "a desk came from an opening or from a call here"), and what calls give to it.
 -- Assumes nothing.
 use Rattle.std.specs.Prelude.{◌≡◌, List, [], ◌∷◌, map, ℕ, ◌≤◌}
 use Rattle.std.proofs.Common.{sym, ap, subst, ◌∙◌, arith}
@@ -14,19 +13,14 @@ use Rattle.scheduler.specs.declared.Opening.{Opening}
 use Rattle.scheduler.specs.declared.Scheduler.{Scheduler}
 use Rattle.scheduler.specs.declared.Outcome as scheduler-outcome
 use Rattle.scheduler.specs.declared.Amendment as scheduler-amendment
-use Rattle.scheduler.specs.declared.Settings.{Settings}
 use Rattle.scheduler.specs.Limits.{longest_estimate}
-use Rattle.scheduler.specs.Model.{store, view}
+use Rattle.scheduler.specs.Model.{view}
 use Rattle.scheduler.specs.Opening.{opening_refusal, opening, opened}
 use Rattle.scheduler.specs.Answers.{accepts, outcome}
 use Rattle.history.specs.Calls.{Call}
 use Rattle.guarantees.specs.Rules.{call}
-use Rattle.guarantees.specs.Premise.{Premise, opened_premise, call_premise}
-use Rattle.guarantees.specs.Cleanup.{settings_stay}
-use Rattle.checkpoint_laws.specs.Restored.{restored_lined}
+use Rattle.guarantees.specs.Premise.{Premise}
 use Rattle.restoring.specs.Restoring.{restoring}
-use Rattle.amend_laws.specs.Sentences.{amended_settings, amended_premise}
-use Rattle.calls.specs.RestoreCall.{restored_premise}
 use Rattle.calls.specs.AmendCall.{amends}
 use Rattle.hingerota.specs.declared.Opening as host-opening
 use Rattle.hingerota.specs.declared.Desk.{Desk}
@@ -34,7 +28,7 @@ use Rattle.hingerota.specs.declared.Amendment.{Amendment}
 use Rattle.hingerota.specs.declared.Record.{Record}
 use Rattle.hingerota.specs.declared.Outcome.{Outcome}
 use Rattle.hingerota.specs.declared.Opened.{Opened}
-use Rattle.hingerota.specs.Mirror.{kind_number, state_number, mirror_job, mirror, read, read_mirror, mirror_outcome, mirror_opened}
+use Rattle.hingerota.specs.Mirror.{kind_number, state_number, mirror_job, mirror, read, mirror_outcome, mirror_opened}
 
 -- the desk is the mirror of a scheduler that meets the premise, with the longest estimate that every desk is read with
 pub record Handed (d : Desk) : Type 0 where
@@ -79,35 +73,10 @@ promise_opening o = opening_of Conservative o
 abbrev pub loose_opening : host-opening.Opening → Opening
 loose_opening o = opening_of Easy o
 
-pub mirror_handed : (s : Scheduler) → s.settings.longest ≡ longest_estimate → Premise s → Handed (mirror s)
-mirror_handed s l h = record { mirrored = ap mirror (sym (read_mirror s l)); premise = subst Premise (sym (read_mirror s l)) h }
-
--- an opening with this longest estimate hands it back, refused or not, and calls keep the settings
+-- an opening with this longest estimate hands it back, refused or not
 pub opening_longest : (o : Opening) → o.settings.longest ≡ longest_estimate → (opening o).settings.longest ≡ longest_estimate
 unfolding opening
 opening_longest o e = case (accepts (opening_refusal o)) (λ a. rw a e) (λ a. rw a)
-
-pub opened_handed : (o : Opening) → o.settings.longest ≡ longest_estimate → Handed (opens o).desk
-unfolding opened store
-opened_handed o e = mirror_handed (opened o).scheduler (opening_longest o e) (opened_premise o)
-
--- and so does every reading, a refused one too
-pub restored_handed : (t : List ℕ) → Handed (restores t).desk
-unfolding store
-restored_handed t = mirror_handed (restoring t).scheduler (restored_lined t).longest (restored_premise t)
-
-pub call_handed : (d : Desk) (c : Call) → Handed d → Handed (gives d c).desk
-unfolding store view read
-call_handed d c h =
-    mirror_handed (outcome (call (view (read d)) c)).scheduler
-    (ap (λ (S : Settings). S.longest) (settings_stay (view (read d)) (c ∷ []) h.premise.holds)) (call_premise (read d) c h.premise)
-
-pub amended_handed : (d : Desk) (b : Amendment) → Handed d → Handed (amends_on d b).desk
-unfolding store view read
-amended_handed d b h =
-    mirror_handed (amends (read d) (amendment_of b)).scheduler
-    (ap (λ (S : Settings). S.longest) (amended_settings (view (read d)) (amendment_of b) h.premise.holds))
-    (amended_premise (read d) (amendment_of b) h.premise)
 
 -- ## No other number stands for a kind or a state
 

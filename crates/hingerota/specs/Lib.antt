@@ -12,4 +12,3 @@ pub mod LongestContract
 pub mod TextContract
 pub mod RestoreContract
 pub mod MigrateContract
-pub mod Chain

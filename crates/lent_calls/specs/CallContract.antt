@@ -2,7 +2,7 @@
 -- afterwards"; "A refusal gives its number, no tickets, and the desk and any lent list unchanged".
 -- Assumes nothing.
 use Rattle.std.specs.Prelude.{◌≡◌, false}
-use Rattle.std.proofs.Common.{sym, ap, subst, ◌∙◌}
+use Rattle.std.proofs.Common.{sym, ap, ◌∙◌}
 use Rattle.scheduler.specs.declared.Kind.{Kind}
 use Rattle.scheduler.specs.declared.Kind.TheVariants.{Conservative, Easy}
 use Rattle.scheduler.specs.declared.Amendment.{Amendment}
@@ -15,9 +15,9 @@ use Rattle.history.specs.Calls.{Call}
 use Rattle.conservative_laws.specs.Sentences.{refused_is}
 use Rattle.easy_laws.specs.Sentences.{refused_same}
 use Rattle.guarantees.specs.Rules.{rules_of}
-use Rattle.guarantees.specs.Premise.{Premise, call_premise}
+use Rattle.guarantees.specs.Premise.{Premise}
 use Rattle.guarantees.specs.Chain.{gives}
-use Rattle.amend_laws.specs.Sentences.{refused_amendment, amended_premise}
+use Rattle.amend_laws.specs.Sentences.{refused_amendment}
 use Rattle.calls.specs.AmendCall.{amends}
 
 -- for a call that by value gives the outcome o: the answer a, and the scheduler e that stands where d was lent, are those of o; and e is d if the
@@ -46,19 +46,3 @@ refused_gives d c h a = ap store (same_by (view d).settings.kind (view d) c a) �
 
 pub refused_amends : (d : Scheduler) (b : Amendment) → Premise d → accepts (amends d b).answer.refusal ≡ false → (amends d b).scheduler ≡ d
 refused_amends d b h a = ap (λ (r : Result). store r.model) (refused_amendment (view d) b a) ∙ sym h.stored
-
--- what a call by value gives, the call on what is lent leaves
-leaves_of : (d : Scheduler) (x o : Outcome) → Premise x.scheduler → (accepts x.answer.refusal ≡ false → x.scheduler ≡ d) → o ≡ x
-    → LeavesOf d x o.answer o.scheduler
-leaves_of d x o p r e = record {
-  answers = ap (λ (y : Outcome). y.answer) e;
-  leaves = ap (λ (y : Outcome). y.scheduler) e;
-  premise = subst (λ (y : Outcome). Premise y.scheduler) (sym e) p;
-  refused = subst (λ (y : Outcome). accepts y.answer.refusal ≡ false → y.scheduler ≡ d) (sym e) r;
-}
-
-pub leaves_given : (d : Scheduler) (c : Call) (o : Outcome) → Premise d → o ≡ gives d c → Leaves d c o.answer o.scheduler
-leaves_given d c o h e = leaves_of d (gives d c) o (call_premise d c h) (refused_gives d c h) e
-
-pub amended_given : (d : Scheduler) (b : Amendment) (o : Outcome) → Premise d → o ≡ amends d b → LeavesAmended d b o.answer o.scheduler
-amended_given d b o h e = leaves_of d (amends d b) o (amended_premise d b h) (refused_amends d b h) e

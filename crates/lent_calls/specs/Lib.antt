@@ -5,4 +5,3 @@ pub mod ProfileContract
 pub mod IndexContract
 pub mod RestoreContract
 pub mod MigrateContract
-pub mod MixedCalls

@@ -1,6 +1,6 @@
 -- `hingerota_advance` meets its contract: what `advance` gives is left where the desk was lent.
 -- Assumes nothing.
-use Rattle.hingerota.specs.AdvanceContract.{advanced_given}
+use Rattle.hingerota.proofs.AdvanceContract.{advanced_given}
 use Rattle.hingerota.proofs.hingerota_advance.Goals as goal
 
 pub returns : goal.returns

@@ -1,6 +1,6 @@
 -- `hingerota_amend` meets its contract: what `amend` gives is left where the desk was lent.
 -- Assumes nothing.
-use Rattle.hingerota.specs.CallContract.{amended_given}
+use Rattle.hingerota.proofs.CallContract.{amended_given}
 use Rattle.hingerota.proofs.hingerota_amend.Goals as goal
 
 pub returns : goal.returns

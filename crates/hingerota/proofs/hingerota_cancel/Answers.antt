@@ -1,7 +1,7 @@
 -- `hingerota_cancel` meets its contract: what `cancel` gives is left where the desk was lent.
 -- Assumes nothing.
 use Rattle.history.specs.Calls as calls
-use Rattle.hingerota.specs.CallContract.{leaves_given}
+use Rattle.hingerota.proofs.CallContract.{leaves_given}
 use Rattle.hingerota.proofs.hingerota_cancel.Goals as goal
 
 pub returns : goal.returns

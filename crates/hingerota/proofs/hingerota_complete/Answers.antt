@@ -1,7 +1,7 @@
 -- `hingerota_complete` meets its contract: what `complete` gives is left where the desk was lent.
 -- Assumes nothing.
 use Rattle.history.specs.Calls as calls
-use Rattle.hingerota.specs.CallContract.{leaves_given}
+use Rattle.hingerota.proofs.CallContract.{leaves_given}
 use Rattle.hingerota.proofs.hingerota_complete.Goals as goal
 
 pub returns : goal.returns

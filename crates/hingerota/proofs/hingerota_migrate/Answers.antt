@@ -1,6 +1,6 @@
 -- `hingerota_migrate` meets its contract: the desk lent is replaced by what `migrate` makes of it.
 -- Assumes nothing.
-use Rattle.hingerota.specs.MigrateContract.{migrates_given}
+use Rattle.hingerota.proofs.MigrateContract.{migrates_given}
 use Rattle.hingerota.proofs.hingerota_migrate.Goals as goal
 
 pub returns : goal.returns

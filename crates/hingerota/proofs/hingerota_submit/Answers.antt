@@ -2,7 +2,7 @@
 -- Assumes nothing.
 use Rattle.history.specs.Calls as calls
 use Rattle.hingerota.specs.Mirror.{wanted}
-use Rattle.hingerota.specs.CallContract.{leaves_given}
+use Rattle.hingerota.proofs.CallContract.{leaves_given}
 use Rattle.hingerota.proofs.hingerota_submit.Goals as goal
 
 pub returns : goal.returns

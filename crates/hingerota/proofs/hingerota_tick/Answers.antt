@@ -1,7 +1,7 @@
 -- `hingerota_tick` meets its contract: what `tick` gives is left where the desk was lent.
 -- Assumes nothing.
 use Rattle.history.specs.Calls as calls
-use Rattle.hingerota.specs.CallContract.{leaves_given}
+use Rattle.hingerota.proofs.CallContract.{leaves_given}
 use Rattle.hingerota.proofs.hingerota_tick.Goals as goal
 
 pub returns : goal.returns

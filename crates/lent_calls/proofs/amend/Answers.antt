@@ -1,6 +1,6 @@
 -- `lent_calls::amend` meets its contract: what `calls::amend` gives is left where the scheduler was lent.
 -- Assumes nothing.
-use Rattle.lent_calls.specs.CallContract.{amended_given}
+use Rattle.lent_calls.proofs.CallContract.{amended_given}
 use Rattle.lent_calls.proofs.amend.Goals as goal
 
 pub returns : goal.returns

@@ -48,9 +48,12 @@ use Rattle.hingerota.specs.declared.Earliest.{Earliest}
 use Rattle.hingerota.specs.declared.Inquiry.{Inquiry}
 use Rattle.hingerota.specs.declared.Longest.{Longest}
 use Rattle.hingerota.specs.declared.Shown.{Shown}
-use Rattle.hingerota.specs.Mirror.{mirror, mirror_tickets, mirror_answer, read, read_mirror, read_answer_of, read_answer}
-use Rattle.hingerota.specs.DeskPremise.{opens, promise_opening, loose_opening, restores, gives, mirror_handed, opening_longest, amendment_of}
-use Rattle.hingerota.specs.CallContract.{HostLeaves, HostLeavesAmended, leaves_given}
+use Rattle.hingerota.specs.Mirror.{mirror, mirror_tickets, mirror_answer, read, read_answer_of, read_answer}
+use Rattle.hingerota.proofs.ReadBack.{read_mirror}
+use Rattle.hingerota.specs.DeskPremise.{opens, promise_opening, loose_opening, restores, gives, opening_longest, amendment_of}
+use Rattle.hingerota.proofs.DeskPremise.{mirror_handed}
+use Rattle.hingerota.specs.CallContract.{HostLeaves, HostLeavesAmended}
+use Rattle.hingerota.proofs.CallContract.{leaves_given}
 use Rattle.hingerota.specs.AdvanceContract.{HostLeavesAdvanced}
 use Rattle.hingerota.specs.ProfileContract.{HostShowsPoints}
 use Rattle.hingerota.specs.IndexContract.{HostShowsBlocks}

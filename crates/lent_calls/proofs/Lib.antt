@@ -1,0 +1,2 @@
+pub mod CallContract
+pub mod MixedCalls
