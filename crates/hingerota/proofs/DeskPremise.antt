@@ -23,7 +23,6 @@ use Rattle.hingerota.specs.declared.Desk.{Desk}
 use Rattle.hingerota.specs.declared.Amendment.{Amendment}
 use Rattle.hingerota.specs.Mirror.{mirror, read}
 use Rattle.hingerota.proofs.ReadBack.{read_mirror}
-use Rattle.hingerota.proofs.ReadBack.{read_mirror}
 use Rattle.hingerota.specs.DeskPremise.{Handed, opens, restores, gives, amendment_of, amends_on, opening_longest}
 
 pub mirror_handed : (s : Scheduler) → s.settings.longest ≡ longest_estimate → Premise s → Handed (mirror s)
