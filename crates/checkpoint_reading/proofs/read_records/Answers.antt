@@ -33,9 +33,10 @@ loop-at-preserved c =
     let k = c.if-l.true in
     let g = c.read_job-given.ensures in
     elim c.match-given.branch [
-      in-Record+then-count-lt-LIVE w ↦ rw (w.e-is, w.count-is, w.bad-is) (step_record v (omega arith) q k (sym w.in-Record.is ∙ g) w.if-count-lt-LIVE.true)
-    | in-Record+else-count-lt-LIVE w ↦ rw (w.e-is, w.count-is, w.bad-is) (step_full v (omega arith) q k (sym w.in-Record.is ∙ g) w.if-count-lt-LIVE.false)
-    | in-Beyond w ↦ rw (w.e-is, w.count-is, w.bad-is) (step_beyond v (omega arith) q k (sym w.in-Beyond.is ∙ g)) ]
+      | in-Record+then-count-lt-LIVE w ↦ rw (w.e-is, w.count-is, w.bad-is) (step_record v (omega arith) q k (sym w.in-Record.is ∙ g) w.if-count-lt-LIVE.true)
+      | in-Record+else-count-lt-LIVE w ↦ rw (w.e-is, w.count-is, w.bad-is) (step_full v (omega arith) q k (sym w.in-Record.is ∙ g) w.if-count-lt-LIVE.false)
+      | in-Beyond w ↦ rw (w.e-is, w.count-is, w.bad-is) (step_beyond v (omega arith) q k (sym w.in-Beyond.is ∙ g))
+    ]
 
 pub returns-else-l : goal.returns-else-l
 returns-else-l c =
