@@ -33,10 +33,10 @@
  * Of each call:
  *   - It gives exactly what its definition says: answer, desk, points, blocks, page, text and
  *     sentences. A refused call changes nothing: `host_advanced_keeps` in
- *     `crates/hingerota/specs/Chain.antt`, `refused_gives` in
+ *     `crates/hingerota/proofs/Chain.antt`, `refused_gives` in
  *     `crates/lent_calls/specs/CallContract.antt`.
  *   - Openings, readings and calls, refused ones too, hand back a desk that meets the premise:
- *     `opened_handed`, `call_handed` in `crates/hingerota/specs/DeskPremise.antt`.
+ *     `opened_handed`, `call_handed` in `crates/hingerota/proofs/DeskPremise.antt`.
  *
  * Of every list of calls (`demand3` in `crates/guarantees/specs/Proof.antt`):
  *   - A job of a Promise Desk starts no later than its promise.
@@ -60,7 +60,7 @@
  *   - The index agrees with the profile. The search by the index finds the same minute as a search
  *     through every point: `beside_index` in `crates/conservative_kept/specs/Beside.antt`.
  *   - Minutes that pass at once count as so many ticks: `host_advanced_keeps` in
- *     `crates/hingerota/specs/Chain.antt`.
+ *     `crates/hingerota/proofs/Chain.antt`.
  *
  * Of corrected orders (`demand3_with_amendments` in `crates/amend_laws/specs/Steps.antt`):
  *   - An order that is corrected in place has the nodes and the least that were asked last. Its
