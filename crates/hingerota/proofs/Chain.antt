@@ -2,7 +2,7 @@
 -- Document 01: "Each call, taken or refused, gets the desk that the last one handed back, or left where it was lent"; "A profile leaves the
 -- desk as it is, and the points lent to it are no part of the desk"; "a `wait` as its steps or as one refused call".
 -- Assumes nothing.
-use Rattle.std.specs.Prelude.{◌≡◌, refl, false, List, map, ℕ, eqb, length}
+use Rattle.std.specs.Prelude.{◌≡◌, refl, false, List, map, ℕ, length}
 use Rattle.std.proofs.Common.{sym, ap₂, subst, ◌∙◌}
 use Rattle.std.proofs.Math.Path.{ap}
 use Rattle.scheduler.specs.declared.Kind.TheVariants.{Easy}
@@ -10,7 +10,7 @@ use Rattle.scheduler.specs.declared.Settings.{Settings}
 use Rattle.scheduler.specs.declared.Amendment as scheduler-amendment
 use Rattle.scheduler.specs.Limits.{longest_estimate}
 use Rattle.scheduler.specs.Model.{Model, store, view}
-use Rattle.scheduler.specs.Answers.{Reply, accepts, answer, refusing, reply_of, no_tickets}
+use Rattle.scheduler.specs.Answers.{Reply, accepts, answer, refusing, reply_of}
 use Rattle.scheduler.specs.Refusals.{wait_refusal}
 use Rattle.scheduler.specs.Opening.{opened}
 use Rattle.easy_rules.specs.EarliestStart.{earliest_start}
@@ -29,68 +29,27 @@ use Rattle.guarantees.specs.Statement.{book_of, Start, start_of}
 use Rattle.amend_rules.specs.Amending.{amended}
 use Rattle.amend_rules.specs.Steps.{Step, all_steps, replies}
 use Rattle.amend_laws.specs.OneAnswer.{amended_back}
-use Rattle.amend_laws.specs.Steps.{said_from, MadeStep, steps_keep, steps_around}
-use Rattle.advance_rules.specs.Advance.{advance_calls, advance_answers}
+use Rattle.amend_laws.specs.Steps.{said_from, steps_keep, steps_around}
 use Rattle.advancing.specs.Counting.{MadeOnward, advance_made, counted}
 use Rattle.calls.specs.ListCall.{list_refusal}
 use Rattle.calls.specs.ProfileCall.{points_of}
 use Rattle.calls.specs.IndexCall.{blocks_of}
 use Rattle.calls.specs.LongestCall.{longest_of}
 use Rattle.checkpoint_laws.specs.Restored.{restored_lined}
-use Rattle.hingerota.specs.declared.Opening as host-opening
 use Rattle.hingerota.specs.declared.Desk.{Desk}
-use Rattle.hingerota.specs.declared.Amendment.{Amendment}
 use Rattle.hingerota.specs.declared.Answer.{Answer}
-use Rattle.hingerota.specs.declared.Advanced.{Advanced}
-use Rattle.hingerota.specs.declared.Point.{Point}
-use Rattle.hingerota.specs.declared.Block.{Block}
 use Rattle.hingerota.specs.declared.Earliest.{Earliest}
-use Rattle.hingerota.specs.declared.Inquiry.{Inquiry}
 use Rattle.hingerota.specs.declared.Longest.{Longest}
 use Rattle.hingerota.specs.declared.Shown.{Shown}
-use Rattle.hingerota.specs.Mirror.{mirror, mirror_tickets, mirror_answer, read, read_answer_of, read_answer}
+use Rattle.hingerota.specs.Mirror.{mirror, mirror_answer, read, read_answer}
 use Rattle.hingerota.proofs.ReadBack.{read_mirror}
-use Rattle.hingerota.specs.DeskPremise.{opens, promise_opening, loose_opening, restores, gives, opening_longest, amendment_of}
+use Rattle.hingerota.specs.DeskPremise.{promise_opening, loose_opening, gives, opening_longest}
 use Rattle.hingerota.proofs.DeskPremise.{mirror_handed}
-use Rattle.hingerota.specs.CallContract.{HostLeaves, HostLeavesAmended}
 use Rattle.hingerota.proofs.CallContract.{leaves_given}
-use Rattle.hingerota.specs.AdvanceContract.{HostLeavesAdvanced}
-use Rattle.hingerota.specs.ProfileContract.{HostShowsPoints}
-use Rattle.hingerota.specs.IndexContract.{HostShowsBlocks}
-use Rattle.hingerota.specs.EarliestContract.{earliest_on}
-use Rattle.hingerota.specs.LongestContract.{asked_by, longest_on}
-use Rattle.hingerota.specs.TextContract.{HostShowsBytes}
+use Rattle.hingerota.specs.LongestContract.{asked_by}
 use Rattle.hingerota.specs.MigrateContract.{migrated_desk, HostMigrates}
-use Rattle.hingerota.specs.Waits.{wait_refusal_on, wait_number}
-
--- the reply that an answer in numbers says
-abbrev pub host_reply : Answer → Reply
-host_reply a = reply_of (read_answer_of a)
-
--- the answer that has this refusal and nothing else
-abbrev pub refused_by : ℕ → Answer
-refused_by n = record { refusal = n; ticket = 0; promise = 0; reads = 0; head = 0; forecast = 0; ended = mirror_tickets no_tickets; started = mirror_tickets no_tickets }
-
--- a call on the lent desk d, made as its contract says: what it answers, and the desk after it
-pub data HostMade (d : Desk) : Call → Answer → Desk → Type 0 where
-  on_lent : {c : Call} {a : Answer} {e : Desk} → HostLeaves d c a e → HostMade d c a e
-  -- a profile counts as a call that leaves the desk as it is, by the refusal that it answers
-  profile_on_lent : {lent after : List Point} {s : Shown} → HostShowsPoints d lent s after
-      → HostMade d (unchanged (list_refusal points_of (view (read d)) (length lent))) (refused_by s.refusal) d
-  -- and so does the index
-  index_on_lent : {lent after : List Block} {s : Shown} → HostShowsBlocks d lent s after
-      → HostMade d (unchanged (list_refusal blocks_of (view (read d)) (length lent))) (refused_by s.refusal) d
-  -- and the question for an earliest start
-  earliest_asked : {e : Earliest} (ticket : ℕ) → e ≡ earliest_on d ticket
-      → HostMade d (unchanged (earliest_start (view (read d)) ticket).refusal) (refused_by e.refusal) d
-  -- and that for a longest estimate
-  longest_asked : {l : Longest} (q : Inquiry) → l ≡ longest_on d q
-      → HostMade d (unchanged (longest_of (view (read d)) (asked_by q)).refusal) (refused_by l.refusal) d
-  -- and a call for a text: the status page (`HostShowsPage`), the lines (`HostShowsText`) or why jobs wait (`HostShowsWhy` in `TextContract.antt`)
-  text_on_lent : {text : Model → List ℕ} {lent after : List ℕ} {s : Shown} → HostShowsBytes text d lent s after
-      → HostMade d (unchanged (list_refusal text (view (read d)) (length lent))) (refused_by s.refusal) d
-  -- and a wait that is refused; one that is not refused is as many ticks
-  wait_refused : {n : ℕ} (minutes : ℕ) → n ≡ wait_number d minutes → eqb n 0 ≡ false → HostMade d (unchanged (wait_refusal_on d minutes)) (refused_by n) d
+use Rattle.hingerota.specs.Waits.{wait_refusal_on}
+use Rattle.hingerota.specs.Chain.{host_reply, refused_by, HostMade, profile_on_lent, index_on_lent, earliest_asked, longest_asked, text_on_lent, wait_refused, HostStart, opens_promise, opens_loose, restores_text, changes_desk, start_by, desk_by, HostAmended, HostMadeStep, HostAdvances, on_lent}
 
 -- where d mirrors a valid model, stored: each call leaves and answers what its definition gives
 module _ (m : Model) (v : Valid m) (w : m.settings.longest ≡ longest_estimate) where
@@ -116,27 +75,6 @@ module _ (m : Model) (v : Valid m) (w : m.settings.longest ≡ longest_estimate)
   made_is (text_on_lent {text} {lent} {after} {s} w) =
       rw (unchanged_refuses m (list_refusal text (view (read (mirror (store m)))) (length lent))) (refl, ap (λ (x : Shown). refused_by x.refusal) w.answers)
   made_is (wait_refused {n} minutes e q) = rw (unchanged_refuses m (wait_refusal_on (mirror (store m)) minutes)) (refl, ap refused_by e)
-
--- how a host comes by the desk that a list of calls starts with: `hingerota_open_promise`, `hingerota_open_loose` or `hingerota_restore`, a refused
--- one too; or `hingerota_migrate` after the calls of a list with another start (`migrated_starts`)
-pub data HostStart : Type 0 where
-  opens_promise : host-opening.Opening → HostStart
-  opens_loose : host-opening.Opening → HostStart
-  restores_text : (text : List ℕ) → HostStart
-  changes_desk : HostStart → (before : List Call) → HostStart
-
-abbrev pub start_by : HostStart → Start
-start_by (opens_promise o) = start.opens (promise_opening o)
-start_by (opens_loose o) = start.opens (loose_opening o)
-start_by (restores_text t) = start.reads t
-start_by (changes_desk s cs) = start.changes (start_by s) cs
-
--- the desk that it hands back
-abbrev pub desk_by : HostStart → Desk
-desk_by (opens_promise o) = (opens (promise_opening o)).desk
-desk_by (opens_loose o) = (opens (loose_opening o)).desk
-desk_by (restores_text t) = (restores t).desk
-desk_by (changes_desk s cs) = mirror (store (changed (after call (start_of (start_by s)) cs)))
 
 desk_is : (s : HostStart) → desk_by s ≡ mirror (store (start_of (start_by s)))
 unfolding opened
@@ -192,10 +130,6 @@ host_around s cs ds xs ys d e f k l q l' =
 
 -- ## Corrected orders (document 02, No. 13)
 
--- the order b given to the desk d, lent: what it was answered, and the desk after it
-abbrev pub HostAmended : Desk → scheduler-amendment.Amendment → Answer → Desk → Type 0
-HostAmended d b a e = (x : Amendment) × (b ≡ amendment_of x) × HostLeavesAmended d x a e
-
 host_amended_is : (m : Model) → Valid m → m.settings.longest ≡ longest_estimate → (b : scheduler-amendment.Amendment) (a : Answer) (e : Desk)
     → HostAmended (mirror (store m)) b a e
     → (e ≡ mirror (store (amended call m b).model)) × (a ≡ mirror_answer (answer (amended call m b).reply))
@@ -207,10 +141,6 @@ host_amended_is m v w b a e (x, q, l) = (
 amended_said : (m : Model) (b : scheduler-amendment.Amendment) → Valid m
     → host_reply (mirror_answer (answer (amended call m b).reply)) ≡ (amended call m b).reply
 amended_said m b v = ap reply_of (read_answer (answer (amended call m b).reply)) ∙ amended_back m b v
-
--- a call or a corrected order of a host, as it was made
-abbrev pub HostMadeStep : Desk → Step → Answer → Desk → Type 0
-HostMadeStep = MadeStep HostMade HostAmended
 
 -- Lists with corrected orders among the calls: desk and answers are those of the calls that these count as, and the book of what was asked and of the
 -- answers received has the guarantees
@@ -238,11 +168,6 @@ host_amended_around s qs ps xs ys d e f k l q l' =
     (subst (λ (x : Desk). MadeAll HostMadeStep x ps ys f) (q.leaves ∙ migrated_starts s cs d (host_amended_keeps s qs xs d l).0) l')
 
 -- ## Minutes that pass at once
-
--- so many minutes on the desk d, lent: the calls that they count as, by how many have passed, the answers to these, and the desk after them
-pub data HostAdvances (d : Desk) : List Call → List Answer → Desk → Type 0 where
-  on_lent : (n : ℕ) {a : Advanced} {e : Desk} → HostLeavesAdvanced d n a e
-      → HostAdvances d (advance_calls a.minutes (wait_refusal_on d n)) (advance_answers (refused_by 0) a.minutes a.answer) e
 
 tick_made : (m : Model) → Valid m → m.settings.longest ≡ longest_estimate
     → HostMade (mirror (store m)) tick (mirror_answer (answer (call m tick).reply)) (mirror (store (call m tick).model))

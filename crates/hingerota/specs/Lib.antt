@@ -12,3 +12,4 @@ pub mod LongestContract
 pub mod TextContract
 pub mod RestoreContract
 pub mod MigrateContract
+pub mod Chain

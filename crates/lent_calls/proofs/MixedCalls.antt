@@ -5,15 +5,13 @@
 -- Assumes nothing.
 use Rattle.std.specs.Prelude.{◌≡◌, refl, false, List, map, ℕ}
 use Rattle.std.proofs.Common.{sym, ap, subst, ◌∙◌}
-use Rattle.spans.specs.declared.Point.{Point}
 use Rattle.scheduler.specs.declared.Amendment.{Amendment}
 use Rattle.scheduler.specs.declared.Answer.{Answer}
 use Rattle.scheduler.specs.declared.Outcome.{Outcome}
 use Rattle.scheduler.specs.declared.Refusal.{Refusal}
-use Rattle.scheduler.specs.declared.Refusal.TheVariants as refusal
 use Rattle.scheduler.specs.declared.Kind.TheVariants.{Easy}
 use Rattle.scheduler.specs.declared.Scheduler.{Scheduler}
-use Rattle.scheduler.specs.Model.{Model, store, view}
+use Rattle.scheduler.specs.Model.{Model, store}
 use Rattle.scheduler.specs.Answers.{accepts, answer, reply_of, outcome, refused_answer}
 use Rattle.scheduler.specs.Refusals.{wait_refusal}
 use Rattle.scheduler.specs.Opening.{opened}
@@ -25,58 +23,15 @@ use Rattle.guarantees.specs.Proof.{start_valid}
 use Rattle.guarantees.specs.Migration.{AroundChange}
 use Rattle.migration_rules.specs.Migration.{changed}
 use Rattle.guarantees.specs.Replies.{reply_back}
-use Rattle.guarantees.specs.Chain.{gives, answer_of, MadeAll, unchanged_refuses, made_keeps, made_around}
+use Rattle.guarantees.specs.Chain.{answer_of, MadeAll, unchanged_refuses, made_keeps, made_around}
 use Rattle.guarantees.specs.Statement.{book_of, Start, opens, reads, changes, start_of}
-use Rattle.restoring.specs.Restoring.{restoring}
-use Rattle.calls.specs.declared.Shown.{Shown}
-use Rattle.calls.specs.declared.ProfileOutcome.{ProfileOutcome}
-use Rattle.calls.specs.ProfileCall.{profile_outcome}
-use Rattle.calls.specs.declared.IndexOutcome.{IndexOutcome}
-use Rattle.calls.specs.IndexCall.{index_outcome}
-use Rattle.spans.specs.declared.Block.{Block}
-use Rattle.scheduler.specs.declared.Earliest.{Earliest}
-use Rattle.easy_rules.specs.EarliestStart.{earliest_start}
-use Rattle.scheduler.specs.declared.Inquiry.{Inquiry}
-use Rattle.scheduler.specs.declared.Longest.{Longest}
-use Rattle.calls.specs.LongestCall.{longest_of}
-use Rattle.calls.specs.ListCall.{Shows}
 use Rattle.calls.specs.MigrateCall.{migrating}
 use Rattle.amend_rules.specs.Amending.{amended}
 use Rattle.amend_rules.specs.Steps.{Step, all_steps, replies}
 use Rattle.amend_laws.specs.OneAnswer.{amended_back}
-use Rattle.amend_laws.specs.Steps.{said_from, MadeStep, steps_keep, steps_around}
-use Rattle.calls.specs.AmendCall.{amends}
-use Rattle.advance_rules.specs.Advance.{advance_calls, advance_answers}
-use Rattle.advancing.specs.declared.Advanced.{Advanced}
-use Rattle.advancing.specs.declared.AdvanceOutcome.{AdvanceOutcome}
-use Rattle.advancing.specs.Advances.{advances}
+use Rattle.amend_laws.specs.Steps.{said_from, steps_keep, steps_around}
 use Rattle.advancing.specs.Counting.{MadeOnward, advance_made, counted}
-use Rattle.lent_calls.specs.CallContract.{Leaves, LeavesAmended}
-use Rattle.lent_calls.specs.AdvanceContract.{LeavesAdvanced}
-use Rattle.lent_calls.specs.ProfileContract.{ShowsPoints}
-use Rattle.lent_calls.specs.IndexContract.{ShowsBlocks}
-
--- a call on d, made as its contract says, by value or on what is lent: what it answers, and the scheduler after it
-pub data Made (d : Scheduler) : Call → Answer → Scheduler → Type 0 where
-  by_value : {c : Call} {o : Outcome} → o ≡ gives d c → Made d c o.answer o.scheduler
-  on_lent : {c : Call} {a : Answer} {e : Scheduler} → Leaves d c a e → Made d c a e
-  -- a profile counts as a call that leaves the scheduler as it is, by the refusal that it answers
-  profile_by_value : (room : ℕ) {p : ProfileOutcome} → p ≡ profile_outcome (view d) room
-      → Made d (unchanged p.answer.refusal) (refused_answer p.answer.refusal) d
-  profile_on_lent : {lent after : List Point} {s : Shown} → ShowsPoints d lent s after → Made d (unchanged s.refusal) (refused_answer s.refusal) d
-  -- and so does the index
-  index_by_value : (room : ℕ) {p : IndexOutcome} → p ≡ index_outcome (view d) room
-      → Made d (unchanged p.answer.refusal) (refused_answer p.answer.refusal) d
-  index_on_lent : {lent after : List Block} {s : Shown} → ShowsBlocks d lent s after → Made d (unchanged s.refusal) (refused_answer s.refusal) d
-  -- and the question for an earliest start, by value or on what is lent
-  earliest_asked : {e : Earliest} (ticket : ℕ) → e ≡ earliest_start (view d) ticket → Made d (unchanged e.refusal) (refused_answer e.refusal) d
-  -- and that for a longest estimate
-  longest_asked : {l : Longest} (q : Inquiry) → l ≡ longest_of (view d) q → Made d (unchanged l.refusal) (refused_answer l.refusal) d
-  -- and a call for a text, by value or on what is lent: the status page (`ShowsPage`), the lines (`ShowsText`) or why jobs wait (`ShowsWhy` in `calls/specs/TextCall.antt`)
-  text_shown : {text : Model → List ℕ} {lent after : List ℕ} {s : Shown} → Shows text d lent s after
-      → Made d (unchanged s.refusal) (refused_answer s.refusal) d
-  -- and a wait that is refused; one that is not refused is as many ticks
-  wait_refused : {r : Refusal} (minutes : ℕ) → r ≡ wait_refusal (view d) minutes → accepts r ≡ false → Made d (unchanged r) (refused_answer r) d
+use Rattle.lent_calls.specs.MixedCalls.{Made, by_value, on_lent, profile_by_value, profile_on_lent, index_by_value, index_on_lent, earliest_asked, longest_asked, text_shown, wait_refused, started, Amended, MadeMixed, Advances}
 
 -- where d is a valid model, stored: each call leaves and answers what its definition gives
 module _ (m : Model) (v : Valid m) where
@@ -99,13 +54,6 @@ module _ (m : Model) (v : Valid m) where
   made_is (longest_asked {l} q e) = unchanged_is l.refusal
   made_is (text_shown {text} {lent} {after} {s} w) = unchanged_is s.refusal
   made_is (wait_refused {r} minutes e n) = unchanged_is r
-
--- the scheduler that a list of calls starts with: the one that `Scheduler::open` or `calls::restore` hands back, or `restore` leaves, a refused one too;
--- or the one that `migrate` hands back or leaves after the calls before (`migrated_starts`)
-abbrev pub started : Start → Scheduler
-started (opens o) = (opened o).scheduler
-started (reads t) = (restoring t).scheduler
-started (changes s cs) = store (changed (after call (start_of s) cs))
 
 started_is : (s : Start) → started s ≡ store (start_of s)
 unfolding opened
@@ -143,11 +91,6 @@ mixed_around s cs ds xs ys d e f k l q l' =
 
 -- ## Corrected orders (document 02, No. 13)
 
--- the order b given to d, by value or on what is lent: what it was answered, and the scheduler after it
-pub data Amended (d : Scheduler) (b : Amendment) : Answer → Scheduler → Type 0 where
-  by_value : {o : Outcome} → o ≡ amends d b → Amended d b o.answer o.scheduler
-  on_lent : {a : Answer} {e : Scheduler} → LeavesAmended d b a e → Amended d b a e
-
 amended_is : (m : Model) → Valid m → {b : Amendment} {a : Answer} {e : Scheduler} → Amended (store m) b a e
     → (e ≡ store (amended call m b).model) × (a ≡ answer (amended call m b).reply)
 amended_is m v {b} (by_value q) = let p = q ∙ ap (λ (x : Model). outcome (amended call x b)) (valid_view m v) in
@@ -156,10 +99,6 @@ amended_is m v {b} (on_lent l) = (
   l.leaves ∙ ap (λ (x : Model). store (amended call x b).model) (valid_view m v),
   l.answers ∙ ap (λ (x : Model). answer (amended call x b).reply) (valid_view m v),
 )
-
--- a call or a corrected order, as it was made
-abbrev pub MadeMixed : Scheduler → Step → Answer → Scheduler → Type 0
-MadeMixed = MadeStep Made Amended
 
 -- Lists with corrected orders among the calls: scheduler and answers are those of the calls that these count as, and the book of what was asked and of
 -- the answers received has the guarantees
@@ -183,15 +122,6 @@ amended_around s qs ps xs ys d e f k l q l' =
     (subst (λ (x : Scheduler). MadeAll MadeMixed x ps ys f) (q ∙ migrated_starts s cs d (amended_keeps s qs xs d l).0) l')
 
 -- ## Minutes that pass at once
-
--- so many minutes on d, by value or on what is lent: the calls that they count as, by how many have passed, the answers to these, and the scheduler after
--- them
-pub data Advances (d : Scheduler) : List Call → List Answer → Scheduler → Type 0 where
-  by_value : (n : ℕ) {o : AdvanceOutcome} → o ≡ advances d n
-      → Advances d (advance_calls o.answer.minutes (wait_refusal (view d) n)) (advance_answers (refused_answer refusal.None) o.answer.minutes o.answer.answer)
-      o.scheduler
-  on_lent : (n : ℕ) {a : Advanced} {e : Scheduler} → LeavesAdvanced d n a e
-      → Advances d (advance_calls a.minutes (wait_refusal (view d) n)) (advance_answers (refused_answer refusal.None) a.minutes a.answer) e
 
 tick_made : (m : Model) → Valid m → Made (store m) tick (answer (call m tick).reply) (store (call m tick).model)
 tick_made m v = by_value (ap (λ (x : Model). outcome (call x tick)) (sym (valid_view m v)))

@@ -5,3 +5,4 @@ pub mod ProfileContract
 pub mod IndexContract
 pub mod RestoreContract
 pub mod MigrateContract
+pub mod MixedCalls
