@@ -1,12 +1,11 @@
 -- Calls may be made on the model of any text that is read. A refused reading hands back an empty one.
 -- Assumes nothing.
-use Rattle.std.specs.Prelude.{ℕ, ◌≤◌, ◌≡◌, refl, Bool, true, false, cond, not, ◌&&◌, List, [], ◌∷◌, eqb, length}
+use Rattle.std.specs.Prelude.{ℕ, ◌≤◌, ◌≡◌, refl, Bool, true, false, cond, not, ◌&&◌, List, [], ◌∷◌, eqb, length, Some, None}
 use Rattle.std.proofs.Common.{arith, subst}
 use Rattle.std.proofs.Math.Option.{Option, none, some}
 use Rattle.lists.specs.Tests.{case}
 use Rattle.lists.specs.Lists.{All}
-use Rattle.text.specs.declared.Parsed.{Parsed}
-use Rattle.text.specs.declared.Parsed.TheVariants.{Is, Not}
+use Rattle.std.specs.declared.option.Option as rust
 use Rattle.text.specs.Fields.{fields_of, field_of}
 use Rattle.text.specs.Words.{is_word}
 use Rattle.scheduler.specs.declared.Kind.{Kind}
@@ -45,9 +44,9 @@ module _ {A : Type 0} (P : A → Type 0) where
   only_if true o p = p
   only_if false o p = is_none
 
-  only_number : (n : Parsed) (f : ℕ → Option A) → ((v : ℕ) → Only P (f v)) → Only P (with_number n f)
-  only_number (Is v) f g = g v
-  only_number Not f g = is_none
+  only_number : (n : rust.Option ℕ) (f : ℕ → Option A) → ((v : ℕ) → Only P (f v)) → Only P (with_number n f)
+  only_number (Some v) f g = g v
+  only_number None f g = is_none
 
   only_state : (s : Option State) (f : State → Option A) → Only (λ (x : State). live? x ≡ true) s → ((x : State) → live? x ≡ true → Only P (f x))
       → Only P (with_state s f)

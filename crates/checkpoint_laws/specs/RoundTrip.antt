@@ -1,6 +1,6 @@
 -- Document 02, No. 11: a desk that is written out "is accepted from its own lines and comes back the same"; so no two desks have the same lines.
 -- Assumes nothing.
-use Rattle.std.specs.Prelude.{ℕ, suc, ◌+◌, ◌≤◌, ◌<◌, ◌≡◌, Bool, true, false, cond, ◌&&◌, eqb, ltb, length, get_or}
+use Rattle.std.specs.Prelude.{ℕ, suc, ◌+◌, ◌≤◌, ◌<◌, ◌≡◌, Bool, true, false, cond, ◌&&◌, eqb, ltb, length, get_or, Some, None}
 use Rattle.std.proofs.Common.{arith, sym, ap₂, subst, ◌∙◌, ne_eqb, ltb-true}
 use Rattle.std.proofs.Math.Path.{refl, ap}
 use mathlib.Core.List.{List, [], ◌∷◌, ◌++◌, map, flat_map, append-nil, append_assoc}
@@ -8,8 +8,7 @@ use Rattle.std.proofs.Math.Option.{Option, none, some}
 use Rattle.lists.specs.Tests.{true_false, both}
 use Rattle.lists.specs.Every.{every, every_in}
 use Rattle.lists.specs.Lists.{All, In, here, there, all_in, all_of, all_append}
-use Rattle.text.specs.declared.Parsed.{Parsed}
-use Rattle.text.specs.declared.Parsed.TheVariants.{Is, Not}
+use Rattle.std.specs.declared.option.Option as rust
 use Rattle.text.specs.Fields.{in_first, fields_of, field_of}
 use Rattle.text.specs.Numbers.{number_of, decimal_of}
 use Rattle.text.specs.NumberLaws.{decimal_digits, number_decimal}
@@ -127,7 +126,7 @@ letter_plain Nobody k = true_false false k refl
 letter_plain A k = omega arith
 letter_plain B k = omega arith
 
-letter_back : (t : Tenant) → known t ≡ true → (capital_of (letter_of t ∷ []) ≡ Is (letter_of t)) × (tenant_of (letter_of t) ≡ t)
+letter_back : (t : Tenant) → known t ≡ true → (capital_of (letter_of t ∷ []) ≡ Some (letter_of t)) × (tenant_of (letter_of t) ≡ t)
 unfolding capital_of
 letter_back Nobody k = true_false false k refl
 letter_back A k = (refl, refl)

@@ -4,7 +4,7 @@ use Rattle.std.specs.Prelude.{◌≡◌, Bool, cond, ◌||◌, List, [], ◌∷�
 use Rattle.std.proofs.Common.{◌∙◌, arith}
 use Rattle.std.proofs.Math.Option.{Option, none, some}
 use Rattle.lists.specs.Tests.{case}
-use Rattle.text.specs.declared.Parsed.{Parsed}
+use Rattle.std.specs.declared.option.Option as rust
 use Rattle.text.specs.declared.Numbers.{Numbers}
 use Rattle.text.specs.Numbers.{numbers_from}
 use Rattle.text.specs.Fields.{fields_of, field_of}
@@ -60,12 +60,12 @@ record_of_for a s b house k = record {
   forecast = get_or k 3 0;
 }
 
-unfoldable pub record_from : Numbers → State → Numbers → Parsed → Numbers → Option Job
+unfoldable pub record_from : Numbers → State → Numbers → rust.Option ℕ → Numbers → Option Job
 record_from first state times house kept =
     when_read 3 first (λ a. on_state state (λ s. when_read 3 times (λ b. with_number house (λ h. when_read 4 kept (λ k. some (record_of_for a s b h k))))))
 
 -- what is read of a line of twelve fields is what it says
-pub record_said : (s : List ℕ) {first times kept : Numbers} {state : State} {house : Parsed} → first ≡ numbers_from s 0 → state ≡ state_from (state_of (field_of s 3))
+pub record_said : (s : List ℕ) {first times kept : Numbers} {state : State} {house : rust.Option ℕ} → first ≡ numbers_from s 0 → state ≡ state_from (state_of (field_of s 3))
     → times ≡ numbers_from s 4 → house ≡ letter_at s 7 → kept ≡ numbers_from s 8 → length (fields_of s) ≡ 12
     → record_from first state times house kept ≡ job_in s
 unfolding record_from job_in

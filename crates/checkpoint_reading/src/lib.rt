@@ -11,7 +11,7 @@ ghost use Rattle.checkpoint_reading.specs.Meaning.{state_from, beyond, given_by,
 ghost use Rattle.checkpoint_reading.specs.RecordLoop.{Told};
 
 use scheduler::{Job, Scheduler, State, Tenant};
-use text::{Numbers, Parsed};
+use text::Numbers;
 
 // What a line gives: a record; a record with numbers out of range, which may not fit their fields; or nothing, since the line lacks the form.
 #[derive(Clone, Copy)]
@@ -62,7 +62,7 @@ fn is_beyond(nodes: u32, estimate: u32, least: u32) -> bool
 }
 
 // The record of these numbers, state and house.
-fn record(first: Numbers, state: State, times: Numbers, house: Parsed, kept: Numbers) -> Given
+fn record(first: Numbers, state: State, times: Numbers, house: Option<u32>, kept: Numbers) -> Given
     ensures { result ≡ given_by (record_from first state times house kept) }
 {
     if first.count < 3 {
@@ -72,7 +72,7 @@ fn record(first: Numbers, state: State, times: Numbers, house: Parsed, kept: Num
         if times.count < 3 {
             return Given::Malformed;
         }
-        let Parsed::Is(letter) = house else {
+        let Some(letter) = house else {
             return Given::Malformed;
         };
         if kept.count < 4 {

@@ -2,10 +2,9 @@
 -- "fields parted by one tab"; document 02, No. 4: "the `desk` line always has the clearing, then the places of A and of B"; No. 11: in a desk's
 -- text, "the `desk` line with clock and next ticket".
 -- Assumes nothing.
-use Rattle.std.specs.Prelude.{Bool, true, false, cond, ◌&&◌, List, [], ◌∷◌, ℕ, eqb, length}
+use Rattle.std.specs.Prelude.{Bool, true, false, cond, ◌&&◌, List, [], ◌∷◌, ℕ, eqb, length, Some, None}
 use Rattle.std.proofs.Math.Option.{Option, none, some}
-use Rattle.text.specs.declared.Parsed.{Parsed}
-use Rattle.text.specs.declared.Parsed.TheVariants.{Is, Not}
+use Rattle.std.specs.declared.option.Option as rust
 use Rattle.text.specs.Fields.{fields_of, field_of}
 use Rattle.text.specs.Numbers.{number_of}
 use Rattle.text.specs.Letters.{capital_of}
@@ -26,11 +25,11 @@ abbrev pub loose_word : List ℕ
 loose_word = 108 ∷ 111 ∷ 111 ∷ 115 ∷ 101 ∷ []
 
 -- the field k as a number
-abbrev pub number_at : List ℕ → ℕ → Parsed
+abbrev pub number_at : List ℕ → ℕ → rust.Option ℕ
 number_at s k = number_of (field_of s k)
 
 -- and as a capital letter
-abbrev pub letter_at : List ℕ → ℕ → Parsed
+abbrev pub letter_at : List ℕ → ℕ → rust.Option ℕ
 letter_at s k = capital_of (field_of s k)
 
 -- n fields, the first of them the word w
@@ -38,9 +37,9 @@ unfoldable pub has_form : List ℕ → ℕ → List ℕ → Bool
 has_form s n w = eqb (length (fields_of s)) n && is_word w (field_of s 0)
 
 -- numbers, all of them read
-abbrev pub with_number : {A : Type 0} → Parsed → (ℕ → Option A) → Option A
-with_number (Is v) f = f v
-with_number Not f = none
+abbrev pub with_number : {A : Type 0} → rust.Option ℕ → (ℕ → Option A) → Option A
+with_number (Some v) f = f v
+with_number None f = none
 
 unfoldable pub kind_of : List ℕ → Option Kind
 kind_of s = cond (is_word promise_word s) (some Conservative) (cond (is_word loose_word s) (some Easy) none)

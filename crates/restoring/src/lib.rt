@@ -9,8 +9,7 @@ ghost use Rattle.checkpoint_reading.specs.Records.{records_from};
 ghost use Rattle.restoring.specs.Restoring.{handed_back, restoring, Judged};
 
 use checkpoint_reading::{Lines, Records};
-use scheduler::{Kind, Opened, Refusal, Scheduler, Settings};
-use script_reading::FirstLine;
+use scheduler::{Kind, Opened, Opening, Refusal, Scheduler, Settings};
 
 // What a refused reading hands back: why it is refused, and an empty scheduler of the conservative kind, as a refused opening does.
 fn refused(why: Refusal) -> Opened
@@ -44,17 +43,17 @@ fn judge(records: Records) -> Opened
 }
 
 // What the records from a place on give, after the first line.
-fn restore_after(first: FirstLine, text: &[u8], from: usize) -> Opened
+fn restore_after(first: Option<Opening>, text: &[u8], from: usize) -> Opened
     requires { from ≤ length text.now }
     ensures { result ≡ handed_back (restored_from (both model_with (opens first) (records_from text.now from))) }
 {
     match first {
-        FirstLine::Opens(o) => {
+        Some(o) => {
             let settings = o.settings;
             let d = Scheduler::empty(settings, o.minute, o.ticket);
             judge(checkpoint_reading::read_records(text, from, d))
         }
-        FirstLine::Malformed => refused(Refusal::TextMalformed),
+        None => refused(Refusal::TextMalformed),
     }
 }
 

@@ -1,6 +1,6 @@
 -- What a turn of a script that is being played leaves: the lines in the page are those of the piece that the definitions give.
 -- Assumes nothing.
-use Rattle.std.specs.Prelude.{◌≡◌, true, false, List, [], ℕ, ◌≤◌}
+use Rattle.std.specs.Prelude.{◌≡◌, true, false, List, [], ℕ, ◌≤◌, Some, None}
 use Rattle.std.proofs.Common.{sym, ◌∙◌}
 use Rattle.std.proofs.Math.Path.{ap, subst}
 use Rattle.std.proofs.Math.Option.{some}
@@ -26,8 +26,7 @@ use Rattle.script_reading.specs.declared.Asked.TheVariants as later
 use Rattle.script_reading.specs.Meaning.{asks}
 use Rattle.script_play.specs.declared.Play.{Play}
 use Rattle.script_play.specs.Pieces.{over, going, call_piece, command_piece, piece_of}
-use Rattle.script_turns.specs.declared.Turn.{Turn}
-use Rattle.script_turns.specs.declared.Turn.TheVariants as turn
+use Rattle.std.specs.declared.option.Option as rust
 use Rattle.script_turns.specs.declared.Next.{Next}
 use Rattle.script_turns.specs.NextTurn.{turn_piece, Comes}
 
@@ -53,15 +52,15 @@ module _ (s : List ℕ) (at steps : ℕ) (d : Scheduler) (n : Next) (comes : Com
   abbrev here : Piece Play
   here = piece_of s (going at steps d)
 
-  known : (t : Turn) → n.turn ≡ t → turn_piece t n.at n.steps d ≡ here
-  known t e = ap (λ (x : Turn). turn_piece x n.at n.steps d) (sym e) ∙ comes.piece_is d
+  known : (t : rust.Option Asked) → n.turn ≡ t → turn_piece t n.at n.steps d ≡ here
+  known t e = ap (λ (x : rust.Option Asked). turn_piece x n.at n.steps d) (sym e) ∙ comes.piece_is d
 
-  pub over_turned : (page : List ℕ) (out : ℕ) → n.turn ≡ turn.Over → Turned page_bytes here page out page out (over (going n.at n.steps d))
-  over_turned page out e = turned_as (known turn.Over e) (turned_none _ page out _)
+  pub over_turned : (page : List ℕ) (out : ℕ) → n.turn ≡ None → Turned page_bytes here page out page out (over (going n.at n.steps d))
+  over_turned page out e = turned_as (known None e) (turned_none _ page out _)
 
-  module _ (a : Asked) (e : n.turn ≡ turn.Asks a) where
+  module _ (a : Asked) (e : n.turn ≡ Some a) where
     asked_piece : (b : Asked) → a ≡ b → command_piece n.at n.steps d (asks b) ≡ here
-    asked_piece b f = known (turn.Asks b) (e ∙ ap turn.Asks f)
+    asked_piece b f = known (Some b) (e ∙ ap Some f)
 
     pub call_turned : {page after : List ℕ} {out end : ℕ} (q : Request) → a ≡ later.Call q → (o : Outcome) → o ≡ outcome (call (view d) (asked q))
         → Wrote page_bytes page out (answer_text d.settings.kind o.scheduler.clock o.answer) after end

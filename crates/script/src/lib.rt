@@ -13,7 +13,6 @@ ghost use Rattle.script_play.proofs.Progress.{script_player};
 use scheduler::{Kind, Opening, Refusal, Scheduler, Settings};
 use script_play::{Play, Played, Stage};
 use script_reading::Asked;
-use script_turns::Turn;
 
 // Plays turn after turn, while the page has room for the longest answer. Whatever changes is a local of this one loop, which calls in one place: a
 // call by value copies the scheduler, and a turn that makes no call does not.
@@ -63,7 +62,7 @@ fn later(p: Play, script: &[u8], page: &mut [u8]) -> Played
         steps = next.steps;
         let turn = next.turn;
         match turn {
-            Turn::Asks(asked) => match asked {
+            Some(asked) => match asked {
                 Asked::Call(request) => {
                     let settings = d.settings;
                     let kind = settings.kind;
@@ -97,7 +96,7 @@ fn later(p: Play, script: &[u8], page: &mut [u8]) -> Played
                     continue;
                 }
             },
-            Turn::Over => {
+            None => {
                 return Played {
                     end: end,
                     play: Play {

@@ -2,12 +2,11 @@
 -- Assumes nothing.
 use Rattle.std.proofs.Math.Path.{◌≡◌, refl, sym}
 use Rattle.std.proofs.Common.{◌∙◌, arith}
-use Rattle.std.specs.Prelude.{Bool, true, false, cond, ◌&&◌, ℕ, suc, ◌≤◌, eqb, length, get_or}
+use Rattle.std.specs.Prelude.{Bool, true, false, cond, ◌&&◌, ℕ, suc, ◌≤◌, eqb, length, get_or, Some, None}
 use mathlib.Core.List.{List, [], ◌∷◌}
 use Rattle.std.proofs.Math.Option.{Option, none, some}
 use borrow.Author.Tests.{ne_eqb}
 use Rattle.lists.specs.Tests.{and_right_false}
-use Rattle.text.specs.declared.Parsed.TheVariants.{Is, Not}
 use Rattle.text.specs.Fields.{fields_of}
 use Rattle.text.specs.Numbers.{number_of}
 use Rattle.text.specs.Letters.{capital_of}
@@ -76,7 +75,7 @@ module _ (n m : ℕ) where
   minutes_many a b c fs = rw (ne_eqb (suc (suc (suc (length fs)))) 1 (λ e. omega arith), ne_eqb (suc (suc (suc (length fs)))) 2 (λ e. omega arith))
 
   -- a letter is the last,
-  pub by_letter : (fs : List (List ℕ)) {h : ℕ} → capital_of (get_or fs 0 []) ≡ Is h → minutes_with n m fs ≡ letter_with n 0 m fs
+  pub by_letter : (fs : List (List ℕ)) {h : ℕ} → capital_of (get_or fs 0 []) ≡ Some h → minutes_with n m fs ≡ letter_with n 0 m fs
   unfolding minutes_with
   by_letter [] e = absurd (let q = sym no_letter ∙ e in let z : ◌≡◌ {A = ℕ} 0 1 = cc in omega arith)
   by_letter (a ∷ []) e = refl
@@ -84,7 +83,7 @@ module _ (n m : ℕ) where
   by_letter (a ∷ b ∷ c ∷ fs) e = minutes_many a b c fs ∙ sym (with_nothing (capital_of a) _ (λ h. rw (ne_eqb (suc (suc (length fs))) 0 (λ e. omega arith))))
 
   -- and else there is a number before it
-  pub by_number : (fs : List (List ℕ)) → capital_of (get_or fs 0 []) ≡ Not → minutes_with n m fs ≡ most_with n m fs
+  pub by_number : (fs : List (List ℕ)) → capital_of (get_or fs 0 []) ≡ None → minutes_with n m fs ≡ most_with n m fs
   unfolding minutes_with number_of capital_of
   by_number [] e = refl
   by_number (a ∷ []) e = rw e (sym (with_nothing (number_of a) _ (λ v. refl)))

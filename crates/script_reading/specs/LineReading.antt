@@ -1,12 +1,11 @@
 -- A line read from field to field, up to a place: what it says if it ends there, and nothing if it goes on.
 -- Assumes nothing.
-use Rattle.std.specs.Prelude.{◌≡◌, refl, Bool, true, false, cond, List, [], ℕ, ◌+◌, ◌≤◌, eqb, length, get_or, drop}
+use Rattle.std.specs.Prelude.{◌≡◌, refl, Bool, true, false, cond, List, [], ℕ, ◌+◌, ◌≤◌, eqb, length, get_or, drop, Some, None}
 use Rattle.std.proofs.Math.Path.{sym, ap}
 use Rattle.std.proofs.Common.{◌∙◌, arith, eq-eqb, ne_eqb}
 use Rattle.std.proofs.Math.Option.{Option, none}
 use Rattle.std.proofs.Math.Dec.{ltb}
-use Rattle.text.specs.declared.Parsed.{Parsed}
-use Rattle.text.specs.declared.Parsed.TheVariants.{Is, Not}
+use Rattle.std.specs.declared.option.Option as rust
 use Rattle.text.specs.declared.ReadField.{ReadField}
 use Rattle.text.specs.declared.Line.{Line}
 use Rattle.text.specs.Lines.{line_end, line_at}
@@ -20,16 +19,16 @@ pub record UpTo {A : Type 0} (text : List ℕ) (at : ℕ) (means said : Option A
   pub inside : at ≤ length text → end ≤ length text
 
 -- what the first of some fields says goes into what the others say
-abbrev pub reading : {A : Type 0} → (List ℕ → Parsed) → (ℕ → List (List ℕ) → Option A) → List (List ℕ) → Option A
+abbrev pub reading : {A : Type 0} → (List ℕ → rust.Option ℕ) → (ℕ → List (List ℕ) → Option A) → List (List ℕ) → Option A
 reading of f fs = with_number (of (get_or fs 0 [])) (λ v. f v (drop 1 fs))
 
 -- no field is left
 abbrev pub ended : {A : Type 0} → Option A → List (List ℕ) → Option A
 ended o fs = cond (eqb (length fs) 0) o none
 
-pub with_nothing : {A : Type 0} (p : Parsed) (f : ℕ → Option A) → ((v : ℕ) → f v ≡ none) → with_number p f ≡ none
-with_nothing (Is v) f h = h v
-with_nothing Not f h = refl
+pub with_nothing : {A : Type 0} (p : rust.Option ℕ) (f : ℕ → Option A) → ((v : ℕ) → f v ≡ none) → with_number p f ≡ none
+with_nothing (Some v) f h = h v
+with_nothing None f h = refl
 
 module _ {A : Type 0} (text : List ℕ) where
   cond_none : (b : Bool) → cond {A = Option A} b none none ≡ none
@@ -39,21 +38,21 @@ module _ {A : Type 0} (text : List ℕ) where
   pub up_to_end : (end : ℕ) (o : Option A) → ends_field (drop end text) ≡ true → UpTo text end (ended o (fields_after text end)) o end
   up_to_end end o e = record { whole = sym (ap (λ (b : Bool). cond b o none) (line_done_lem text end e)); same_line = refl; inside = λ h. h }
 
-  module _ {at : ℕ} {of : List ℕ → Parsed} {fs : List (List ℕ)} {r : ReadField} (p : Reads of fs text at r) (f : ℕ → List (List ℕ) → Option A) where
-    pub up_to_nothing : r.said ≡ Not → UpTo text at (reading of f fs) none r.end
+  module _ {at : ℕ} {of : List ℕ → rust.Option ℕ} {fs : List (List ℕ)} {r : ReadField} (p : Reads of fs text at r) (f : ℕ → List (List ℕ) → Option A) where
+    pub up_to_nothing : r.said ≡ None → UpTo text at (reading of f fs) none r.end
     up_to_nothing e =
         record {
-          whole = ap (λ (v : Parsed). with_number v (λ v. f v (drop 1 fs))) (sym p.says ∙ e) ∙ sym (cond_none (eqb (line_end text at) r.end));
+          whole = ap (λ (v : rust.Option ℕ). with_number v (λ v. f v (drop 1 fs))) (sym p.says ∙ e) ∙ sym (cond_none (eqb (line_end text at) r.end));
           same_line = p.same_line;
           inside = p.inside;
         }
 
-    pub up_to_next : {v : ℕ} {said : Option A} {end : ℕ} → r.said ≡ Is v → UpTo text r.end (f v (fields_after text r.end)) said end
+    pub up_to_next : {v : ℕ} {said : Option A} {end : ℕ} → r.said ≡ Some v → UpTo text r.end (f v (fields_after text r.end)) said end
         → UpTo text at (reading of f fs) said end
     up_to_next {v} {said} {end} e u =
         record {
           whole =
-              ap (λ (v : Parsed). with_number v (λ v. f v (drop 1 fs))) (sym p.says ∙ e)
+              ap (λ (v : rust.Option ℕ). with_number v (λ v. f v (drop 1 fs))) (sym p.says ∙ e)
               ∙ ap (f v) (sym (p.others v e))
               ∙ u.whole
               ∙ ap (λ (n : ℕ). cond (eqb n end) said none) p.same_line;

@@ -1,6 +1,6 @@
 -- What the answers of the readers mean, in the words of the definitions of a line.
 -- Assumes nothing.
-use Rattle.std.specs.Prelude.{◌≡◌, refl, Bool, true, cond, ◌&&◌, eqb, leb, length, get_or, take, drop, replicate}
+use Rattle.std.specs.Prelude.{◌≡◌, refl, Bool, true, cond, ◌&&◌, eqb, leb, length, get_or, take, drop, replicate, Some, None}
 use Rattle.std.proofs.Math.Path.{ap, sym}
 use Rattle.std.proofs.Common.{◌∙◌, arith, length-append, drop-cons}
 use Rattle.std.proofs.Math.Logic.{⊎_elim}
@@ -12,8 +12,7 @@ use Rattle.std.proofs.Math.ListN.{drop_of_length-le}
 use Rattle.std.proofs.lemmas.List.{take-append-le}
 use Rattle.lists.specs.Pads.{pad}
 use Rattle.lists.specs.Tests.{case, le_or}
-use Rattle.text.specs.declared.Parsed.{Parsed}
-use Rattle.text.specs.declared.Parsed.TheVariants.{Is, Not}
+use Rattle.std.specs.declared.option.Option as rust
 use Rattle.text.specs.declared.Numbers.{Numbers}
 use Rattle.text.specs.Numbers.{before, leading, numbers_from}
 use Rattle.text.specs.Fields.{fields_of, field_of}
@@ -25,25 +24,21 @@ use Rattle.scheduler.specs.declared.Kind.{Kind}
 use Rattle.scheduler.specs.declared.Opening.{Opening}
 use Rattle.history.specs.Calls.{Command, ask, wait, asked}
 use Rattle.desk_lines.specs.DeskLine.{has_form, number_at, with_number}
-use Rattle.script_reading.specs.declared.FirstLine.{FirstLine}
-use Rattle.script_reading.specs.declared.FirstLine.TheVariants as first
 use Rattle.script_reading.specs.declared.Asked.{Asked}
 use Rattle.script_reading.specs.declared.Asked.TheVariants as later
-use Rattle.script_reading.specs.declared.Named.{Named}
-use Rattle.script_reading.specs.declared.Named.TheVariants as named
 
-abbrev pub opens : FirstLine → Option Opening
-opens (first.Opens o) = some o
-opens first.Malformed = none
+abbrev pub opens : rust.Option Opening → Option Opening
+opens (Some o) = some o
+opens None = none
 
 abbrev pub asks : Asked → Option Command
 asks (later.Call q) = some (ask (asked q))
 asks (later.Wait n) = some (wait n)
 asks later.Malformed = none
 
-abbrev pub follows : Named → Option Kind
-follows (named.Rules k) = some k
-follows named.Nothing = none
+abbrev pub follows : rust.Option Kind → Option Kind
+follows (Some k) = some k
+follows None = none
 
 -- what the fields of a line say together, once they are counted and each has been read
 abbrev pub form_from : ℕ → List ℕ → ℕ → List ℕ → Bool
@@ -91,11 +86,11 @@ leb_suc a b =
 
 module _ {A : Type 0} where
   -- a number more, in front of l
-  with_next_lem : (p : Parsed) (l : List ℕ) (n : ℕ) (f : List ℕ → Option A) (g : (List ℕ → Option A) → Option A)
+  with_next_lem : (p : rust.Option ℕ) (l : List ℕ) (n : ℕ) (f : List ℕ → Option A) (g : (List ℕ → Option A) → Option A)
       → ((f : List ℕ → Option A) → g f ≡ cond (leb n (length l)) (f (take n l)) none)
       → with_number p (λ v. g (λ vs. f (v ∷ vs))) ≡ cond (leb (suc n) (length (before p l))) (f (take (suc n) (before p l))) none
-  with_next_lem (Is v) l n f g h = rw (leb_suc n (length l)) (h (λ vs. f (v ∷ vs)))
-  with_next_lem Not l n f g h = rw (lt-leb (suc n) 0 (omega arith))
+  with_next_lem (Some v) l n f g h = rw (leb_suc n (length l)) (h (λ vs. f (v ∷ vs)))
+  with_next_lem None l n f g h = rw (lt-leb (suc n) 0 (omega arith))
 
   module _ (s : List ℕ) where
     with_leading : (n m k : ℕ) (f : List ℕ → Option A) → n ≤ m

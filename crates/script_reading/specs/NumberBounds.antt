@@ -1,11 +1,10 @@
 -- Every number that a line says is at most 9999999: document 01, "Numbers have 1 to 7 digits". And a line asks for no other call than
 -- a submission, a completion and a withdrawal.
 -- Assumes nothing.
-use Rattle.std.specs.Prelude.{◌≡◌, refl, Bool, true, false, cond, List, ℕ, ◌≤◌}
+use Rattle.std.specs.Prelude.{◌≡◌, refl, Bool, true, false, cond, List, ℕ, ◌≤◌, Some, None}
 use Rattle.std.proofs.Common.{subst, arith}
 use Rattle.std.proofs.Math.Option.{Option, none, some}
-use Rattle.text.specs.declared.Parsed.{Parsed}
-use Rattle.text.specs.declared.Parsed.TheVariants.{Is, Not}
+use Rattle.std.specs.declared.option.Option as rust
 use Rattle.text.specs.NumberLaws.{number_most}
 use Rattle.text.specs.Fields.{field_of}
 use Rattle.scheduler.specs.declared.Kind.{Kind}
@@ -43,9 +42,9 @@ module _ {A : Type 0} (P : A → Type 0) where
   pub any_some : (b : A) → P b → Any P (some b)
   any_some b h a e = let q : b ≡ a = cc in subst P q h
 
-  pub any_number : (p : Parsed) (f : ℕ → Option A) → ((v : ℕ) → p ≡ Is v → Any P (f v)) → Any P (with_number p f)
-  any_number (Is v) f h = h v refl
-  any_number Not f h = any_none
+  pub any_number : (p : rust.Option ℕ) (f : ℕ → Option A) → ((v : ℕ) → p ≡ Some v → Any P (f v)) → Any P (with_number p f)
+  any_number (Some v) f h = h v refl
+  any_number None f h = any_none
 
   pub any_field : (s : List ℕ) (k : ℕ) (f : ℕ → Option A) → ((v : ℕ) → Small v → Any P (f v)) → Any P (with_number (number_at s k) f)
   any_field s k f h = any_number (number_at s k) f (λ v e. h v (number_most (field_of s k) v e))
@@ -82,7 +81,7 @@ command_small s =
     (any_cond SmallCommand (has_form s 2 drop_word) _ none (any_field SmallCommand s 1 _ (λ t small-t. any_some SmallCommand (ask (cancel t)) small-t))
     (any_none SmallCommand)))))
   where
-    any_submit : (h : Parsed) (n l e : ℕ) → Small n → Small l → Small e → Any SmallCommand (submit_for h n l e)
+    any_submit : (h : rust.Option ℕ) (n l e : ℕ) → Small n → Small l → Small e → Any SmallCommand (submit_for h n l e)
     any_submit h n l e a b c = any_number SmallCommand h _ (λ t q. any_some SmallCommand (ask (submit (order_between (tenant_of t) n l e))) (a, b, c))
 
 -- of a wait

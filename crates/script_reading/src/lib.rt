@@ -14,14 +14,7 @@ ghost use Rattle.script_reading.specs.LineReading.{UpTo};
 ghost use Rattle.script_reading.specs.CommandFields.{one_number_of, order_for, most_with, order_by};
 
 use scheduler::{Departure, Kind, Opening, Request, Scheduler, Settings, Submission, Tenant};
-use text::{Line, Numbers, Parsed};
-
-// What a script's first line asks.
-#[derive(Clone, Copy)]
-pub enum FirstLine {
-    Opens(Opening),
-    Malformed,
-}
+use text::{Line, Numbers};
 
 // What a later line asks.
 #[derive(Clone, Copy)]
@@ -29,13 +22,6 @@ pub enum Asked {
     Call(Request),
     Wait(u32),
     Malformed,
-}
-
-// Which rules a word names.
-#[derive(Clone, Copy)]
-pub enum Named {
-    Rules(Kind),
-    Nothing,
 }
 
 // Whether a line has `fields` fields and begins with `word`; `count` is how many fields it has, and `first` is its first field. A trailing tab
@@ -49,29 +35,27 @@ fn has_form(count: usize, first: &[u8], fields: usize, word: &[u8]) -> bool
     text::is_word(first, word)
 }
 
-pub fn read_kind(part: &[u8]) -> Named
+// Which rules a word names.
+pub fn read_kind(part: &[u8]) -> Option<Kind>
     ensures { follows result ≡ kind_of part.now }
 {
     if text::is_word(part, b"promise") {
-        return Named::Rules(Kind::Conservative);
+        return Some(Kind::Conservative);
     }
-    if text::is_word(part, b"loose") {
-        return Named::Rules(Kind::Easy);
-    }
-    Named::Nothing
+    text::is_word(part, b"loose").then_some(Kind::Easy)
 }
 
-fn opening(named: Named, given: Numbers) -> FirstLine
+fn opening(named: Option<Kind>, given: Numbers) -> Option<Opening>
     ensures { opens result ≡ with_kind (follows named) (λ k. when_read 6 given (opening_of k)) }
 {
-    let Named::Rules(k) = named else {
-        return FirstLine::Malformed;
+    let Some(k) = named else {
+        return None;
     };
     if given.count < 6 {
-        return FirstLine::Malformed;
+        return None;
     }
     let v = given.values;
-    FirstLine::Opens(Opening {
+    Some(Opening {
         settings: Settings {
             kind: k,
             nodes: v[0],
@@ -85,8 +69,8 @@ fn opening(named: Named, given: Numbers) -> FirstLine
     })
 }
 
-// The first line opens a desk: its kind, nodes, minute and ticket, its cleanup, and the quotas of both tenants.
-pub fn read_first(line: &[u8]) -> FirstLine
+// The first line opens a desk: its kind, nodes, minute and ticket, its cleanup, and the quotas of both tenants. None: it lacks the form.
+pub fn read_first(line: &[u8]) -> Option<Opening>
     ensures { opens result ≡ opening_in line.now }
 {
     let count = text::field_count(line);
@@ -97,7 +81,7 @@ pub fn read_first(line: &[u8]) -> FirstLine
         let given = text::field_numbers(line, 2);
         return opening(named, given);
     }
-    FirstLine::Malformed
+    None
 }
 
 // What the fields of a later line ask, as far as they were read: up to a place of the line.
@@ -126,7 +110,7 @@ fn submission_between(nodes: u32, least: u32, script: &[u8], end: usize) -> Row
 {
     let a = text::number_after(script, end);
     let minutes = a.said;
-    let Parsed::Is(most) = minutes else {
+    let Some(most) = minutes else {
         return Row {
             asked: Asked::Malformed,
             end: a.end,
@@ -134,7 +118,7 @@ fn submission_between(nodes: u32, least: u32, script: &[u8], end: usize) -> Row
     };
     let h = text::capital_after(script, a.end);
     let house = h.said;
-    let Parsed::Is(letter) = house else {
+    let Some(letter) = house else {
         return Row {
             asked: Asked::Malformed,
             end: h.end,
@@ -152,7 +136,7 @@ fn submission(script: &[u8], end: usize) -> Row
 {
     let a = text::number_after(script, end);
     let first = a.said;
-    let Parsed::Is(nodes) = first else {
+    let Some(nodes) = first else {
         return Row {
             asked: Asked::Malformed,
             end: a.end,
@@ -160,7 +144,7 @@ fn submission(script: &[u8], end: usize) -> Row
     };
     let b = text::number_after(script, a.end);
     let second = b.said;
-    let Parsed::Is(minutes) = second else {
+    let Some(minutes) = second else {
         return Row {
             asked: Asked::Malformed,
             end: b.end,
@@ -168,7 +152,7 @@ fn submission(script: &[u8], end: usize) -> Row
     };
     let h = text::capital_after(script, b.end);
     let house = h.said;
-    let Parsed::Is(letter) = house else {
+    let Some(letter) = house else {
         return submission_between(nodes, minutes, script, b.end);
     };
     Row {
@@ -183,7 +167,7 @@ fn departure(how: Departure, script: &[u8], end: usize) -> Row
 {
     let a = text::number_after(script, end);
     let said = a.said;
-    let Parsed::Is(ticket) = said else {
+    let Some(ticket) = said else {
         return Row {
             asked: Asked::Malformed,
             end: a.end,
@@ -201,7 +185,7 @@ fn waiting(script: &[u8], end: usize) -> Row
 {
     let a = text::number_after(script, end);
     let said = a.said;
-    let Parsed::Is(minutes) = said else {
+    let Some(minutes) = said else {
         return Row {
             asked: Asked::Malformed,
             end: a.end,

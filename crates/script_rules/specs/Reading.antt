@@ -5,7 +5,7 @@
 -- Assumes nothing.
 use Rattle.std.specs.Prelude.{cond, List, [], ◌∷◌, ℕ}
 use Rattle.std.proofs.Math.Option.{Option, none, some}
-use Rattle.text.specs.declared.Parsed.{Parsed}
+use Rattle.std.specs.declared.option.Option as rust
 use Rattle.scheduler.specs.Tenants.{tenant_of}
 use Rattle.history.specs.Calls.{Command, ask, wait, submit, order_between, complete, cancel}
 use Rattle.desk_lines.specs.Lines.{Line}
@@ -24,7 +24,7 @@ abbrev pub drop_word : List ℕ
 drop_word = 100 ∷ 114 ∷ 111 ∷ 112 ∷ []
 
 -- a job of the house with this letter
-abbrev pub submit_for : Parsed → (nodes least most : ℕ) → Option Command
+abbrev pub submit_for : rust.Option ℕ → (nodes least most : ℕ) → Option Command
 submit_for h n l e = with_number h (λ t. some (ask (submit (order_between (tenant_of t) n l e))))
 
 unfoldable pub command_in : List ℕ → Option Command

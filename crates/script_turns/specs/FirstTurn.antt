@@ -1,6 +1,6 @@
 -- The turn of a first line: the piece that the definitions give, of anything that is played over the scheduler which that line opens.
 -- Assumes nothing.
-use Rattle.std.specs.Prelude.{◌≡◌, ℕ, ◌+◌, take}
+use Rattle.std.specs.Prelude.{◌≡◌, ℕ, ◌+◌, take, Some, None}
 use Rattle.std.proofs.Math.Path.{sym, ap}
 use Rattle.std.proofs.Common.{◌∙◌}
 use Rattle.std.proofs.Math.Bool.{true, false}
@@ -17,8 +17,7 @@ use Rattle.scheduler.specs.Opening.{opening_refusal, opened}
 use Rattle.scheduler.specs.Answers.{accepts, code}
 use Rattle.script_rules.specs.Writing.{no_row}
 use Rattle.script_rules.specs.Printout.{malformed}
-use Rattle.script_reading.specs.declared.FirstLine.{FirstLine}
-use Rattle.script_reading.specs.declared.FirstLine.TheVariants as first
+use Rattle.std.specs.declared.option.Option as rust
 use Rattle.script_reading.specs.Meaning.{opens}
 use Rattle.script_play.specs.FirstPieces.{opening_piece, first_by_of}
 
@@ -35,13 +34,13 @@ module _ {P : Type 0} (stops : P) (starts : ℕ → Scheduler → P) where
     first_line {end} g h = ap (opening_piece stops starts (end + 1)) h ∙ first_by g
 
   -- by what its first line says
-  module _ (next : ℕ) (f : FirstLine) where
+  module _ (next : ℕ) (f : rust.Option Opening) where
     abbrev asked : Piece P
     asked = opening_piece stops starts next (opens f)
 
-    module _ (o : Opening) (r : Opened) (e : f ≡ first.Opens o) (g : r ≡ opened o) where
+    module _ (o : Opening) (r : Opened) (e : f ≡ Some o) (g : r ≡ opened o) where
       said : opening_piece stops starts next (some o) ≡ asked
-      said = ap (λ (x : FirstLine). opening_piece stops starts next (opens x)) (sym e)
+      said = ap (λ (x : rust.Option Opening). opening_piece stops starts next (opens x)) (sym e)
 
       pub opening_takes : accepts r.refusal ≡ true → piece [] (starts next r.scheduler) ≡ asked
       unfolding opened
@@ -57,5 +56,5 @@ module _ {P : Type 0} (stops : P) (starts : ℕ → Scheduler → P) where
           let refuses : opening_piece stops starts next (some o) ≡ piece (no_row (code (opening_refusal o))) stops = rw b in
           ap (λ (x : Opened). piece (no_row (code x.refusal)) stops) g ∙ sym refuses ∙ said
 
-    pub opening_lacks : f ≡ first.Malformed → piece malformed stops ≡ asked
-    opening_lacks e = ap (λ (x : FirstLine). opening_piece stops starts next (opens x)) (sym e)
+    pub opening_lacks : f ≡ None → piece malformed stops ≡ asked
+    opening_lacks e = ap (λ (x : rust.Option Opening). opening_piece stops starts next (opens x)) (sym e)

@@ -11,9 +11,9 @@ ghost use Rattle.script_play.specs.FirstPieces.{opening_piece};
 ghost use Rattle.script_play.specs.Pieces.{over, starts, first_piece};
 ghost use Rattle.script_turns.specs.NextTurn.{Comes};
 
-use scheduler::{Refusal, Request, Scheduler};
+use scheduler::{Opening, Refusal, Request, Scheduler};
 use script_play::{Play, Played, Stage};
-use script_reading::{Asked, FirstLine};
+use script_reading::Asked;
 use text::Begins;
 
 // A longer script is not read.
@@ -38,12 +38,12 @@ fn refuse(p: Play, reason: Refusal, page: &mut [u8]) -> Played
 }
 
 // What a first line asks.
-fn open(p: Play, next: usize, first: FirstLine, page: &mut [u8]) -> Played
+fn open(p: Play, next: usize, first: Option<Opening>, page: &mut [u8]) -> Played
     requires { page_bytes ≤ length page.old }
     ensures { Turned page_bytes (opening_piece (over p) starts next (opens first)) page.old 0 page.new result.end result.play }
 {
     match first {
-        FirstLine::Opens(o) => {
+        Some(o) => {
             let opened = Scheduler::open(o);
             let reason = opened.refusal;
             if reason.is_none() {
@@ -60,7 +60,7 @@ fn open(p: Play, next: usize, first: FirstLine, page: &mut [u8]) -> Played
             }
             refuse(p, reason, page)
         }
-        FirstLine::Malformed => refuse(p, Refusal::Malformed, page),
+        None => refuse(p, Refusal::Malformed, page),
     }
 }
 
@@ -91,17 +91,10 @@ pub fn first(p: Play, script: &[u8], page: &mut [u8]) -> Played
     }
 }
 
-// What comes next: what is asked, or that the script is over.
-#[derive(Clone, Copy)]
-pub enum Turn {
-    Asks(Asked),
-    Over,
-}
-
-// A turn, where the line after it begins, and how many steps of a wait are left after it.
+// What is asked next, none if the script is over; where the line after it begins; and how many steps of a wait are left after it.
 #[derive(Clone, Copy)]
 pub struct Next {
-    pub turn: Turn,
+    pub turn: Option<Asked>,
     pub at: usize,
     pub steps: u32,
 }
@@ -117,13 +110,13 @@ fn next_line(script: &[u8], at: usize) -> Next
     if line.closed {
         let asked = later.asked;
         return Next {
-            turn: Turn::Asks(asked),
+            turn: Some(asked),
             at: end + 1,
             steps: 0,
         };
     }
     Next {
-        turn: Turn::Asks(Asked::Malformed),
+        turn: Some(Asked::Malformed),
         at: end,
         steps: 0,
     }
@@ -135,14 +128,14 @@ pub fn next_turn(script: &[u8], at: usize, steps: u32) -> Next
 {
     if 0 < steps {
         return Next {
-            turn: Turn::Asks(Asked::Call(Request::Tick)),
+            turn: Some(Asked::Call(Request::Tick)),
             at: at,
             steps: steps - 1,
         };
     }
     if script.len() <= at {
         return Next {
-            turn: Turn::Over,
+            turn: None,
             at: at,
             steps: 0,
         };

@@ -18,7 +18,6 @@ use scheduler::{
     Departure, Kind, Opening, Refusal, Request, Scheduler, Settings, Submission, Tenant,
 };
 use script_play::Stage;
-use script_reading::FirstLine;
 use season_play::Standing;
 use season_turns::Coming;
 use text::Begins;
@@ -202,13 +201,13 @@ fn refuse(p: Standing, reason: Refusal, page: &mut [u8]) -> Played
 }
 
 // What a first line asks.
-fn open(p: Standing, next: usize, first: FirstLine, page: &mut [u8]) -> Played
+fn open(p: Standing, next: usize, first: Option<Opening>, page: &mut [u8]) -> Played
     requires { page_bytes ≤ length page.old }
     ensures { (xs ys : List ℕ) → Turned page_bytes (opening_piece (closed (place p xs ys)) (starts (place p xs ys)) next (opens first))
         page.old 0 page.new result.end (place result.standing xs ys) }
 {
     match first {
-        FirstLine::Opens(o) => {
+        Some(o) => {
             let opened = Scheduler::open(o);
             let reason = opened.refusal;
             if reason.is_none() {
@@ -226,7 +225,7 @@ fn open(p: Standing, next: usize, first: FirstLine, page: &mut [u8]) -> Played
             }
             refuse(p, reason, page)
         }
-        FirstLine::Malformed => refuse(p, Refusal::Malformed, page),
+        None => refuse(p, Refusal::Malformed, page),
     }
 }
 

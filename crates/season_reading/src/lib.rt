@@ -9,10 +9,9 @@ ghost use Rattle.season_rules.specs.Season.{arrival_refusal};
 ghost use Rattle.season_reading.specs.Meaning.{opening_of, Reads};
 ghost use Rattle.season_reading.specs.ArrivalFields.{Lists};
 
-use scheduler::{Opening, Refusal, Scheduler, Settings};
-use script_reading::{FirstLine, Named};
+use scheduler::{Kind, Opening, Refusal, Scheduler, Settings};
 use season_rules::Arrival;
-use text::{Numbers, Parsed};
+use text::Numbers;
 
 // Lines past these lack the form.
 const MOST_LINES: usize = 4096;
@@ -32,17 +31,17 @@ pub struct Ahead {
     pub next: usize,
 }
 
-fn opening(named: Named, given: Numbers) -> FirstLine
+fn opening(named: Option<Kind>, given: Numbers) -> Option<Opening>
     ensures { opens result ≡ with_kind (follows named) (λ k. when_read 3 given (opening_of k)) }
 {
-    let Named::Rules(k) = named else {
-        return FirstLine::Malformed;
+    let Some(k) = named else {
+        return None;
     };
     if given.count < 3 {
-        return FirstLine::Malformed;
+        return None;
     }
     let v = given.values;
-    FirstLine::Opens(Opening {
+    Some(Opening {
         settings: Settings {
             kind: k,
             nodes: v[0],
@@ -57,11 +56,11 @@ fn opening(named: Named, given: Numbers) -> FirstLine
 }
 
 // The first line has the settings: the kind, the nodes, the cleanup and the longest estimate.
-pub fn read_settings(line: &[u8]) -> FirstLine
+pub fn read_settings(line: &[u8]) -> Option<Opening>
     ensures { opens result ≡ opening_in line.now }
 {
     if text::field_count(line) != 4 {
-        return FirstLine::Malformed;
+        return None;
     }
     let word = text::field(line, 0);
     let named = script_reading::read_kind(word);
@@ -83,7 +82,7 @@ fn read_arrival(list: &[u8], at: usize) -> Row
 {
     let a = text::number_at(list, at);
     let first = a.said;
-    let Parsed::Is(minute) = first else {
+    let Some(minute) = first else {
         return Row {
             listed: Listed::Malformed,
             end: a.end,
@@ -91,7 +90,7 @@ fn read_arrival(list: &[u8], at: usize) -> Row
     };
     let b = text::number_after(list, a.end);
     let second = b.said;
-    let Parsed::Is(nodes) = second else {
+    let Some(nodes) = second else {
         return Row {
             listed: Listed::Malformed,
             end: b.end,
@@ -99,7 +98,7 @@ fn read_arrival(list: &[u8], at: usize) -> Row
     };
     let c = text::number_after(list, b.end);
     let third = c.said;
-    let Parsed::Is(estimate) = third else {
+    let Some(estimate) = third else {
         return Row {
             listed: Listed::Malformed,
             end: c.end,
@@ -107,7 +106,7 @@ fn read_arrival(list: &[u8], at: usize) -> Row
     };
     let d = text::number_after(list, c.end);
     let fourth = d.said;
-    let Parsed::Is(actual) = fourth else {
+    let Some(actual) = fourth else {
         return Row {
             listed: Listed::Malformed,
             end: d.end,

@@ -1,9 +1,8 @@
 -- Laws of the numbers in a line's fields: what the next field adds.
 -- Assumes nothing.
-use Rattle.std.specs.Prelude.{◌≡◌, refl, List, [], ◌∷◌, ℕ, zero, suc, ◌<◌, get_or, drop}
+use Rattle.std.specs.Prelude.{◌≡◌, refl, List, [], ◌∷◌, ℕ, zero, suc, ◌<◌, get_or, drop, Some, None}
 use Rattle.std.proofs.Common.{sym, ap, ◌∙◌, arith}
 use Rattle.std.proofs.Math.ListN.{length}
-use Rattle.text.specs.declared.Parsed.TheVariants.{Is, Not}
 use Rattle.text.specs.Prefixes.{upto}
 use Rattle.text.specs.Fields.{fields_of, field_of, or_empty}
 use Rattle.text.specs.FieldLaws.{fields_first, fields_tab, fields_one}
@@ -21,16 +20,16 @@ leading_empty zero fs = refl
 leading_empty (suc n) [] = refl
 leading_empty (suc n) (f ∷ fs) = refl
 
-leading_stop : (n : ℕ) (fs : List (List ℕ)) → number_of (get_or fs 0 []) ≡ Not → leading (suc n) fs ≡ []
+leading_stop : (n : ℕ) (fs : List (List ℕ)) → number_of (get_or fs 0 []) ≡ None → leading (suc n) fs ≡ []
 unfolding leading
 leading_stop n [] e = refl
 leading_stop n (f ∷ fs) e = rw e
 
 module _ (n : ℕ) (s : List ℕ) where
-  pub next_not : number_of (field_of s 0) ≡ Not → leading (suc n) (fields_of s) ≡ []
+  pub next_not : number_of (field_of s 0) ≡ None → leading (suc n) (fields_of s) ≡ []
   next_not = leading_stop n (fields_of s)
 
-  module _ {v : ℕ} (is : number_of (field_of s 0) ≡ Is v) where
+  module _ {v : ℕ} (is : number_of (field_of s 0) ≡ Some v) where
     pub next_last : length (field_of s 0) ≡ length s → leading (suc n) (fields_of s) ≡ v ∷ []
     unfolding leading
     next_last all =

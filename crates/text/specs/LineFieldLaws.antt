@@ -2,7 +2,7 @@
 -- Assumes nothing.
 use Rattle.std.proofs.Math.Path.{◌≡◌, refl, sym, ap}
 use Rattle.std.proofs.Common.{◌∙◌, add-one, length-drop, drop_of_length-le, drop-drop, get_or-drop, drop-cons}
-use Rattle.std.specs.Prelude.{Bool, not, ◌&&◌, ◌||◌, ◌⊎◌, leb, ltb, get_or}
+use Rattle.std.specs.Prelude.{Bool, not, ◌&&◌, ◌||◌, ◌⊎◌, leb, ltb, get_or, Option, Some, None}
 use Rattle.std.proofs.Math.Bool.{true, false}
 use Rattle.std.proofs.Math.Logic.{⊎_elim}
 use mathlib.Core.List.{List, [], ◌∷◌}
@@ -13,8 +13,6 @@ use Rattle.std.proofs.Math.Dec.{eqb}
 use Rattle.std.proofs.Math.ListN.{length, take, drop, get_or-eq_default}
 use borrow.Author.Tests.{eqb-true, eq-eqb, ne_eqb, ltb-false, lt-leb}
 use Rattle.lists.specs.Tests.{case, true_false, both, le_or, and_right_false}
-use Rattle.text.specs.declared.Parsed.{Parsed}
-use Rattle.text.specs.declared.Parsed.TheVariants.{Is, Not}
 use Rattle.text.specs.declared.ReadField.{ReadField}
 use Rattle.text.specs.Prefixes.{upto, upto_le}
 use Rattle.text.specs.Fields.{in_first, fields_of}
@@ -92,7 +90,7 @@ module _ (text : List ℕ) (from : ℕ) where
   pub line_from : line_end text end ≡ line_end text from
   line_from = omega (arith, field_line (drop from text), ap (λ (s : List ℕ). length (upto 10 s)) there)
 
-  pub reads_field : (of : List ℕ → Parsed) (said : Parsed) (e : ℕ) → said ≡ of (field_in (drop from text)) → e ≡ end
+  pub reads_field : (of : List ℕ → Option ℕ) (said : Option ℕ) (e : ℕ) → said ≡ of (field_in (drop from text)) → e ≡ end
       → Reads of (fields_at text from) text from (record { said = said; end = e })
   reads_field of said e q p =
       rw p
@@ -121,7 +119,7 @@ module _ (text : List ℕ) (end : ℕ) where
     more [] e = true_false false e refl
     more (b ∷ bs) e = rw (eqb-true b 9 e)
 
-  module _ (of : List ℕ → Parsed) where
+  module _ (of : List ℕ → Option ℕ) where
     pub reads_after : (r : ReadField) → has_tab (drop end text) ≡ true → Reads of (fields_at text (end + 1)) text (end + 1) r
         → Reads of (fields_after text end) text end r
     unfolding after_tab
@@ -136,7 +134,7 @@ module _ (text : List ℕ) (end : ℕ) where
         }
 
     -- without one there are none
-    pub reads_past : of [] ≡ Not → has_tab (drop end text) ≡ false → Reads of (fields_after text end) text end (record { said = Not; end = end })
+    pub reads_past : of [] ≡ None → has_tab (drop end text) ≡ false → Reads of (fields_after text end) text end (record { said = None; end = end })
     unfolding after_tab
     reads_past q e =
         record {
@@ -162,16 +160,16 @@ line_done_lem text end e = done (drop end text) e where
 
 -- ## What nothing says
 
-pub no_number : number_of [] ≡ Not
+pub no_number : number_of [] ≡ None
 unfolding number_of
 no_number = refl
 
-pub no_letter : capital_of [] ≡ Not
+pub no_letter : capital_of [] ≡ None
 unfolding capital_of
 no_letter = refl
 
 -- a letter is no number
-pub letter_no_number : (s : List ℕ) {v : ℕ} → capital_of s ≡ Is v → number_of s ≡ Not
+pub letter_no_number : (s : List ℕ) {v : ℕ} → capital_of s ≡ Some v → number_of s ≡ None
 unfolding capital_of number_of digits_from
 letter_no_number [] e = absurd (let z : ◌≡◌ {A = ℕ} 0 1 = cc in omega arith)
 letter_no_number (b ∷ []) e =

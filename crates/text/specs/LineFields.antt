@@ -1,8 +1,6 @@
 -- A line of a text read from field to field: the field at a place, the fields from there on, and those after one that ends at a place.
 -- Assumes nothing.
-use Rattle.std.specs.Prelude.{◌≡◌, Bool, true, cond, ◌&&◌, ◌||◌, List, [], ◌∷◌, ℕ, ◌≤◌, eqb, length, get_or, take, drop}
-use Rattle.text.specs.declared.Parsed.{Parsed}
-use Rattle.text.specs.declared.Parsed.TheVariants.{Is}
+use Rattle.std.specs.Prelude.{◌≡◌, Bool, true, cond, ◌&&◌, ◌||◌, List, [], ◌∷◌, ℕ, ◌≤◌, eqb, length, get_or, take, drop, Option, Some}
 use Rattle.text.specs.declared.ReadField.{ReadField}
 use Rattle.text.specs.Prefixes.{upto}
 use Rattle.text.specs.Fields.{fields_of}
@@ -43,9 +41,9 @@ abbrev pub fields_after : List ℕ → ℕ → List (List ℕ)
 fields_after text end = after_tab (drop end text)
 
 -- the first of these fields is read, in the line of a place: what it says, and that it ends where the others come after it
-pub record Reads (of : List ℕ → Parsed) (fields : List (List ℕ)) (text : List ℕ) (from : ℕ) (r : ReadField) : Type 0 where
+pub record Reads (of : List ℕ → Option ℕ) (fields : List (List ℕ)) (text : List ℕ) (from : ℕ) (r : ReadField) : Type 0 where
   pub says : r.said ≡ of (get_or fields 0 [])
-  pub ends : (v : ℕ) → r.said ≡ Is v → ends_field (drop r.end text) ≡ true
-  pub others : (v : ℕ) → r.said ≡ Is v → fields_after text r.end ≡ drop 1 fields
+  pub ends : (v : ℕ) → r.said ≡ Some v → ends_field (drop r.end text) ≡ true
+  pub others : (v : ℕ) → r.said ≡ Some v → fields_after text r.end ≡ drop 1 fields
   pub same_line : line_end text r.end ≡ line_end text from
   pub inside : from ≤ length text → r.end ≤ length text

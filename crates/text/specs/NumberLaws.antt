@@ -1,15 +1,14 @@
 -- Laws of numbers in decimal: how long they are, that what is written is read back, and that two numbers never have the same digits.
 -- Assumes nothing.
-use Rattle.std.specs.Prelude.{◌≡◌, refl, true, false, not, ◌&&◌, List, [], ◌∷◌, ◌++◌, ℕ, zero, suc, ◌+◌, ◌-◌, ◌*◌, ◌/◌, ◌%◌, ◌≤◌, ◌<◌, leb, ltb, length, get_or, drop}
+use Rattle.std.specs.Prelude.{◌≡◌, refl, true, false, not, ◌&&◌, List, [], ◌∷◌, ◌++◌, ℕ, zero, suc, ◌+◌, ◌-◌, ◌*◌, ◌/◌, ◌%◌, ◌≤◌, ◌<◌, leb, ltb, length, get_or, drop, Some, None}
 use Rattle.std.proofs.Common.{sym, ap, ◌∙◌, ⊎_elim, add-one, arith, drop_of_length-le, length-append, drop-cons}
 use Rattle.std.proofs.Math.ListN.{get_or-append}
 use borrow.Author.Tests.{lt-ltb, le-ltb, le-leb, lt-leb, ne_eqb, ltb-true, ltb-false, leb-true}
 use Rattle.lists.specs.Tests.{case, both, le_or, and_right_false}
 use Rattle.lists.specs.Lists.{All, all_append}
-use Rattle.text.specs.declared.Parsed.TheVariants.{Is, Not}
 use Rattle.text.specs.Numbers.{is_digit, digits_from, leading_zero, good_form, number_of, decimal_by, decimal_of}
 
-not_is {ℓ} : {A : Type ℓ} (v : ℕ) → Not ≡ Is v → A
+not_is {ℓ} : {A : Type ℓ} (v : ℕ) → None ≡ Some v → A
 not_is v e = absurd (let z : ◌≡◌ {A = ℕ} 0 1 = cc in omega arith)
 
 -- 10 to the i
@@ -45,15 +44,15 @@ module _ (s : List ℕ) (i v : ℕ) where
   unfolding digits_from
   digits_more h l u = rw (drop-cons s i 0 h, le-leb 48 byte l, le-leb byte 57 u, add-one)
 
-  pub digits_low : i < length s → byte < 48 → digits_from v (drop i s) ≡ Not
+  pub digits_low : i < length s → byte < 48 → digits_from v (drop i s) ≡ None
   unfolding digits_from
   digits_low h l = rw (drop-cons s i 0 h, lt-leb 48 byte l)
 
-  pub digits_high : i < length s → 48 ≤ byte → 57 < byte → digits_from v (drop i s) ≡ Not
+  pub digits_high : i < length s → 48 ≤ byte → 57 < byte → digits_from v (drop i s) ≡ None
   unfolding digits_from
   digits_high h l u = rw (drop-cons s i 0 h, le-leb 48 byte l, lt-leb byte 57 u)
 
-  pub digits_end : length s ≤ i → digits_from v (drop i s) ≡ Is v
+  pub digits_end : length s ≤ i → digits_from v (drop i s) ≡ Some v
   unfolding digits_from
   digits_end h = rw (drop_of_length-le s h)
 
@@ -141,7 +140,7 @@ decimal_digits =
     Digit b = (48 ≤ b) × (b ≤ 57)
 
 -- a number that is read has at most seven digits
-digits_below : (s : List ℕ) (u v k : ℕ) → k + length s ≤ 7 → u < ten k → digits_from u s ≡ Is v → v ≤ 9999999
+digits_below : (s : List ℕ) (u v k : ℕ) → k + length s ≤ 7 → u < ten k → digits_from u s ≡ Some v → v ≤ 9999999
 unfolding digits_from
 digits_below [] u v k l h e = let q : u ≡ v = cc in omega (arith, ten_low k (omega arith))
 digits_below (b ∷ bs) u v k l h e =
@@ -149,7 +148,7 @@ digits_below (b ∷ bs) u v k l h e =
     (λ t. digits_below bs (u * 10 + (b - 48)) v (k + 1) (omega arith) (omega (arith, ten_more k, leb-true b 57 (both (leb 48 b) (leb b 57) t).1)) (rw t at e))
     (λ t. not_is v (rw t at e))
 
-pub number_most : (s : List ℕ) (v : ℕ) → number_of s ≡ Is v → v ≤ 9999999
+pub number_most : (s : List ℕ) (v : ℕ) → number_of s ≡ Some v → v ≤ 9999999
 unfolding number_of
 number_most s v e =
     case (good_form s)
@@ -162,27 +161,27 @@ number_most s v e =
         omega (arith, leb-true (length s) 7 (both (leb 1 (length s)) (leb (length s) 7) sized).1)
 
 -- what is written is read back
-digits_last : (s : List ℕ) (u w d : ℕ) → d < 10 → digits_from u s ≡ Is w → digits_from u (s ++ ((48 + d) ∷ [])) ≡ Is (w * 10 + d)
+digits_last : (s : List ℕ) (u w d : ℕ) → d < 10 → digits_from u s ≡ Some w → digits_from u (s ++ ((48 + d) ∷ [])) ≡ Some (w * 10 + d)
 unfolding digits_from
 digits_last [] u w d h e =
     let q : u ≡ w = cc in
-    rw (le-leb 48 (48 + d) (omega arith), le-leb (48 + d) 57 (omega arith)) (ap Is (omega arith))
+    rw (le-leb 48 (48 + d) (omega arith), le-leb (48 + d) 57 (omega arith)) (ap Some (omega arith))
 digits_last (b ∷ bs) u w d h e =
     case (is_digit b)
     (λ t. rw t (digits_last bs (u * 10 + (b - 48)) w d h (rw t at e)))
     (λ t. not_is w (rw t at e))
 
-digits_decimal : (v : ℕ) → digits_from 0 (decimal_of v) ≡ Is v
+digits_decimal : (v : ℕ) → digits_from 0 (decimal_of v) ≡ Some v
 unfolding digits_from
 digits_decimal =
     by_tenths
-    (λ (v : ℕ). digits_from 0 (decimal_of v) ≡ Is v)
-    (λ v h. rw (decimal_one v h) (digits_last [] 0 0 v h refl ∙ ap Is (omega arith)))
-    (λ v h e. rw (decimal_more v h) (digits_last (decimal_of (v / 10)) 0 (v / 10) (v % 10) (omega arith) e ∙ ap Is (omega arith)))
+    (λ (v : ℕ). digits_from 0 (decimal_of v) ≡ Some v)
+    (λ v h. rw (decimal_one v h) (digits_last [] 0 0 v h refl ∙ ap Some (omega arith)))
+    (λ v h e. rw (decimal_more v h) (digits_last (decimal_of (v / 10)) 0 (v / 10) (v % 10) (omega arith) e ∙ ap Some (omega arith)))
 
 -- two numbers in decimal are the same text only if they are the same
 pub decimal_tells : (v w : ℕ) → decimal_of v ≡ decimal_of w → v ≡ w
-decimal_tells v w e = let q : Is v ≡ Is w = sym (digits_decimal v) ∙ ap (digits_from 0) e ∙ digits_decimal w in cc
+decimal_tells v w e = let q : Some v ≡ Some w = sym (digits_decimal v) ∙ ap (digits_from 0) e ∙ digits_decimal w in cc
 
 decimal_first : (v : ℕ) → 1 ≤ v → 48 < get_or (decimal_of v) 0 0
 decimal_first =
@@ -198,7 +197,7 @@ no_leading_zero v =
     (λ low. rw (decimal_one v low))
     (le_or 10 v)
 
-pub number_decimal : (v : ℕ) → v ≤ 9999999 → number_of (decimal_of v) ≡ Is v
+pub number_decimal : (v : ℕ) → v ≤ 9999999 → number_of (decimal_of v) ≡ Some v
 unfolding number_of
 number_decimal v h =
     rw (le-leb 1 _ (decimal_some v), le-leb _ 7 (decimal_seven v h), no_leading_zero v) (digits_decimal v)

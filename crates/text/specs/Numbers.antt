@@ -1,9 +1,7 @@
 -- Numbers in decimal.
 -- Assumes nothing.
-use Rattle.std.specs.Prelude.{Bool, true, false, not, cond, ◌&&◌, List, [], ◌∷◌, ◌++◌, ℕ, zero, suc, ◌+◌, ◌-◌, ◌*◌, ◌/◌, ◌%◌, leb, ltb, eqb, length, get_or, drop}
+use Rattle.std.specs.Prelude.{Bool, true, false, not, cond, ◌&&◌, List, [], ◌∷◌, ◌++◌, ℕ, zero, suc, ◌+◌, ◌-◌, ◌*◌, ◌/◌, ◌%◌, leb, ltb, eqb, length, get_or, drop, Option, Some, None}
 use Rattle.lists.specs.Pads.{pad}
-use Rattle.text.specs.declared.Parsed.{Parsed}
-use Rattle.text.specs.declared.Parsed.TheVariants.{Is, Not}
 use Rattle.text.specs.declared.Numbers.{Numbers}
 use Rattle.text.specs.Fields.{fields_of}
 
@@ -11,9 +9,9 @@ abbrev pub is_digit : ℕ → Bool
 is_digit b = leb 48 b && leb b 57
 
 -- the value of digits that stand after a value v
-unfoldable pub digits_from : ℕ → List ℕ → Parsed
-digits_from v [] = Is v
-digits_from v (b ∷ bs) = cond (is_digit b) (digits_from (v * 10 + (b - 48)) bs) Not
+unfoldable pub digits_from : ℕ → List ℕ → Option ℕ
+digits_from v [] = Some v
+digits_from v (b ∷ bs) = cond (is_digit b) (digits_from (v * 10 + (b - 48)) bs) None
 
 abbrev pub leading_zero : List ℕ → Bool
 leading_zero s = ltb 1 (length s) && eqb (get_or s 0 0) 48
@@ -22,13 +20,13 @@ abbrev pub good_form : List ℕ → Bool
 good_form s = leb 1 (length s) && leb (length s) 7 && not (leading_zero s)
 
 -- document 01: "Numbers have 1 to 7 digits, no leading zero but 0 itself."
-unfoldable pub number_of : List ℕ → Parsed
-number_of s = cond (good_form s) (digits_from 0 s) Not
+unfoldable pub number_of : List ℕ → Option ℕ
+number_of s = cond (good_form s) (digits_from 0 s) None
 
 -- the numbers in fields up to the first that is none, n at most
-abbrev pub before : Parsed → List ℕ → List ℕ
-before (Is v) vs = v ∷ vs
-before Not vs = []
+abbrev pub before : Option ℕ → List ℕ → List ℕ
+before (Some v) vs = v ∷ vs
+before None vs = []
 
 unfoldable pub leading : ℕ → List (List ℕ) → List ℕ
 leading zero fs = []

@@ -75,34 +75,27 @@ pub fn field_count(line: &[u8]) -> usize
     n
 }
 
-// What a part says as a number.
-#[derive(Clone, Copy)]
-pub enum Parsed {
-    Is(u32),
-    Not,
-}
-
 // One to seven digits, with no leading zero but 0 itself.
-pub fn number(part: &[u8]) -> Parsed
+pub fn number(part: &[u8]) -> Option<u32>
     ensures { result ≡ number_of part.now }
 {
     let n = part.len();
     if n < 1 {
-        return Parsed::Not;
+        return None;
     }
     if 7 < n {
-        return Parsed::Not;
+        return None;
     }
     if 1 < n {
         if part[0] == 48 {
-            return Parsed::Not;
+            return None;
         }
     }
     digits(part)
 }
 
-// The value of at most seven digits, or Not where a byte is no digit.
-fn digits(part: &[u8]) -> Parsed
+// The value of at most seven digits, or none where a byte is no digit.
+fn digits(part: &[u8]) -> Option<u32>
     requires { length part.now ≤ 7 }
     ensures { result ≡ digits_from 0 part.now }
 {
@@ -111,15 +104,15 @@ fn digits(part: &[u8]) -> Parsed
     while i < part.len() {
         let b = part[i];
         if b < 48 {
-            return Parsed::Not;
+            return None;
         }
         if 57 < b {
-            return Parsed::Not;
+            return None;
         }
         v = v * 10 + ((b - 48) as u32);
         i += 1;
     }
-    Parsed::Is(v)
+    Some(v)
 }
 
 // Numbers in order; the places past the count are 0.
@@ -140,7 +133,7 @@ pub fn field_numbers(line: &[u8], k: usize) -> Numbers
         let rest = &line[start..];
         let part = field(rest, 0);
         let said = number(part);
-        let Parsed::Is(v) = said else {
+        let Some(v) = said else {
             return Numbers {
                 count: count,
                 values: values,
@@ -164,20 +157,20 @@ pub fn field_numbers(line: &[u8], k: usize) -> Numbers
 }
 
 // The one capital letter that a part is, as its byte.
-pub fn capital(part: &[u8]) -> Parsed
+pub fn capital(part: &[u8]) -> Option<u32>
     ensures { result ≡ capital_of part.now }
 {
     if part.len() != 1 {
-        return Parsed::Not;
+        return None;
     }
     let byte = part[0];
     if byte < 65 {
-        return Parsed::Not;
+        return None;
     }
     if 90 < byte {
-        return Parsed::Not;
+        return None;
     }
-    Parsed::Is(byte as u32)
+    Some(byte as u32)
 }
 
 // Whether a part is this word.
@@ -228,7 +221,7 @@ fn field_at(text: &[u8], from: usize) -> &[u8]
 // What a field says, and where it ends.
 #[derive(Clone, Copy)]
 pub struct ReadField {
-    pub said: Parsed,
+    pub said: Option<u32>,
     pub end: usize,
 }
 
@@ -276,7 +269,7 @@ pub fn number_after(text: &[u8], end: usize) -> ReadField
         return number_at(text, end + 1);
     }
     ReadField {
-        said: Parsed::Not,
+        said: None,
         end: end,
     }
 }
@@ -289,7 +282,7 @@ pub fn capital_after(text: &[u8], end: usize) -> ReadField
         return capital_at(text, end + 1);
     }
     ReadField {
-        said: Parsed::Not,
+        said: None,
         end: end,
     }
 }

@@ -47,13 +47,13 @@ returns-in_default c =
 pub returns-then-kept-lt4 : goal.returns-then-kept-lt4
 unfolding record_from
 returns-then-kept-lt4 c =
-    rw (le-leb 3 _ c.if-first-lt3.false, sym c.names_state.ensures ∙ c.if-names_state.true, le-leb 3 _ c.if-times-lt3.false, c.in-Is.is, lt-leb 4 _ c.if-kept-lt4.true)
+    rw (le-leb 3 _ c.if-first-lt3.false, sym c.names_state.ensures ∙ c.if-names_state.true, le-leb 3 _ c.if-times-lt3.false, c.in-Some.is, lt-leb 4 _ c.if-kept-lt4.true)
 
 -- src/lib.rt:81:13
 pub returns-then-is_beyond : goal.returns-then-is_beyond
 unfolding record_from
 returns-then-is_beyond c =
-    rw (le-leb 3 _ c.if-first-lt3.false, sym c.names_state.ensures ∙ c.if-names_state.true, le-leb 3 _ c.if-times-lt3.false, c.in-Is.is, le-leb 4 _ c.if-kept-lt4.false, sym c.is_beyond.ensures ∙ c.if-is_beyond.true)
+    rw (le-leb 3 _ c.if-first-lt3.false, sym c.names_state.ensures ∙ c.if-names_state.true, le-leb 3 _ c.if-times-lt3.false, c.in-Some.is, le-leb 4 _ c.if-kept-lt4.false, sym c.is_beyond.ensures ∙ c.if-is_beyond.true)
 
 -- src/lib.rt:86:20
 pub overflow_cast-result : goal.overflow_cast-result
@@ -71,7 +71,7 @@ overflow_cast-result-then-names_state-2 c = omega (arith, within c)
 pub returns-then-names_state : goal.returns-then-names_state
 unfolding record_from
 returns-then-names_state c =
-    rw (le-leb 3 _ c.if-first-lt3.false, sym c.names_state.ensures ∙ c.if-names_state.true, le-leb 3 _ c.if-times-lt3.false, c.in-Is.is, le-leb 4 _ c.if-kept-lt4.false, sym c.is_beyond.ensures ∙ c.if-is_beyond.false, c.of_letter-tenant.ensures)
+    rw (le-leb 3 _ c.if-first-lt3.false, sym c.names_state.ensures ∙ c.if-names_state.true, le-leb 3 _ c.if-times-lt3.false, c.in-Some.is, le-leb 4 _ c.if-kept-lt4.false, sym c.is_beyond.ensures ∙ c.if-is_beyond.false, c.of_letter-tenant.ensures)
 
 -- src/lib.rt:61:1
 pub returns : goal.returns

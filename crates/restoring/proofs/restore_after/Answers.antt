@@ -7,10 +7,10 @@ use Rattle.restoring.proofs.restore_after.Goals as goal
 pub read_records-requires : goal.read_records-requires
 read_records-requires c = (c.requires, empty_slots _ _ _ _ c.empty-d.ensures)
 
-pub returns-in-Opens : goal.returns-in-Opens
-returns-in-Opens c =
+pub returns-in-Some : goal.returns-in-Some
+returns-in-Some c =
     let x = c.read_records.result in
-    rw c.in-Opens.is (c.judge.ensures ∙ judged_is c.args.text.now c.args.from _ x.lines _ x.scheduler c.empty-d.ensures c.read_records.ensures)
+    rw c.in-Some.is (c.judge.ensures ∙ judged_is c.args.text.now c.args.from _ x.lines _ x.scheduler c.empty-d.ensures c.read_records.ensures)
 
-pub returns-in-Malformed : goal.returns-in-Malformed
-returns-in-Malformed c = rw c.in-Malformed.is c.refused.ensures
+pub returns-in-None : goal.returns-in-None
+returns-in-None c = rw c.in-None.is c.refused.ensures

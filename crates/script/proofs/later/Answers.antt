@@ -81,27 +81,27 @@ passes c =
 call-turn : (c : After-put_answer-end)
     → Turned page_bytes (piece_of c.args.script.now (going c.loop-end.at (c.loop-end.steps - c.if-steps-gt0.minutes) (passed_over c.loop-end.d c.if-steps-gt0.minutes))) c.loop-end.page c.loop-end.end c.put_answer-end.new.page c.put_answer-end.result (going c.next_turn-next.result.at c.next_turn-next.result.steps c.call-kept.result.outcome.scheduler)
 call-turn c =
-    call_turned _ _ _ _ _ c.next_turn-next.ensures _ c.in-Asks.is _
+    call_turned _ _ _ _ _ c.next_turn-next.ensures _ c.in-Some.is _
     c.in-Call.is _ c.call-kept.ensures.0 c.put_answer-end.ensures
 
 wait-turn : (c : Then-is_none)
     → Turned page_bytes (piece_of c.args.script.now (going c.loop-end.at (c.loop-end.steps - c.if-steps-gt0.minutes) (passed_over c.loop-end.d c.if-steps-gt0.minutes))) c.loop-end.page c.loop-end.end c.loop-end.page c.loop-end.end (going c.next_turn-next.result.at c.in-Wait.n (passed_over c.loop-end.d c.if-steps-gt0.minutes))
 wait-turn c =
-    wait_turned _ _ _ _ _ c.next_turn-next.ensures _ c.in-Asks.is _
+    wait_turned _ _ _ _ _ c.next_turn-next.ensures _ c.in-Some.is _
     c.in-Wait.is _ c.wait_refusal-reason.ensures _ _
     (sym c.is_none.ensures ∙ c.if-is_none.true)
 
 refused-turn : (c : After-put_refusal-end)
     → Turned page_bytes (piece_of c.args.script.now (going c.loop-end.at (c.loop-end.steps - c.if-steps-gt0.minutes) (passed_over c.loop-end.d c.if-steps-gt0.minutes))) c.loop-end.page c.loop-end.end c.put_refusal-end.new.page c.put_refusal-end.result (going c.next_turn-next.result.at c.next_turn-next.result.steps (passed_over c.loop-end.d c.if-steps-gt0.minutes))
 refused-turn c =
-    refused_turned _ _ _ _ _ c.next_turn-next.ensures _ c.in-Asks.is _
+    refused_turned _ _ _ _ _ c.next_turn-next.ensures _ c.in-Some.is _
     c.in-Wait.is _ c.wait_refusal-reason.ensures
     (sym c.is_none.ensures ∙ c.if-is_none.false)
     c.put_refusal-end.ensures
 
 lacks-turn : (c : After-put_refusal-end-in-Malformed)
     → Turned page_bytes (piece_of c.args.script.now (going c.loop-end.at (c.loop-end.steps - c.if-steps-gt0.minutes) (passed_over c.loop-end.d c.if-steps-gt0.minutes))) c.loop-end.page c.loop-end.end c.put_refusal-end-in-Malformed.new.page c.put_refusal-end-in-Malformed.result (going c.next_turn-next.result.at c.next_turn-next.result.steps (passed_over c.loop-end.d c.if-steps-gt0.minutes))
-lacks-turn c = lacks_turned _ _ _ _ _ c.next_turn-next.ensures _ c.in-Asks.is
+lacks-turn c = lacks_turned _ _ _ _ _ c.next_turn-next.ensures _ c.in-Some.is
     c.in-Malformed.is c.put_refusal-end-in-Malformed.ensures
 
 -- the slots of the scheduler are 64
@@ -225,14 +225,14 @@ loop-end-smaller c = omega (arith, filling_less (quiet-filling (goal.at.loop-end
 pub loop-end-preserved : goal.loop-end-preserved
 loop-end-preserved c = (filling_more (quiet-filling (goal.at.loop-end-preserved c).Joined-steps-gt0) (omega arith) (lacks-turn (goal.at.loop-end-preserved c).After-put_refusal-end-in-Malformed) (room (goal.at.loop-end-preserved c).In-loop-end), kept-over (goal.at.loop-end-preserved c).Joined-minutes-gt0 (ahead (goal.at.loop-end-preserved c).Joined-steps-gt0))
 
-pub shape_of-page-in-Over : goal.shape_of-page-in-Over
-shape_of-page-in-Over c = c.loop-end.invariant.0.whole
+pub shape_of-page-in-None : goal.shape_of-page-in-None
+shape_of-page-in-None c = c.loop-end.invariant.0.whole
 
-pub returns-in-Over : goal.returns-in-Over
-returns-in-Over c =
+pub returns-in-None : goal.returns-in-None
+returns-in-None c =
     filled_as c.requires.1
-    (filled_over (filling_more (quiet-filling (goal.at.returns-in-Over c).Joined-steps-gt0) (omega arith) (over_turned _ _ _ _ _ c.next_turn-next.ensures _ _ c.in-Over.is)
-    (room (goal.at.returns-in-Over c).In-loop-end)) refl)
+    (filled_over (filling_more (quiet-filling (goal.at.returns-in-None c).Joined-steps-gt0) (omega arith) (over_turned _ _ _ _ _ c.next_turn-next.ensures _ _ c.in-None.is)
+    (room (goal.at.returns-in-None c).In-loop-end)) refl)
 
 pub shape_of-page : goal.shape_of-page
 shape_of-page c = c.loop-end.invariant.0.whole

@@ -12,4 +12,4 @@ returns-in_default c =
 pub returns : goal.returns
 returns c =
     let r = c.number_after-a.ensures in
-    up_to_next _ r (last (λ t. ask (depart c.args.how t))) c.in-Is.is (up_to_end _ _ _ (r.ends _ c.in-Is.is))
+    up_to_next _ r (last (λ t. ask (depart c.args.how t))) c.in-Some.is (up_to_end _ _ _ (r.ends _ c.in-Some.is))

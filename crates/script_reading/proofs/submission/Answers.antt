@@ -10,21 +10,21 @@ returns-in_default c = up_to_nothing _ c.number_after-a.ensures nodes_with c.in_
 
 pub returns-in_default-second : goal.returns-in_default-second
 returns-in_default-second c =
-    up_to_next _ c.number_after-a.ensures nodes_with c.in-Is.is
-    (up_to_nothing _ c.number_after-b.ensures (minutes_with c.in-Is.nodes) c.in_default-second.is)
+    up_to_next _ c.number_after-a.ensures nodes_with c.in-Some.is
+    (up_to_nothing _ c.number_after-b.ensures (minutes_with c.in-Some.nodes) c.in_default-second.is)
 
 pub returns-in_default-house : goal.returns-in_default-house
 returns-in_default-house c =
-    up_to_next _ c.number_after-a.ensures nodes_with c.in-Is.is
-    (up_to_next _ c.number_after-b.ensures (minutes_with c.in-Is.nodes) c.in-Is-second.is
+    up_to_next _ c.number_after-a.ensures nodes_with c.in-Some.is
+    (up_to_next _ c.number_after-b.ensures (minutes_with c.in-Some.nodes) c.in-Some-second.is
     (up_to_as _ (by_number _ _ _ (sym c.capital_after-h.ensures.says ∙ c.in_default-house.is)) c.submission_between.ensures))
 
 pub returns : goal.returns
 returns c =
     let r = c.capital_after-h.ensures in
     rw c.order.ensures
-    (up_to_next _ c.number_after-a.ensures nodes_with c.in-Is.is
-    (up_to_next _ c.number_after-b.ensures (minutes_with c.in-Is.nodes) c.in-Is-second.is
-    (up_to_as _ (by_letter _ _ _ (sym r.says ∙ c.in-Is-house.is))
-    (up_to_next _ r (last (order_for c.in-Is.nodes 0 c.in-Is-second.minutes)) c.in-Is-house.is
-    (up_to_end _ _ _ (r.ends _ c.in-Is-house.is))))))
+    (up_to_next _ c.number_after-a.ensures nodes_with c.in-Some.is
+    (up_to_next _ c.number_after-b.ensures (minutes_with c.in-Some.nodes) c.in-Some-second.is
+    (up_to_as _ (by_letter _ _ _ (sym r.says ∙ c.in-Some-house.is))
+    (up_to_next _ r (last (order_for c.in-Some.nodes 0 c.in-Some-second.minutes)) c.in-Some-house.is
+    (up_to_end _ _ _ (r.ends _ c.in-Some-house.is))))))

@@ -12,13 +12,13 @@ returns-in_default c =
 pub returns-in_default-house : goal.returns-in_default-house
 returns-in_default-house c =
     let o = c.args in
-    up_to_next _ c.number_after-a.ensures (letter_with o.nodes o.least) c.in-Is.is
-    (up_to_nothing _ c.capital_after-h.ensures (last (order_for o.nodes o.least c.in-Is.most)) c.in_default-house.is)
+    up_to_next _ c.number_after-a.ensures (letter_with o.nodes o.least) c.in-Some.is
+    (up_to_nothing _ c.capital_after-h.ensures (last (order_for o.nodes o.least c.in-Some.most)) c.in_default-house.is)
 
 pub returns : goal.returns
 returns c =
     let o = c.args in
     let r = c.capital_after-h.ensures in
     rw c.order.ensures
-    (up_to_next _ c.number_after-a.ensures (letter_with o.nodes o.least) c.in-Is.is
-    (up_to_next _ r (last (order_for o.nodes o.least c.in-Is.most)) c.in-Is-house.is (up_to_end _ _ _ (r.ends _ c.in-Is-house.is))))
+    (up_to_next _ c.number_after-a.ensures (letter_with o.nodes o.least) c.in-Some.is
+    (up_to_next _ r (last (order_for o.nodes o.least c.in-Some.most)) c.in-Some-house.is (up_to_end _ _ _ (r.ends _ c.in-Some-house.is))))

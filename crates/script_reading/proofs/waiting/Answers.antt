@@ -11,4 +11,4 @@ returns-in_default c = up_to_nothing _ c.number_after-a.ensures (last wait) c.in
 pub returns : goal.returns
 returns c =
     let r = c.number_after-a.ensures in
-    up_to_next _ r (last wait) c.in-Is.is (up_to_end _ _ _ (r.ends _ c.in-Is.is))
+    up_to_next _ r (last wait) c.in-Some.is (up_to_end _ _ _ (r.ends _ c.in-Some.is))

@@ -8,14 +8,14 @@ use Rattle.script_turns.proofs.open.Goals as goal
 
 pub returns-then-is_none : goal.returns-then-is_none
 returns-then-is_none c =
-    turned_as (opening_takes _ starts _ _ _ _ c.in-Opens.is c.open-opened.ensures
+    turned_as (opening_takes _ starts _ _ _ _ c.in-Some.is c.open-opened.ensures
     (sym c.is_none.ensures ∙ c.if-is_none.true)) (turned_none _ _ _ _)
 
 pub returns-else-is_none : goal.returns-else-is_none
 returns-else-is_none c =
-    turned_as (opening_refuses _ starts _ _ _ _ c.in-Opens.is
+    turned_as (opening_refuses _ starts _ _ _ _ c.in-Some.is
     c.open-opened.ensures
     (sym c.is_none.ensures ∙ c.if-is_none.false)) c.refuse.ensures
 
-pub returns-in-Malformed : goal.returns-in-Malformed
-returns-in-Malformed c = turned_as (opening_lacks _ starts _ _ c.in-Malformed.is) c.refuse-in-Malformed.ensures
+pub returns-in-None : goal.returns-in-None
+returns-in-None c = turned_as (opening_lacks _ starts _ _ c.in-None.is) c.refuse-in-None.ensures

@@ -1,5 +1,6 @@
 -- `text::field_numbers` meets its contract: the numbers kept, and then those in the fields from `start` on, are all.
 -- Assumes nothing.
+use Rattle.std.specs.Prelude.{Some, None}
 use mathlib.Core.Path.{◌≡◌, refl, ap, sym, ◌∙◌}
 use mathlib.Core.List.{List, [], ◌∷◌, ◌++◌, append-nil, append_assoc}
 use Prim.Native.Nat.{ℕ, suc, ◌+◌, ◌-◌, ◌≤◌, ◌<◌}
@@ -7,7 +8,6 @@ use native.Mathlib.Omega.{arith}
 use lib.ListN.{length, drop, set, length-append, length-drop}
 use lib.Seq.{drop-drop, take_all}
 use Rattle.lists.specs.Pads.{pad, pad_push}
-use Rattle.text.specs.declared.Parsed.TheVariants.{Is, Not}
 use Rattle.text.specs.declared.Numbers.{Numbers}
 use Rattle.text.specs.Fields.{fields_of, field_of}
 use Rattle.text.specs.Prefixes.{upto_le}
@@ -15,7 +15,7 @@ use Rattle.text.specs.FieldLaws.{fields_first}
 use Rattle.text.specs.Numbers.{number_of, numbers_from, leading}
 use Rattle.text.specs.LeadingLaws.{leading_empty, next_not, next_last, next_more}
 use Rattle.text.proofs.field_numbers.Invariants.{Inv}
-use Rattle.text.proofs.field_numbers.Goals.{After-field-part, In-Is}
+use Rattle.text.proofs.field_numbers.Goals.{After-field-part, In-Some}
 use Rattle.text.proofs.field_numbers.Goals as goal
 
 -- once the kept ones are all
@@ -34,7 +34,7 @@ module _ {line : List ℕ} {k : ℕ} {values : List ℕ} {count start : ℕ} (v 
     one_more : 8 - count ≡ suc (8 - (count + 1))
     one_more = omega arith
 
-    not-next : number_of (field_of (drop start line) 0) ≡ Not → ◌≡◌ {A = Numbers} (record { count = count; values = values }) (numbers_from line k)
+    not-next : number_of (field_of (drop start line) 0) ≡ None → ◌≡◌ {A = Numbers} (record { count = count; values = values }) (numbers_from line k)
     not-next e = done (rw one_more (next_not (8 - (count + 1)) (drop start line) e))
 
     module _ (n : ℕ) where
@@ -49,7 +49,7 @@ module _ {line : List ℕ} {k : ℕ} {values : List ℕ} {count start : ℕ} (v 
           → (v.kept ++ (n ∷ [])) ++ rest ≡ leading 8 (drop k (fields_of line))
       more-all rest e = append_assoc v.kept (n ∷ []) rest ∙ ap (λ (l : List ℕ). v.kept ++ l) (sym e) ∙ v.all
 
-      module _ (is : number_of (field_of (drop start line) 0) ≡ Is n) where
+      module _ (is : number_of (field_of (drop start line) 0) ≡ Some n) where
         last : start + length (field_of (drop start line) 0) ≡ length line → ◌≡◌ {A = Numbers} (record { count = count + 1; values = set values count n }) (numbers_from line k)
         last end =
             let e : length (field_of (drop start line) 0) ≡ length (drop start line) = omega (arith, length-drop start line) in
@@ -92,9 +92,9 @@ part-ends c =
     let inside = c.loop-count.invariant.inside in
     omega (arith, ap length (part_is c), field_le (drop (start c) (line c)), length-drop (start c) (line c))
 
-is-next : (c : In-Is) → c.field-part.result.now ≡ field_of (drop c.loop-count.start c.args.line.now) 0
-    → number_of (field_of (drop c.loop-count.start c.args.line.now) 0) ≡ Is c.in-Is.v
-is-next c e = ap number_of (sym e) ∙ sym c.number-said.ensures ∙ c.in-Is.is
+is-next : (c : In-Some) → c.field-part.result.now ≡ field_of (drop c.loop-count.start c.args.line.now) 0
+    → number_of (field_of (drop c.loop-count.start c.args.line.now) 0) ≡ Some c.in-Some.v
+is-next c e = ap number_of (sym e) ∙ sym c.number-said.ensures ∙ c.in-Some.is
 
 pub loop-count-init : goal.loop-count-init
 unfolding pad
@@ -113,7 +113,7 @@ overflow_add-end c = omega (arith, part-ends (goal.at.overflow_add-end c).After-
 
 pub returns-then-end-line : goal.returns-then-end-line
 returns-then-end-line c =
-    last c.loop-count.invariant (omega arith) _ (is-next (goal.at.returns-then-end-line c).In-Is (part_is (goal.at.returns-then-end-line c).After-field-part)) (omega (arith, ap length (part_is (goal.at.returns-then-end-line c).After-field-part)))
+    last c.loop-count.invariant (omega arith) _ (is-next (goal.at.returns-then-end-line c).In-Some (part_is (goal.at.returns-then-end-line c).After-field-part)) (omega (arith, ap length (part_is (goal.at.returns-then-end-line c).After-field-part)))
 
 pub overflow_add-start : goal.overflow_add-start
 overflow_add-start c = omega (arith, part-ends (goal.at.overflow_add-start c).After-field-part)
@@ -121,7 +121,7 @@ overflow_add-start c = omega (arith, part-ends (goal.at.overflow_add-start c).Af
 pub loop-count-preserved : goal.loop-count-preserved
 loop-count-preserved c =
     let end = part-ends (goal.at.loop-count-preserved c).After-field-part in
-    rw (part_is (goal.at.loop-count-preserved c).After-field-part) (more c.loop-count.invariant (omega arith) _ (is-next (goal.at.loop-count-preserved c).In-Is (part_is (goal.at.loop-count-preserved c).After-field-part)) (omega (arith, ap length (part_is (goal.at.loop-count-preserved c).After-field-part))))
+    rw (part_is (goal.at.loop-count-preserved c).After-field-part) (more c.loop-count.invariant (omega arith) _ (is-next (goal.at.loop-count-preserved c).In-Some (part_is (goal.at.loop-count-preserved c).After-field-part)) (omega (arith, ap length (part_is (goal.at.loop-count-preserved c).After-field-part))))
 
 pub returns : goal.returns
 unfolding leading
