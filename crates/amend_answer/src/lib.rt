@@ -26,16 +26,17 @@ pub fn both(withdrawal: Answer, submission: Answer) -> Answer
     requires { Replies withdrawal submission }
     ensures { (q : Replies withdrawal submission) → result ≡ answer (answered_both q.first q.second) }
 {
-    let from = if withdrawal.head == 0 {
-        submission
-    } else {
-        withdrawal
-    };
-    Answer {
+    let answer = Answer {
         ended: Tickets::none(),
         started: joined(withdrawal.started, submission.started),
-        head: from.head,
-        forecast: from.forecast,
         ..submission
+    };
+    if withdrawal.head == 0 {
+        return answer;
+    }
+    Answer {
+        head: withdrawal.head,
+        forecast: withdrawal.forecast,
+        ..answer
     }
 }
