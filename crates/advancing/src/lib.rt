@@ -30,11 +30,8 @@ fn quiet_for(d: Scheduler, minutes: u32) -> u32
     ensures { QuietFor d minutes result }
 {
     let mut until = d.clock + minutes;
-    let mut i: usize = 0;
-    while i < Scheduler::LIVE {
-        let j = d.jobs[i];
+    for &j in &d.jobs {
         until = quiet_minutes::quiet_of(j, d.settings, d.clock, until);
-        i += 1;
     }
     until - d.clock
 }
@@ -45,27 +42,26 @@ fn pass(d: Scheduler, minutes: u32) -> AdvanceOutcome
     ensures { result ≡ advances d minutes }
 {
     let quiet = quiet_for(d, minutes);
-    let mut e = d;
-    e.clock = d.clock + quiet;
+    let passed = Scheduler {
+        clock: d.clock + quiet,
+        ..d
+    };
     if quiet < minutes {
-        let o = calls::tick(e);
-        let answer = o.answer;
-        let scheduler = o.scheduler;
+        let o = calls::tick(passed);
         return AdvanceOutcome {
             answer: Advanced {
-                answer: answer,
+                answer: o.answer,
                 minutes: quiet + 1,
             },
-            scheduler: scheduler,
+            scheduler: o.scheduler,
         };
     }
-    let nothing = Answer::refused(Refusal::None);
     AdvanceOutcome {
         answer: Advanced {
-            answer: nothing,
+            answer: Answer::refused(Refusal::None),
             minutes: quiet,
         },
-        scheduler: e,
+        scheduler: passed,
     }
 }
 
@@ -78,10 +74,9 @@ pub fn advance(d: Scheduler, minutes: u32) -> AdvanceOutcome
     if refusal.is_none() {
         return pass(d, minutes);
     }
-    let refused = Answer::refused(refusal);
     AdvanceOutcome {
         answer: Advanced {
-            answer: refused,
+            answer: Answer::refused(refusal),
             minutes: 0,
         },
         scheduler: d,

@@ -51,6 +51,10 @@ module _ {first second : Tickets} (l : Lists first second) where
   unfolding tickets
   counts = omega (arith, l.few, ap (λ (t : Tickets). t.count) l.first_is, ap (λ (t : Tickets). t.count) l.second_is)
 
+  pub whole : length first.list ≡ slots
+  unfolding tickets
+  whole = ap (λ (t : Tickets). length t.list) l.first_is ∙ length_pad slots 0 l.before (omega (arith, l.few))
+
   -- each has its places
   pub room : (first.count ≤ length first.list) × (second.count ≤ length second.list)
   unfolding tickets

@@ -14,17 +14,10 @@ fn joined(first: Tickets, second: Tickets) -> Tickets
     requires { Lists first second }
     ensures { (l : Lists first second) → result ≡ tickets (l.before ++ l.after) }
 {
-    let start = first.count;
+    let count = first.count + second.count;
     let mut list = first.list;
-    let mut i: usize = 0;
-    while i < second.count {
-        list[start + i] = second.list[i];
-        i += 1;
-    }
-    Tickets {
-        count: start + i,
-        list: list,
-    }
+    list[first.count..count].copy_from_slice(&second.list[..second.count]);
+    Tickets { count, list }
 }
 
 // One answer for a withdrawal and a submission: the submission's. The tickets that the withdrawal started stand first, and a head that the
@@ -33,23 +26,17 @@ pub fn both(withdrawal: Answer, submission: Answer) -> Answer
     requires { Replies withdrawal submission }
     ensures { (q : Replies withdrawal submission) → result ≡ answer (answered_both q.first q.second) }
 {
-    let refusal = submission.refusal;
-    let none = Tickets::none();
-    let started = joined(withdrawal.started, submission.started);
-    let mut head = withdrawal.head;
-    let mut forecast = withdrawal.forecast;
-    if head == 0 {
-        head = submission.head;
-        forecast = submission.forecast;
+    let answer = Answer {
+        ended: Tickets::none(),
+        started: joined(withdrawal.started, submission.started),
+        ..submission
+    };
+    if withdrawal.head == 0 {
+        return answer;
     }
     Answer {
-        refusal: refusal,
-        ticket: submission.ticket,
-        promise: submission.promise,
-        reads: submission.reads,
-        ended: none,
-        started: started,
-        head: head,
-        forecast: forecast,
+        head: withdrawal.head,
+        forecast: withdrawal.forecast,
+        ..answer
     }
 }

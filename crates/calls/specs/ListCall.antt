@@ -2,9 +2,11 @@
 -- "the lent list, page or text is shorter than what goes into it"; "Places past the last point (or past the end of what is written in a lent text)
 -- keep what they held"; "A refusal gives .. any lent list unchanged".
 -- Assumes nothing.
-use Rattle.std.specs.Prelude.{◌≡◌, false, cond, List, [], ◌∷◌, ◌++◌, ℕ, ◌≤◌, ltb, get_or, drop}
+use Rattle.std.specs.Prelude.{◌≡◌, false, cond, List, [], ◌∷◌, ◌++◌, ℕ, ◌≤◌, ◌<◌, ltb, get_or, drop}
 use Rattle.std.proofs.Common.{sym, arith, ltb-false}
+use borrow.Author.Tests.{lt-ltb, le-ltb}
 use Rattle.std.proofs.Math.ListN.{length, get_or-eq_default}
+use Rattle.lists.specs.Pads.{pad}
 use Rattle.lists.specs.Tests.{case}
 use Rattle.scheduler.specs.declared.Kind.{Kind}
 use Rattle.scheduler.specs.declared.Kind.TheVariants.{Conservative, Easy}
@@ -14,6 +16,7 @@ use Rattle.scheduler.specs.declared.Scheduler.{Scheduler}
 use Rattle.scheduler.specs.Model.{Model, view}
 use Rattle.scheduler.specs.Answers.{accepts, verdict}
 use Rattle.calls.specs.declared.Shown.{Shown}
+use Rattle.calls.specs.declared.Listing.{Listing}
 
 module _ {A : Type 0} where
   -- elements written over the front of a list
@@ -54,6 +57,32 @@ module _ {A : Type 0} (items : Model → List A) where
   pub written_fit : (m : Model) (room : ℕ) → length (written m room) ≤ room
   unfolding written verdict
   written_fit m room = let n = length (items m) in case (ltb room n) (λ e. rw e (omega arith)) (λ e. rw e (ltb-false room n e))
+
+-- ## By value, in an array of n places
+
+module _ {A : Type 0} (n : ℕ) (blank : A) where
+  -- a refusal and the elements that are written
+  unfoldable pub listing : Refusal → List A → Listing A n
+  listing r xs = record { count = length xs; answer = record { refusal = r; count = length xs }; items = pad n blank xs }
+
+  -- all the elements that an array has, or a refusal
+  unfoldable pub listed_in : List A → ℕ → ℕ → Listing A n
+  listed_in items count room =
+      cond (ltb room count) (listing refusal.TooShort [])
+      (record { count = count; answer = record { refusal = refusal.None; count = count }; items = items })
+
+  pub none_listed : (items : List A) (count room : ℕ) → room < count → listing refusal.TooShort [] ≡ listed_in items count room
+  unfolding listed_in
+  none_listed items count room h = rw (lt-ltb room count h)
+
+  pub all_listed : (items : List A) (count room : ℕ) → count ≤ room
+      → ◌≡◌ {A = Listing A n} (record { count = count; answer = record { refusal = refusal.None; count = count }; items = items }) (listed_in items count room)
+  unfolding listed_in
+  all_listed items count room h = rw (le-ltb room count h)
+
+-- in a place, and blank past the last one
+abbrev pub item_at : {A : Type 0} {n : ℕ} → Listing A n → A → ℕ → A
+item_at p blank i = get_or p.items i blank
 
 -- ## Elements that a conservative scheduler has, and EASY does not. Document 01: "The Loose Desk has no profile."
 

@@ -1,9 +1,9 @@
 -- What a profile call gives, by the kind of the scheduler. Document 01: "The first is now; then every later minute whose free nodes differ
 -- from those of the minute before".
 -- Assumes nothing.
-use Rattle.std.specs.Prelude.{◌≡◌, cond, List, [], ℕ, ◌≤◌, ◌<◌, ltb, length, get_or}
+use Rattle.std.specs.Prelude.{◌≡◌, List, [], ℕ, ◌≤◌, ◌<◌, ltb, length}
 use Rattle.std.proofs.Common.{arith}
-use borrow.Author.Tests.{lt-ltb, le-ltb}
+use borrow.Author.Tests.{le-ltb}
 use Rattle.lists.specs.Tests.{case}
 use Rattle.spans.specs.declared.Point.{Point}
 use Rattle.scheduler.specs.declared.Kind.TheVariants.{Conservative, Easy}
@@ -13,46 +13,42 @@ use Rattle.scheduler.specs.declared.Scheduler.{Scheduler}
 use Rattle.scheduler.specs.Model.{Model, view}
 use Rattle.scheduler.specs.Answers.{verdict}
 use Rattle.conservative_profile.specs.declared.Profile.{Profile}
-use Rattle.conservative_profile.specs.StoredProfile.{no_point, stored}
+use Rattle.conservative_profile.specs.StoredProfile.{places, no_point, stored}
 use Rattle.conservative_rules.specs.Conservative.{points}
-use Rattle.calls.specs.declared.ProfileOutcome.{ProfileOutcome}
-use Rattle.calls.specs.ListCall.{list_refusal, written, of_conservative, items_of}
+use Rattle.calls.specs.declared.Listing.{Listing}
+use Rattle.calls.specs.ListCall.{list_refusal, written, listing, listed_in, none_listed, all_listed, item_at, of_conservative, items_of}
 
 -- of a scheduler of either kind
 abbrev pub points_of : Model → List Point
 points_of m = of_conservative points m
 
 -- a refusal and the points that are written
-unfoldable pub showing : Refusal → List Point → ProfileOutcome
-showing r ps = record { count = length ps; answer = record { refusal = r; count = length ps }; points = (stored ps).points }
+abbrev pub showing : Refusal → List Point → Listing Point places
+showing r ps = listing places no_point r ps
 
-abbrev pub profile_outcome : Model → ℕ → ProfileOutcome
+abbrev pub profile_outcome : Model → ℕ → Listing Point places
 profile_outcome m room = showing (list_refusal points_of m room) (written points_of m room)
 
 -- in a place, and all zero past the last one
-abbrev pub point_at : ProfileOutcome → ℕ → Point
-point_at p i = get_or p.points i no_point
+abbrev pub point_at : Listing Point places → ℕ → Point
+point_at p i = item_at p no_point i
 
 -- ## What the code computes
 
 -- all the points of a profile, or a refusal
-unfoldable pub show_in : Profile → ℕ → ProfileOutcome
-show_in p room =
-    cond (ltb room p.count) (showing refusal.TooShort [])
-    (record { count = p.count; answer = record { refusal = refusal.None; count = p.count }; points = p.points })
+abbrev pub show_in : Profile → ℕ → Listing Point places
+show_in p room = listed_in places no_point p.points p.count room
 
 pub no_room : (p : Profile) (room : ℕ) → room < p.count → showing refusal.TooShort [] ≡ show_in p room
-unfolding show_in
-no_room p room h = rw (lt-ltb room p.count h)
+no_room p room h = none_listed places no_point p.points p.count room h
 
 pub all_shown : (p : Profile) (room : ℕ) → p.count ≤ room
-    → ◌≡◌ {A = ProfileOutcome} (record { count = p.count; answer = record { refusal = refusal.None; count = p.count }; points = p.points }) (show_in p room)
-unfolding show_in
-all_shown p room h = rw (le-ltb room p.count h)
+    → ◌≡◌ {A = Listing Point places} (record { count = p.count; answer = record { refusal = refusal.None; count = p.count }; items = p.points }) (show_in p room)
+all_shown p room h = all_listed places no_point p.points p.count room h
 
 module _ (d : Scheduler) (room : ℕ) where
   pub show_conservative : d.settings.kind ≡ Conservative → show_in (stored (points (view d))) room ≡ profile_outcome (view d) room
-  unfolding show_in showing stored written verdict
+  unfolding listed_in listing stored written verdict
   show_conservative e = rw (items_of points d Conservative e) (case (ltb room (length (points (view d)))) (λ q. rw q) (λ q. rw q))
 
   pub show_easy : d.settings.kind ≡ Easy → showing refusal.None [] ≡ profile_outcome (view d) room

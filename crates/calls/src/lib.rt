@@ -10,8 +10,9 @@ ghost use Rattle.easy_rules.specs.EarliestStart.{earliest_start};
 ghost use Rattle.guarantees.specs.Rules.{call};
 ghost use Rattle.guarantees.specs.Premise.{Premise};
 ghost use Rattle.restoring.specs.Restoring.{restoring};
-ghost use Rattle.calls.specs.ProfileCall.{showing, show_in, profile_outcome, point_at};
-ghost use Rattle.calls.specs.IndexCall.{indexing, index_in, index_outcome, block_at};
+ghost use Rattle.calls.specs.ListCall.{listing, listed_in, item_at};
+ghost use Rattle.calls.specs.ProfileCall.{profile_outcome};
+ghost use Rattle.calls.specs.IndexCall.{index_outcome};
 ghost use Rattle.calls.specs.LongestCall.{longest_of};
 ghost use Rattle.calls.specs.TextCall.{ShowsPage, ShowsText, ShowsWhy, ShowsBytes};
 ghost use Rattle.calls.specs.MigrateCall.{migrating};
@@ -20,8 +21,6 @@ ghost use Rattle.amending.specs.declared.Way.TheVariants as way;
 ghost use Rattle.amending.specs.Ways.{way_of};
 
 use amending::Way;
-use conservative_index::Blocks;
-use conservative_profile::Profile;
 use scheduler::{
     Amendment, Departure, Earliest, Inquiry, Kind, Longest, Opened, Outcome, Refusal, Request,
     Scheduler, Submission,
@@ -33,9 +32,7 @@ pub fn call(d: Scheduler, request: Request) -> Outcome
     requires { Premise d }
     ensures { result ≡ outcome (call (view d) (calls.asked request)) }
 {
-    let settings = d.settings;
-    let kind = settings.kind;
-    match kind {
+    match d.settings.kind {
         Kind::Conservative => conservative::call(d, request),
         Kind::Easy => easy::call(d, request),
     }
@@ -70,9 +67,7 @@ fn amend_in_place(d: Scheduler, a: Amendment) -> Outcome
     requires { Premise d }
     ensures { result ≡ outcome (call (view d) (calls.amend a)) }
 {
-    let settings = d.settings;
-    let kind = settings.kind;
-    match kind {
+    match d.settings.kind {
         Kind::Conservative => conservative_amending::amend(d, a),
         Kind::Easy => easy_amending::amend(d, a),
     }
@@ -84,13 +79,13 @@ fn resubmit(d: Scheduler, a: Amendment, s: Submission) -> Outcome
     ensures { result ≡ amends d a }
 {
     let withdrawn = cancel(d, a.ticket);
-    let mut taken = submit(withdrawn.scheduler, s);
-    let answer = taken.answer;
-    let refusal = answer.refusal;
+    let taken = submit(withdrawn.scheduler, s);
+    let refusal = taken.answer.refusal;
     if refusal.is_none() {
-        let both = amend_answer::both(withdrawn.answer, answer);
-        taken.answer = both;
-        return taken;
+        return Outcome {
+            answer: amend_answer::both(withdrawn.answer, taken.answer),
+            ..taken
+        };
     }
     d.refused(refusal)
 }
@@ -100,8 +95,7 @@ pub fn amend(d: Scheduler, a: Amendment) -> Outcome
     requires { Premise d }
     ensures { result ≡ amends d a }
 {
-    let way = amending::way_of(d, a);
-    match way {
+    match amending::way_of(d, a) {
         Way::Refused(refusal) => d.refused(refusal),
         Way::Anew(s) => resubmit(d, a, s),
         Way::InPlace => amend_in_place(d, a),
@@ -123,118 +117,73 @@ pub struct Shown {
     pub count: usize,
 }
 
-// What a profile call gives, before it is written: how many points there are to write, the answer, and the points. The places past the
-// count are all zero.
+// What a call that fills a lent list gives, before it is written: how many items there are to write, the answer, and the items. The places past the
+// count are all blank.
 #[derive(Clone, Copy)]
-pub struct ProfileOutcome {
+pub struct Listing<T, const N: usize> {
     pub count: usize,
     pub answer: Shown,
-    pub points: [Point; 129],
+    pub items: [T; N],
 }
 
-// No point is to be written.
-fn no_points(refusal: Refusal) -> ProfileOutcome
-    ensures { result ≡ showing refusal [] }
-{
-    let nothing = Point { minute: 0, free: 0 };
-    let points = [nothing; 129];
-    let answer = Shown {
-        refusal: refusal,
-        count: 0,
-    };
-    ProfileOutcome {
-        count: 0,
-        answer: answer,
-        points: points,
+impl<T: Copy, const N: usize> Listing<T, N> {
+    // No item is to be written.
+    fn none(refusal: Refusal, blank: T) -> Listing<T, N>
+        ensures { result ≡ listing N blank refusal [] }
+    {
+        Listing {
+            count: 0,
+            answer: Shown { refusal, count: 0 },
+            items: [blank; N],
+        }
+    }
+
+    // All the items, or a refusal where there is no room for them.
+    fn within(room: usize, items: [T; N], count: usize, blank: T) -> Listing<T, N>
+        ensures { result ≡ listed_in N blank items count room }
+    {
+        if room < count {
+            return Listing::none(Refusal::TooShort, blank);
+        }
+        Listing {
+            count,
+            answer: Shown {
+                refusal: Refusal::None,
+                count,
+            },
+            items,
+        }
+    }
+
+    // The item in a place; past the last one, a blank.
+    pub fn at(self, i: usize, blank: T) -> T
+        ensures { result ≡ item_at self blank i }
+    {
+        self.items.get(i).copied().unwrap_or(blank)
     }
 }
 
-// All the points of the profile, or a refusal where there is no room for them.
-fn show(p: Profile, room: usize) -> ProfileOutcome
-    ensures { result ≡ show_in p room }
-{
-    let count = p.count;
-    if room < count {
-        return no_points(Refusal::TooShort);
-    }
-    let points = p.points;
-    let answer = Shown {
-        refusal: Refusal::None,
-        count: count,
-    };
-    ProfileOutcome {
-        count: count,
-        answer: answer,
-        points: points,
-    }
-}
+// The points of a profile.
+pub type ProfileOutcome = Listing<Point, 129>;
+
+// The blocks of an index.
+pub type IndexOutcome = Listing<Block, 9>;
+
+pub const NO_POINT: Point = Point { minute: 0, free: 0 };
+
+pub const NO_BLOCK: Block = Block { fewest: 0, most: 0 };
 
 // The free nodes from now on, for a list of `room` points. EASY has no profile: it has no point to write.
 pub fn profile(d: Scheduler, room: usize) -> ProfileOutcome
     requires { Premise d }
     ensures { result ≡ profile_outcome (view d) room }
 {
-    let settings = d.settings;
-    let kind = settings.kind;
-    match kind {
-        Kind::Conservative => show(conservative_plan::profile_of(d), room),
-        Kind::Easy => no_points(Refusal::None),
-    }
-}
-
-// The point in a place; past the last one, a point that is all zero.
-pub fn point_at(p: ProfileOutcome, i: usize) -> Point
-    ensures { result ≡ point_at p i }
-{
-    if 129 <= i {
-        return Point { minute: 0, free: 0 };
-    }
-    p.points[i]
-}
-
-// What a call for the index gives, before it is written: how many blocks there are to write, the answer, and the blocks. The places past the
-// count are all zero.
-#[derive(Clone, Copy)]
-pub struct IndexOutcome {
-    pub count: usize,
-    pub answer: Shown,
-    pub blocks: [Block; 9],
-}
-
-// No block is to be written.
-fn no_blocks(refusal: Refusal) -> IndexOutcome
-    ensures { result ≡ indexing refusal [] }
-{
-    let nothing = Block { fewest: 0, most: 0 };
-    let blocks = [nothing; 9];
-    let answer = Shown {
-        refusal: refusal,
-        count: 0,
-    };
-    IndexOutcome {
-        count: 0,
-        answer: answer,
-        blocks: blocks,
-    }
-}
-
-// All the blocks of the index, or a refusal where there is no room for them.
-fn show_blocks(p: Blocks, room: usize) -> IndexOutcome
-    ensures { result ≡ index_in p room }
-{
-    let n = p.count;
-    if room < n {
-        return no_blocks(Refusal::TooShort);
-    }
-    let blocks = p.list;
-    let answer = Shown {
-        refusal: Refusal::None,
-        count: n,
-    };
-    IndexOutcome {
-        count: n,
-        answer: answer,
-        blocks: blocks,
+    match d.settings.kind {
+        Kind::Conservative => {
+            let p = conservative_plan::profile_of(d);
+            Listing::within(room, p.points, p.count, NO_POINT)
+        }
+        Kind::Easy => Listing::none(Refusal::None, NO_POINT),
     }
 }
 
@@ -243,22 +192,13 @@ pub fn index(d: Scheduler, room: usize) -> IndexOutcome
     requires { Premise d }
     ensures { result ≡ index_outcome (view d) room }
 {
-    let settings = d.settings;
-    let kind = settings.kind;
-    match kind {
-        Kind::Conservative => show_blocks(conservative_plan::index_of(d), room),
-        Kind::Easy => no_blocks(Refusal::None),
+    match d.settings.kind {
+        Kind::Conservative => {
+            let p = conservative_plan::index_of(d);
+            Listing::within(room, p.list, p.count, NO_BLOCK)
+        }
+        Kind::Easy => Listing::none(Refusal::None, NO_BLOCK),
     }
-}
-
-// The block in a place; past the last one, a block that is all zero.
-pub fn block_at(p: IndexOutcome, i: usize) -> Block
-    ensures { result ≡ block_at p i }
-{
-    if 9 <= i {
-        return Block { fewest: 0, most: 0 };
-    }
-    p.blocks[i]
 }
 
 // The minute before which the waiting job with this ticket cannot start (document 02, No. 7: "soonest minute"), for either kind.
@@ -275,9 +215,7 @@ pub fn longest_estimate(d: Scheduler, q: Inquiry) -> Longest
     requires { Premise d }
     ensures { result ≡ longest_of (view d) q }
 {
-    let settings = d.settings;
-    let kind = settings.kind;
-    match kind {
+    match d.settings.kind {
         Kind::Conservative => longest::estimate(d, q),
         Kind::Easy => Longest {
             refusal: Refusal::None,
@@ -300,7 +238,7 @@ pub fn status_page(d: Scheduler, page: &mut [u8]) -> Shown
     let count = status_page::put_page(page, d);
     Shown {
         refusal: Refusal::None,
-        count: count,
+        count,
     }
 }
 
@@ -317,7 +255,7 @@ fn show_bytes(lent: &mut [u8], written: &[u8]) -> Shown
     let count = text::put_word(lent, 0, written);
     Shown {
         refusal: Refusal::None,
-        count: count,
+        count,
     }
 }
 
@@ -356,9 +294,7 @@ pub fn migrate(d: Scheduler) -> Scheduler
     requires { Premise d }
     ensures { result ≡ migrating d }
 {
-    let settings = d.settings;
-    let kind = settings.kind;
-    match kind {
+    match d.settings.kind {
         Kind::Conservative => d,
         Kind::Easy => migration::migrate(d),
     }

@@ -135,10 +135,8 @@ pub fn put_text(page: &mut [u8], d: Scheduler) -> usize
 {
     let settings = d.settings;
     let mut at = put_desk(page, 0, settings, d.clock, d.next);
-    let mut i: usize = 0;
-    while i < Scheduler::LIVE {
-        at = put_slot(page, at, d.jobs[i]);
-        i += 1;
+    for &j in &d.jobs {
+        at = put_slot(page, at, j);
     }
     at
 }

@@ -14,10 +14,7 @@ pub fn latest(clock: u32, most: u32) -> u32
     requires { clock ≤ horizon }
     ensures { (clock ≤ result) × (result ≤ clock + most) × (result ≤ horizon) }
 {
-    if most < Scheduler::HORIZON - clock {
-        return clock + most;
-    }
-    Scheduler::HORIZON
+    clock + most.min(Scheduler::HORIZON - clock)
 }
 
 // The last minute before `minute`, at most `last`; a `minute` that is past does not count.
@@ -28,10 +25,7 @@ fn before(minute: u32, clock: u32, last: u32) -> u32
     if minute <= clock {
         return last;
     }
-    if minute <= last {
-        return minute - 1;
-    }
-    last
+    last.min(minute - 1)
 }
 
 // The last minute, at most `last`, up to which `job` neither starts nor ends nor is released. (Most jobs of a long queue start later than that. The
@@ -43,8 +37,7 @@ pub fn quiet_of(job: Job, settings: Settings, clock: u32, last: u32) -> u32
     if last < job.start {
         return last;
     }
-    let s = job.state;
-    match s {
+    match job.state {
         State::Unused => last,
         State::Waiting => before(job.start, clock, last),
         State::Running => {

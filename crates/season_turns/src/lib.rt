@@ -22,9 +22,7 @@ pub fn ending_slot(d: Scheduler, actuals: &[u32; 4096]) -> usize
     requires { Premise d }
     ensures { Ending actuals.now d result }
 {
-    let mut i: usize = 0;
-    while i < Scheduler::LIVE {
-        let j = d.jobs[i];
+    for (i, &j) in d.jobs.iter().enumerate() {
         if !j.is_live() {
             return Scheduler::LIVE;
         }
@@ -32,9 +30,8 @@ pub fn ending_slot(d: Scheduler, actuals: &[u32; 4096]) -> usize
         if season_writing::ends_now(j, d.settings, actual, d.clock) {
             return i;
         }
-        i += 1;
     }
-    i
+    Scheduler::LIVE
 }
 
 // The last minute, at most `last`, up to which nothing is due and before which no job is over at its actual run length.
@@ -43,16 +40,13 @@ pub fn quiet_until(d: Scheduler, actuals: &[u32; 4096], last: u32) -> u32
     ensures { Calm actuals.now d last result }
 {
     let mut until = last;
-    let mut i: usize = 0;
-    while i < Scheduler::LIVE {
-        let j = d.jobs[i];
+    for &j in &d.jobs {
         if !j.is_live() {
             return until;
         }
         let actual = season_writing::at_ticket(actuals, j.ticket);
         let quiet = quiet_minutes::quiet_of(j, d.settings, d.clock, until);
         until = season_writing::until_end(j, actual, d.clock, quiet);
-        i += 1;
     }
     until
 }
@@ -69,19 +63,16 @@ pub fn put_due(
     ensures { Wrote page_bytes page.old at (due_rows arrivals.now actuals.now d) page.new result }
 {
     let mut p = at;
-    let mut i: usize = 0;
-    while i < Scheduler::LIVE {
-        let j = d.jobs[i];
+    for &j in &d.jobs {
         if !j.is_live() {
             return p;
         }
-        i += 1;
-        if j.ends_at(d.settings, d.clock + 1) {
-            let arrival = season_writing::at_ticket(arrivals, j.ticket);
-            let actual = season_writing::at_ticket(actuals, j.ticket);
-            p = season_writing::put_ended(page, p, j, d.settings, arrival, actual);
+        if !j.ends_at(d.settings, d.clock + 1) {
             continue;
         }
+        let arrival = season_writing::at_ticket(arrivals, j.ticket);
+        let actual = season_writing::at_ticket(actuals, j.ticket);
+        p = season_writing::put_ended(page, p, j, d.settings, arrival, actual);
     }
     p
 }
@@ -145,13 +136,7 @@ pub fn highest_with(highest: u32, listed: Listed) -> u32
     ensures { result ≡ highest_with highest (meaning listed) }
 {
     match listed {
-        Listed::Is(a) => {
-            if highest < a.minute {
-                return a.minute;
-            }
-            highest
-        }
-        Listed::Malformed => highest,
-        Listed::None => highest,
+        Listed::Is(a) => highest.max(a.minute),
+        Listed::Malformed | Listed::None => highest,
     }
 }

@@ -10,40 +10,12 @@ ghost use Rattle.season_rules.specs.Season.{of_ticket, slowdown, row};
 
 use scheduler::{Job, Settings};
 
-// One number less another, or 0.
-fn less(a: u32, b: u32) -> u32
-    ensures { result ≡ a - b }
-{
-    if a < b {
-        return 0;
-    }
-    a - b
-}
-
-fn larger(a: u32, b: u32) -> u32
-    ensures { result ≡ max a b }
-{
-    if a < b {
-        return b;
-    }
-    a
-}
-
-// What stands at a place of a list, or 0 past its end.
-fn at_place(list: &[u32], i: usize) -> u32
-    ensures { result ≡ get_or list.now i 0 }
-{
-    if list.len() <= i {
-        return 0;
-    }
-    list[i]
-}
-
 // What is noted under a ticket; tickets begin at 1.
 pub fn at_ticket(list: &[u32; 4096], ticket: u32) -> u32
     ensures { result ≡ of_ticket list.now ticket }
 {
-    at_place(list, less(ticket, 1) as usize)
+    let place = ticket.saturating_sub(1) as usize;
+    list.get(place).copied().unwrap_or(0)
 }
 
 // A ratio in hundredths, rounded down.
@@ -59,34 +31,16 @@ pub fn slowdown(wait: u32, run: u32) -> u32
     requires { (wait ≤ horizon) × (run ≤ longest_hold) }
     ensures { result ≡ slowdown wait run }
 {
-    hundredths(wait + run, larger(run, 10))
+    hundredths(wait + run, run.max(10))
 }
 
 // Whether its actual run length ends it in this minute, before the scheduler would. (A difference, so that no sum can leave its range.)
 pub fn ends_now(job: Job, settings: Settings, actual: u32, clock: u32) -> bool
     ensures { result ≡ (is_running job && (ltb actual (run_time settings job.estimate) && eqb (job.start + actual) clock)) }
 {
-    if clock < job.start {
-        return false;
-    }
-    if clock - job.start != actual {
-        return false;
-    }
-    if actual < settings.run_time(job.estimate as u32) {
-        return job.is_running();
-    }
-    false
-}
-
-// For how long it runs: its actual run length, or what the scheduler lets it run if that is less.
-fn run(job: Job, settings: Settings, actual: u32) -> u32
-    ensures { result ≡ min actual (run_time settings job.estimate) }
-{
-    let planned = settings.run_time(job.estimate as u32);
-    if actual < planned {
-        return actual;
-    }
-    planned
+    clock.checked_sub(job.start) == Some(actual)
+        && actual < settings.run_time(job.estimate as u32)
+        && job.is_running()
 }
 
 fn put_row(page: &mut [u8], at: usize, a: u32, b: u32, c: u32) -> usize
@@ -111,8 +65,8 @@ pub fn put_ended(
     ensures { Wrote 33 page.old at (row job.ticket (job.start - arrival)
         (slowdown (job.start - arrival) (min actual (run_time settings job.estimate)))) page.new result }
 {
-    let wait = less(job.start, arrival);
-    let ran = run(job, settings, actual);
+    let wait = job.start.saturating_sub(arrival);
+    let ran = actual.min(settings.run_time(job.estimate as u32));
     let slow = slowdown(wait, ran);
     put_row(page, at, job.ticket, wait, slow)
 }
@@ -122,15 +76,8 @@ pub fn until_end(job: Job, actual: u32, clock: u32, last: u32) -> u32
     requires { clock ≤ last }
     ensures { (clock ≤ result) × (result ≤ last) × ((t : ℕ) → clock < t → t < result → job.start + actual ≡ t → ⊥) }
 {
-    if last < job.start {
-        return last;
+    match job.start.checked_add(actual) {
+        Some(end) if clock < end && end <= last => end,
+        _ => last,
     }
-    if last - job.start < actual {
-        return last;
-    }
-    let end = job.start + actual;
-    if end <= clock {
-        return last;
-    }
-    end
 }

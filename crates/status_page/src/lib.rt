@@ -142,10 +142,8 @@ pub fn put_page(page: &mut [u8], d: Scheduler) -> usize
 {
     let settings = d.settings;
     let mut at = put_heading(page, 0, d.settings.nodes, d.clock, d.next);
-    let mut i: usize = 0;
-    while i < Scheduler::LIVE {
-        at = put_slot(page, at, settings, d.jobs[i]);
-        i += 1;
+    for &j in &d.jobs {
+        at = put_slot(page, at, settings, j);
     }
     put_rest(page, at, COLUMNS)
 }

@@ -12,4 +12,4 @@ pass-requires c =
 pub returns : goal.returns
 returns c =
     let a = sym (ap accepts c.wait_refusal-refusal.ensures) ∙ sym c.is_none.ensures ∙ c.if-is_none.false in
-    rw (c.refused-refused.ensures, c.wait_refusal-refusal.ensures) (given_refused c.args.d c.args.minutes c.requires a)
+    rw (c.refused.ensures, c.wait_refusal-refusal.ensures) (given_refused c.args.d c.args.minutes c.requires a)

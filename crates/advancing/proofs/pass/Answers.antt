@@ -10,8 +10,8 @@ pub quiet_for-quiet-requires : goal.quiet_for-quiet-requires
 unfolding view
 quiet_for-quiet-requires c = (c.requires.0, wait_within (view c.args.d) c.args.minutes c.requires.1)
 
-pub overflow_add-e : goal.overflow_add-e
-overflow_add-e c =
+pub overflow_add-passed : goal.overflow_add-passed
+overflow_add-passed c =
     let q = c.quiet_for-quiet in
     omega (arith, passed_time c.args.d c.args.minutes q.result c.requires.0 q.ensures c.requires.1)
 
@@ -28,5 +28,5 @@ returns-then-quiet-minutes c =
 pub returns : goal.returns
 returns c =
     let q = c.quiet_for-quiet in
-    rw c.refused-nothing.ensures
+    rw c.refused.ensures
     (given_all c.args.d c.args.minutes q.result c.requires.0 q.ensures c.requires.1 c.if-quiet-minutes.false)

@@ -1,46 +1,32 @@
--- `amend_answer::joined` meets its contract: the tickets so far stand after the first ones.
+-- `amend_answer::joined` meets its contract: the tickets of the second stand after those of the first.
 -- Assumes nothing.
-use mathlib.Core.Path.{refl, sym}
-use native.Mathlib.Omega.{arith}
-use borrow.Author.Rules.{rules}
-use Rattle.text.specs.WriterLaws.{sets_take}
-use Rattle.amend_answer.specs.BothAnswers.{counts, room, joined_is}
+use Rattle.std.specs.Prelude.{◌≡◌, List, ℕ, ◌+◌, ◌≤◌, length}
+use Rattle.std.proofs.Common.{arith, ap, sym, ◌∙◌, length-take-le}
+use Rattle.std.proofs.Math.Path.{refl}
+use Rattle.std.proofs.Math.Seq.{sets, take_all}
+use Rattle.std.proofs.lemmas.List.Edits.{sets-eq}
+use Rattle.std.proofs.lemmas.Slice.{put_mid-paste}
+use borrow.Rule.Slice.PartMut.{put_mid}
+use Rattle.amend_answer.specs.BothAnswers.{counts, whole, room, joined_is}
 use Rattle.amend_answer.proofs.joined.Goals as goal
 
-pub loop-i-init : goal.loop-i-init
-loop-i-init c = (search rules, refl)
+write_sets : (a k : ℕ) (xs ys : List ℕ) → length ys ≡ k → a + k ≤ length xs → put_mid a k xs ys ≡ sets xs a ys
+write_sets a k xs ys e h =
+    rw (sets-eq ys xs a (omega arith), e) (rw (take_all k ys (omega arith)) at (put_mid-paste a k xs ys ys k refl refl (sym e)))
 
-pub offset_bounds-second-i : goal.offset_bounds-second-i
-offset_bounds-second-i c = omega (arith, c.loop-i-test.true, counts c.requires)
+pub overflow_add-count : goal.overflow_add-count
+overflow_add-count c = omega (arith, counts c.requires)
 
-pub bounds-second-i : goal.bounds-second-i
-bounds-second-i c = omega (arith, c.loop-i-test.true, counts c.requires)
+pub offset_bounds-list-first : goal.offset_bounds-list-first
+offset_bounds-list-first c = omega (arith, counts c.requires)
 
-pub overflow_add-list : goal.overflow_add-list
-overflow_add-list c = omega (arith, c.loop-i-test.true, counts c.requires)
-
-pub offset_bounds-list-start : goal.offset_bounds-list-start
-offset_bounds-list-start c = omega (arith, c.loop-i-test.true, counts c.requires)
-
-pub bounds-list-start : goal.bounds-list-start
-bounds-list-start c = omega (arith, c.loop-i-test.true, counts c.requires)
-
-pub overflow_add-i : goal.overflow_add-i
-overflow_add-i c = omega (arith, c.loop-i-test.true, counts c.requires)
-
-pub loop-i-preserved : goal.loop-i-preserved
-loop-i-preserved c =
-    let l = c.loop-i in (
-      omega (arith, c.loop-i-test.true),
-      rw l.invariant.1
-          (sym (sets_take c.args.first.list c.args.first.count c.args.second.list l.i
-          (omega (arith, c.loop-i-test.true, (room c.requires).1)))),
-    )
-
-pub overflow_add-result : goal.overflow_add-result
-overflow_add-result c = omega (arith, c.loop-i.invariant.0, counts c.requires)
+pub slice_bounds-list-end : goal.slice_bounds-list-end
+slice_bounds-list-end c = omega (arith, counts c.requires)
 
 pub returns : goal.returns
 returns c =
-    let l = c.loop-i in
-    λ q. joined_is q l.list l.i (omega (arith, l.invariant.0, c.loop-i-test.false)) l.invariant.1
+    let a = c.args in
+    let w = c.copy_from_slice.ensures.after in
+    let l : length c.copy_from_slice.new.self ≡ a.second.count = ap length w ∙ length-take-le a.second.count a.second.list (room c.requires).1 in
+    λ q. joined_is q _ a.second.count refl
+    (write_sets a.first.count _ a.first.list _ (omega (arith, l)) (omega (arith, counts c.requires, whole c.requires)) ∙ ap (sets a.first.list a.first.count) w)

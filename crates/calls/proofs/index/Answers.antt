@@ -9,15 +9,15 @@ use Rattle.guarantees.specs.Premise.{premise_of}
 use Rattle.calls.specs.IndexCall.{index_in, index_conservative, index_easy}
 use Rattle.calls.proofs.index.Goals as goal
 
-pub index_of-requires : goal.index_of-requires
-index_of-requires c =
+pub index_of-p-requires : goal.index_of-p-requires
+index_of-p-requires c =
     holds_as _ _ c.args.d valid_planned (premise_of c.args.d Conservative c.in-Conservative.is c.requires)
 
 pub returns-in-Conservative : goal.returns-in-Conservative
 returns-in-Conservative c =
-    c.show_blocks.ensures ∙ ap (λ (p : Blocks). index_in p c.args.room) c.index_of.ensures
+    c.within.ensures ∙ ap (λ (p : Blocks). index_in p c.args.room) c.index_of-p.ensures
     ∙ index_conservative c.args.d c.args.room c.in-Conservative.is
 
 pub returns-in-Easy : goal.returns-in-Easy
 returns-in-Easy c =
-    c.no_blocks.ensures ∙ index_easy c.args.d c.args.room c.in-Easy.is
+    c.none.ensures ∙ index_easy c.args.d c.args.room c.in-Easy.is

@@ -9,15 +9,15 @@ use Rattle.guarantees.specs.Premise.{premise_of}
 use Rattle.calls.specs.ProfileCall.{show_in, show_conservative, show_easy}
 use Rattle.calls.proofs.profile.Goals as goal
 
-pub profile_of-requires : goal.profile_of-requires
-profile_of-requires c =
+pub profile_of-p-requires : goal.profile_of-p-requires
+profile_of-p-requires c =
     holds_as _ _ c.args.d valid_planned (premise_of c.args.d Conservative c.in-Conservative.is c.requires)
 
 pub returns-in-Conservative : goal.returns-in-Conservative
 returns-in-Conservative c =
-    c.show.ensures ∙ ap (λ (p : Profile). show_in p c.args.room) c.profile_of.ensures
+    c.within.ensures ∙ ap (λ (p : Profile). show_in p c.args.room) c.profile_of-p.ensures
     ∙ show_conservative c.args.d c.args.room c.in-Conservative.is
 
 pub returns-in-Easy : goal.returns-in-Easy
 returns-in-Easy c =
-    c.no_points.ensures ∙ show_easy c.args.d c.args.room c.in-Easy.is
+    c.none.ensures ∙ show_easy c.args.d c.args.room c.in-Easy.is

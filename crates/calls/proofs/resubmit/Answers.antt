@@ -11,8 +11,8 @@ use Rattle.calls.proofs.resubmit.Goals as goal
 pub submit-taken-requires : goal.submit-taken-requires
 submit-taken-requires c = call_held c.args.d (calls.cancel c.args.a.ticket) _ c.requires.0 c.cancel-withdrawn.ensures
 
-pub both-both-requires : goal.both-both-requires
-both-both-requires c =
+pub both-requires : goal.both-requires
+both-requires c =
     let q = submitted_on c.args.d c.args.a c.requires.0 c.args.s c.requires.1 _ _ c.cancel-withdrawn.ensures c.submit-taken.ensures in
     both_replies c.args.d c.args.a c.requires.0 c.args.s c.requires.1 _ _ c.cancel-withdrawn.ensures q
     (sym (ap (λ (o : Outcome). accepts o.answer.refusal) q) ∙ sym c.is_none.ensures ∙ c.if-is_none.true)
@@ -22,7 +22,7 @@ returns-then-is_none c =
     let q = submitted_on c.args.d c.args.a c.requires.0 c.args.s c.requires.1 _ _ c.cancel-withdrawn.ensures c.submit-taken.ensures in
     let x = sym (ap (λ (o : Outcome). accepts o.answer.refusal) q) ∙ sym c.is_none.ensures ∙ c.if-is_none.true in
     amend_anew c.args.d c.args.a c.requires.0 c.args.s c.requires.1 _ _ _ q x
-    (c.both-both.ensures (both_replies c.args.d c.args.a c.requires.0 c.args.s c.requires.1 _ _ c.cancel-withdrawn.ensures q x)) refl
+    (c.both.ensures (both_replies c.args.d c.args.a c.requires.0 c.args.s c.requires.1 _ _ c.cancel-withdrawn.ensures q x)) refl
 
 pub returns : goal.returns
 returns c =

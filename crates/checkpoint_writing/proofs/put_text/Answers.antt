@@ -29,27 +29,27 @@ done {d} h i l = texts_done d.jobs i (omega (arith, all_slots h))
 text_of : {d : Scheduler} → Premise d → desk_line_of d.settings d.clock d.next ++ slot_texts d.jobs ≡ desk_text (view d)
 text_of {d} h = whole_text d
 
-pub loop-i-init : goal.loop-i-init
-loop-i-init c = record { low = omega arith; written = rw (texts_none _) (wrote_none _ _ _) }
+pub loop-j-init : goal.loop-j-init
+loop-j-init c = record { low = omega arith; written = rw (texts_none _) (wrote_none _ _ _) }
 
 pub put_slot-at-requires : goal.put_slot-at-requires
 put_slot-at-requires c =
-    room_after (and_then c.put_desk-at.ensures c.loop-i.invariant.written) 114 (omega (arith, c.requires.1))
+    room_after (and_then c.put_desk-at.ensures c.loop-j.invariant.written) 114 (omega (arith, c.requires.1))
 
-pub loop-i-preserved : goal.loop-i-preserved
-loop-i-preserved c =
+pub loop-j-preserved : goal.loop-j-preserved
+loop-j-preserved c =
     record {
       low = omega arith;
       written =
-          rw (more c.requires.0 c.loop-i.i (omega arith))
-          (with_room (and_then c.loop-i.invariant.written c.put_slot-at.ensures) _ (omega arith));
+          rw (more c.requires.0 c.loop-j.j-index (omega arith))
+          (with_room (and_then c.loop-j.invariant.written c.put_slot-at.ensures) _ (omega arith));
     }
 
 pub shape_of-page : goal.shape_of-page
 shape_of-page c =
-    same_size (and_then c.put_desk-at.ensures c.loop-i.invariant.written)
+    same_size (and_then c.put_desk-at.ensures c.loop-j.invariant.written)
 
 pub returns : goal.returns
 returns c =
-    let all = done c.requires.0 c.loop-i.i (omega arith) in
-    rw (sym (text_of c.requires.0)) (with_room (and_then c.put_desk-at.ensures (rw all at c.loop-i.invariant.written)) _ (omega (arith, c.loop-i.invariant.low)))
+    let all = done c.requires.0 c.loop-j.j-index (omega arith) in
+    rw (sym (text_of c.requires.0)) (with_room (and_then c.put_desk-at.ensures (rw all at c.loop-j.invariant.written)) _ (omega (arith, c.loop-j.invariant.low)))

@@ -1,7 +1,7 @@
 -- `checkpoint_writing::put_text` meets its contract: the lines of the slots passed are written.
 -- Assumes nothing.
 use mathlib.Core.List.{List}
-use Prim.Native.Nat.{ℕ, ◌*◌, ◌-◌, ◌≤◌}
+use Prim.Native.Nat.{ℕ, ◌*◌, ◌≤◌}
 use lib.ListN.{take}
 use Rattle.text.specs.WrittenBytes.{Wrote}
 use Rattle.scheduler.specs.declared.Job.{Job}
@@ -12,8 +12,5 @@ pub record Inv (page₀ : List ℕ) (js : List Job) (at₀ : ℕ) (page : List �
   pub low : i ≤ 64
   pub written : Wrote (114 * i) page₀ at₀ (slot_texts (take i js)) page at
 
-abbrev pub invariant-loop-i : goal.invariant-loop-i
-invariant-loop-i l = Inv l.initial.page l.d.jobs l.initial.at l.page l.at l.i
-
-abbrev pub decreases-loop-i : goal.decreases-loop-i
-decreases-loop-i l = 64 - l.i
+abbrev pub invariant-loop-j : goal.invariant-loop-j
+invariant-loop-j l = Inv l.initial.page l.j-items l.initial.at l.page l.at l.j-index

@@ -1,11 +1,7 @@
 -- `season_turns::quiet_until` meets its contract: the minutes are quiet for the slots looked at.
 -- Assumes nothing.
-use Prim.Native.Nat.{◌-◌}
 use Rattle.season_turns.specs.QuietSlots.{Looked}
 use Rattle.season_turns.proofs.quiet_until.Given as goal
 
-abbrev pub invariant-loop-i : goal.invariant-loop-i
-invariant-loop-i l = Looked l.actuals l.d l.last l.until l.i
-
-abbrev pub decreases-loop-i : goal.decreases-loop-i
-decreases-loop-i l = 64 - l.i
+abbrev pub invariant-loop-j : goal.invariant-loop-j
+invariant-loop-j l = Looked l.actuals l.fn.d l.last l.until l.j-index

@@ -8,8 +8,8 @@ pub slowdown-slow-requires : goal.slowdown-slow-requires
 slowdown-slow-requires c =
     let S = c.args.settings in
     let e = c.args.job.estimate in
-    omega (arith, c.run-ran.ensures, c.less-wait.ensures, c.requires, hold_is S e, hold_le S e)
+    omega (arith, c.run_time.ensures, c.requires, hold_is S e, hold_le S e)
 
 pub returns : goal.returns
 returns c =
-    rw (c.slowdown-slow.ensures, c.run-ran.ensures, c.less-wait.ensures) at c.put_row.ensures
+    rw (c.slowdown-slow.ensures, c.min-ran.ensures, c.run_time.ensures, c.saturating_sub-wait.ensures) at c.put_row.ensures

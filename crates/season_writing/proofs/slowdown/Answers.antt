@@ -3,4 +3,4 @@
 use Rattle.season_writing.proofs.slowdown.Goals as goal
 
 pub returns : goal.returns
-returns c = rw c.larger.ensures at c.hundredths.ensures
+returns c = rw c.max.ensures at c.hundredths.ensures

@@ -14,36 +14,36 @@ use Rattle.status_page.proofs.put_page.Goals as goal
 pub put_heading-at-requires : goal.put_heading-at-requires
 put_heading-at-requires c = (first_fits _ c.requires.0, search rules)
 
-pub loop-i-init : goal.loop-i-init
-loop-i-init c = record { low = omega arith; written = rw (slots_none _ _) (wrote_none _ _ _) }
+pub loop-j-init : goal.loop-j-init
+loop-j-init c = record { low = omega arith; written = rw (slots_none _ _) (wrote_none _ _ _) }
 
 pub put_slot-at-requires : goal.put_slot-at-requires
 put_slot-at-requires c = (
-  slot_fits _ c.requires.0 c.loop-i.i (omega arith),
-  room_after (and_then c.put_heading-at.ensures c.loop-i.invariant.written) line_bytes (omega (arith, c.requires.1)),
+  slot_fits _ c.requires.0 c.loop-j.j-index (omega arith),
+  room_after (and_then c.put_heading-at.ensures c.loop-j.invariant.written) line_bytes (omega (arith, c.requires.1)),
 )
 
-pub loop-i-preserved : goal.loop-i-preserved
-loop-i-preserved c =
+pub loop-j-preserved : goal.loop-j-preserved
+loop-j-preserved c =
     record {
       low = omega arith;
       written =
-          rw (slots_more _ c.requires.0 c.loop-i.i (omega arith))
-          (with_room (and_then c.loop-i.invariant.written c.put_slot-at.ensures) _ (omega arith));
+          rw (slots_more _ c.requires.0 c.loop-j.j-index (omega arith))
+          (with_room (and_then c.loop-j.invariant.written c.put_slot-at.ensures) _ (omega arith));
     }
 
 pub put_rest-requires : goal.put_rest-requires
 put_rest-requires c =
-    room_after (and_then c.put_heading-at.ensures c.loop-i.invariant.written) line_bytes
-    (omega (arith, c.loop-i.invariant.low, c.requires.1))
+    room_after (and_then c.put_heading-at.ensures c.loop-j.invariant.written) line_bytes
+    (omega (arith, c.loop-j.invariant.low, c.requires.1))
 
 pub shape_of-page : goal.shape_of-page
 shape_of-page c =
-    same_size (and_then c.put_heading-at.ensures (and_then c.loop-i.invariant.written c.put_rest.ensures))
+    same_size (and_then c.put_heading-at.ensures (and_then c.loop-j.invariant.written c.put_rest.ensures))
 
 pub returns : goal.returns
 returns c =
-    let done = slots_done _ c.requires.0 c.loop-i.i (omega arith) in
+    let done = slots_done _ c.requires.0 c.loop-j.j-index (omega arith) in
     rw (sym (slot_lines_lem _ c.requires.0), line_written [] none_fitting)
-    (with_room (and_then c.put_heading-at.ensures (and_then (rw done at c.loop-i.invariant.written) c.put_rest.ensures)) _
-    (omega (arith, c.loop-i.invariant.low)))
+    (with_room (and_then c.put_heading-at.ensures (and_then (rw done at c.loop-j.invariant.written) c.put_rest.ensures)) _
+    (omega (arith, c.loop-j.invariant.low)))

@@ -1,7 +1,7 @@
 -- `status_page::put_page` meets its contract: the lines of the slots passed are written.
 -- Assumes nothing.
 use mathlib.Core.List.{List}
-use Prim.Native.Nat.{ℕ, ◌*◌, ◌-◌, ◌≤◌}
+use Prim.Native.Nat.{ℕ, ◌*◌, ◌≤◌}
 use lib.ListN.{take}
 use Rattle.text.specs.WrittenBytes.{Wrote}
 use Rattle.scheduler.specs.declared.Job.{Job}
@@ -14,8 +14,5 @@ pub record Inv (page₀ : List ℕ) (S : Settings) (js : List Job) (at₀ : ℕ)
   pub low : i ≤ 64
   pub written : Wrote (line_bytes * i) page₀ at₀ (slot_lines S (take i js)) page at
 
-abbrev pub invariant-loop-i : goal.invariant-loop-i
-invariant-loop-i l = Inv l.initial.page l.settings l.d.jobs l.initial.at l.page l.at l.i
-
-abbrev pub decreases-loop-i : goal.decreases-loop-i
-decreases-loop-i l = 64 - l.i
+abbrev pub invariant-loop-j : goal.invariant-loop-j
+invariant-loop-j l = Inv l.initial.page l.settings l.j-items l.initial.at l.page l.at l.j-index
