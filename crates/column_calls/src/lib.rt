@@ -56,16 +56,15 @@ pub fn begin(
     ensures { KindColumns (view d) tickets.new nodes.new states.new dues.new starts.new tenants.new estimates.new leasts.new holds.new promises.new asked.new submitted.new ranks.new forecasts.new held.new ends.new holders.new minutes.new free.new low.new high.new result.live result.count result.holding result.spare }
 {
     let settings = d.settings;
-    let kind = settings.kind;
     let live = job_columns::spread(
         d, tickets, nodes, states, dues, starts, tenants, estimates, leasts, promises, submitted,
         ranks, forecasts,
     );
-    match kind {
+    match settings.kind {
         Kind::Conservative => {
             conservative_columns::begin(estimates, live, holds, settings);
             Counts {
-                live: live,
+                live,
                 count: kept_calls::begin(d, minutes, free, low, high),
                 holding: 0,
                 spare: 0,
@@ -76,7 +75,7 @@ pub fn begin(
                 tickets, nodes, states, dues, asked, held, ends, holders, live, settings,
             );
             Counts {
-                live: live,
+                live,
                 count: 0,
                 holding: taken.holding,
                 spare: taken.spare,
@@ -125,8 +124,7 @@ pub fn call(
         → Gives (rules.call (view k.scheduler) (calls.asked request)) result ended.new started.new tickets.new nodes.new states.new dues.new starts.new tenants.new estimates.new leasts.new holds.new promises.new asked.new submitted.new ranks.new forecasts.new held.new ends.new holders.new minutes.new free.new low.new high.new
         × Whole gone.new }
 {
-    let kind = settings.kind;
-    match kind {
+    match settings.kind {
         Kind::Conservative => match request {
             Request::Submit(s) => conservative_columns::submit(
                 tickets, nodes, states, dues, starts, tenants, estimates, leasts, holds, promises,

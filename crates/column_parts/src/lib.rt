@@ -43,6 +43,23 @@ pub struct Told {
 }
 
 impl Told {
+    // Nothing is told, and all counts are 0.
+    pub const NOTHING: Told = Told {
+        refusal: Refusal::None,
+        ticket: 0,
+        promise: 0,
+        head: 0,
+        forecast: 0,
+        ended: 0,
+        started: 0,
+        clock: 0,
+        next: 0,
+        live: 0,
+        count: 0,
+        holding: 0,
+        spare: 0,
+    };
+
     pub fn refused(
         why: Refusal,
         clock: u32,
@@ -56,18 +73,13 @@ impl Told {
     {
         Told {
             refusal: why,
-            ticket: 0,
-            promise: 0,
-            head: 0,
-            forecast: 0,
-            ended: 0,
-            started: 0,
-            clock: clock,
-            next: next,
-            live: live,
-            count: count,
-            holding: holding,
-            spare: spare,
+            clock,
+            next,
+            live,
+            count,
+            holding,
+            spare,
+            ..Told::NOTHING
         }
     }
 }
@@ -217,7 +229,7 @@ fn stay(
     job_columns::clean(states, dues, at, clock, cleanup);
     Left {
         refusal: Refusal::None,
-        live: live,
+        live,
         ended: 1,
         withdrawn: 0,
     }
@@ -264,7 +276,7 @@ fn refused(why: Refusal, live: usize) -> Left
 {
     Left {
         refusal: why,
-        live: live,
+        live,
         ended: 0,
         withdrawn: 0,
     }
@@ -360,15 +372,12 @@ fn pass(
     let live = before.live;
     let over = before.ended;
     let left = before.gone;
-    let starting = before.starting;
     let state = states[at];
     if state == 1 {
         return Swept {
             at: at + 1,
-            live: live,
-            ended: over,
-            gone: left,
-            starting: starting + 1,
+            starting: before.starting + 1,
+            ..before
         };
     }
     if state == 3 {
@@ -376,11 +385,9 @@ fn pass(
             tickets, nodes, states, dues, starts, tenants, estimates, leasts, gone, left, live, at,
         );
         return Swept {
-            at: at,
             live: live - 1,
-            ended: over,
             gone: left + 1,
-            starting: starting,
+            ..before
         };
     }
     ended[over] = tickets[at];
@@ -388,21 +395,18 @@ fn pass(
         job_columns::clean(states, dues, at, minute, cleanup);
         return Swept {
             at: at + 1,
-            live: live,
             ended: over + 1,
-            gone: left,
-            starting: starting,
+            ..before
         };
     }
     take_out(
         tickets, nodes, states, dues, starts, tenants, estimates, leasts, gone, left, live, at,
     );
     Swept {
-        at: at,
         live: live - 1,
         ended: over + 1,
         gone: left + 1,
-        starting: starting,
+        ..before
     }
 }
 
@@ -431,7 +435,7 @@ pub fn expire(
 {
     let mut done = Swept {
         at: job_columns::first_due(dues, 0, live, minute),
-        live: live,
+        live,
         ended: 0,
         gone: 0,
         starting: 0,
@@ -443,10 +447,7 @@ pub fn expire(
         );
         done = Swept {
             at: job_columns::first_due(dues, next.at, next.live, minute),
-            live: next.live,
-            ended: next.ended,
-            gone: next.gone,
-            starting: next.starting,
+            ..next
         };
     }
     Expired {

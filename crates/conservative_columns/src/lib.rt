@@ -29,10 +29,8 @@ pub fn begin(estimates: &[u32; 64], live: usize, holds: &mut [u32; 64], settings
     requires { (live ≤ slots) × Blank holds.old }
     ensures { (js : List Job) → Column estimate_of js estimates.now → length js ≡ live → Column (hold_of settings) js holds.new }
 {
-    let mut i: usize = 0;
-    while i < live {
+    for i in 0..live {
         holds[i] = settings.hold_time(estimates[i]);
-        i += 1;
     }
 }
 
@@ -41,9 +39,10 @@ fn state_at(start: u32, clock: u32) -> State
     ensures { result ≡ state_at clock start }
 {
     if start == clock {
-        return State::Running;
+        State::Running
+    } else {
+        State::Waiting
     }
-    State::Waiting
 }
 
 // A ticket is listed if its job starts now.
@@ -103,19 +102,14 @@ fn admit(
     promises[live] = start;
     let begun = list_if_now(started, start, clock, next);
     Told {
-        refusal: Refusal::None,
         ticket: next,
         promise: start,
-        head: 0,
-        forecast: 0,
-        ended: 0,
         started: begun,
-        clock: clock,
+        clock,
         next: next + 1,
         live: live + 1,
         count: n,
-        holding: 0,
-        spare: 0,
+        ..Told::NOTHING
     }
 }
 
@@ -271,15 +265,11 @@ fn note_started(
         → Listing (begun js ks) started.new result }
 {
     let mut n: usize = 0;
-    let mut i: usize = 0;
-    while i < live {
-        if states[i] == 2 {
-            if was[i] == 1 {
-                started[n] = tickets[i];
-                n += 1;
-            }
+    for i in 0..live {
+        if states[i] == 2 && was[i] == 1 {
+            started[n] = tickets[i];
+            n += 1;
         }
-        i += 1;
     }
     n
 }
@@ -400,19 +390,13 @@ pub fn depart(
         left.live, x, clock, cleanup,
     );
     Told {
-        refusal: Refusal::None,
-        ticket: 0,
-        promise: 0,
-        head: 0,
-        forecast: 0,
         ended: left.ended,
         started: up.started,
-        clock: clock,
-        next: next,
+        clock,
+        next,
         live: left.live,
         count: up.count,
-        holding: 0,
-        spare: 0,
+        ..Told::NOTHING
     }
 }
 
@@ -494,18 +478,12 @@ pub fn tick(
     );
     let n = conservative_index::advance(minutes, free, count, low, high, minute);
     Told {
-        refusal: Refusal::None,
-        ticket: 0,
-        promise: 0,
-        head: 0,
-        forecast: 0,
         ended: e.ended,
         started: begun,
         clock: minute,
-        next: next,
+        next,
         live: e.live,
         count: n,
-        holding: 0,
-        spare: 0,
+        ..Told::NOTHING
     }
 }

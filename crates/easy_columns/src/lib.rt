@@ -98,12 +98,10 @@ fn holder(holders: &[u32; 64], holding: usize, ticket: u32) -> usize
     ensures { (rs : List Job) → Column ticket_of rs holders.now → length rs ≡ holding
         → result ≡ place_of (position (has_ticket ticket) rs) holding }
 {
-    let mut i: usize = 0;
-    while i < holding {
+    for i in 0..holding {
         if holders[i] == ticket {
             return i;
         }
-        i += 1;
     }
     holding
 }
@@ -127,10 +125,7 @@ fn complete(
     let i = holder(holders, holding, ticket);
     if 0 < cleanup {
         ends[i] = clock + cleanup;
-        return Taken {
-            holding: holding,
-            spare: spare,
-        };
+        return Taken { holding, spare };
     }
     let left = spare + held[i];
     let last = holding - 1;
@@ -166,8 +161,7 @@ fn write_starts(
         → Begun s.model s.places s.jobs tickets.now s.nodes states.new dues.new starts.new
         s.tenants s.estimates s.leasts s.live started.new holders.new count }
 {
-    let mut k: usize = 0;
-    while k < count {
+    for k in 0..count {
         let at = order[k] as usize;
         let t = tickets[at];
         started[k] = t;
@@ -175,7 +169,6 @@ fn write_starts(
         states[at] = 2;
         starts[at] = clock;
         dues[at] = ends[holding + k] - cleanup;
-        k += 1;
     }
 }
 
@@ -186,11 +179,12 @@ fn note_head(tickets: &[u32; 64], forecasts: &mut [u32; 64], live: usize, head: 
         → Column forecast_of m.jobs forecasts.old → head ≡ head_ticket o → forecast ≡ head_minute o → Heard m.jobs o
         → Column forecast_of (noted o m).jobs forecasts.new }
 {
-    if head != 0 {
-        let at = job_columns::find(tickets, live, head);
-        if at < live {
-            forecasts[at] = forecast;
-        }
+    if head == 0 {
+        return;
+    }
+    let at = job_columns::find(tickets, live, head);
+    if at < live {
+        forecasts[at] = forecast;
     }
 }
 
@@ -249,19 +243,17 @@ fn settle(
     );
     note_head(tickets, forecasts, live, s.head, s.forecast);
     Told {
-        refusal: Refusal::None,
-        ticket: ticket,
-        promise: 0,
+        ticket,
         head: s.head,
         forecast: s.forecast,
-        ended: ended,
+        ended,
         started: count,
-        clock: clock,
-        next: next,
-        live: live,
-        count: 0,
+        clock,
+        next,
+        live,
         holding: holding + count,
         spare: s.spare,
+        ..Told::NOTHING
     }
 }
 
@@ -302,19 +294,14 @@ fn finish(
     let before = easy_engine::head_before(first, ticket, withdrawn);
     if easy_engine::rests_at(before, asked, first, live, spare) {
         return Told {
-            refusal: Refusal::None,
-            ticket: ticket,
-            promise: 0,
-            head: 0,
-            forecast: 0,
-            ended: ended,
-            started: 0,
-            clock: clock,
-            next: next,
-            live: live,
-            count: 0,
-            holding: holding,
-            spare: spare,
+            ticket,
+            ended,
+            clock,
+            next,
+            live,
+            holding,
+            spare,
+            ..Told::NOTHING
         };
     }
     settle(
@@ -530,10 +517,7 @@ fn give_back(
         Departure::Complete => complete(
             held, ends, holders, holding, spare, ticket, clock, cleanup,
         ),
-        Departure::Cancel => Taken {
-            holding: holding,
-            spare: spare,
-        },
+        Departure::Cancel => Taken { holding, spare },
     }
 }
 
@@ -701,10 +685,7 @@ fn free_again(state: u32, due: u32, cleanup: u32) -> u32
     requires { state ≡ 2 → due + cleanup ≤ horizon }
     ensures { result ≡ cond (eqb state 2) (due + cleanup) due }
 {
-    if state == 2 {
-        return due + cleanup;
-    }
-    due
+    if state == 2 { due + cleanup } else { due }
 }
 
 // From the columns of both kinds, what the jobs ask for while they wait, and who holds nodes.
@@ -728,8 +709,7 @@ pub fn begin(
     let cleanup = settings.cleanup();
     let mut spare = settings.nodes;
     let mut n: usize = 0;
-    let mut i: usize = 0;
-    while i < live {
+    for i in 0..live {
         let own = nodes[i];
         if states[i] == 1 {
             asked[i] = own;
@@ -741,10 +721,6 @@ pub fn begin(
             spare -= own;
             n += 1;
         }
-        i += 1;
     }
-    Taken {
-        holding: n,
-        spare: spare,
-    }
+    Taken { holding: n, spare }
 }

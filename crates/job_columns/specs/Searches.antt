@@ -1,10 +1,11 @@
 -- What searches and counts over columns give.
 -- Assumes nothing.
-use Rattle.std.specs.Prelude.{ℕ, zero, suc, ◌+◌, ◌≤◌, ◌<◌, min, ◌≡◌, refl, Bool, true, false, List, [], ◌∷◌, ◌++◌, ◌⊎◌, eqb, length, get_or}
+use Rattle.std.specs.Prelude.{ℕ, zero, suc, ◌+◌, ◌≤◌, ◌<◌, min, ◌≡◌, ◌==◌, refl, Bool, true, false, List, [], ◌∷◌, ◌++◌, ◌⊎◌, eqb, length, get_or, map, count_by, filter}
+use Rattle.std.proofs.lemmas.List.Sums.{length-filter}
 use Rattle.std.proofs.Common.{arith, sym, ap, ◌∙◌, inl, inr, eq-eqb, ne_eqb}
 use Rattle.std.proofs.Math.Option.{Option, none, some}
-use Rattle.lists.specs.Tests.{le_or}
-use Rattle.lists.specs.Lists.{In, here, there, in_getD}
+use Rattle.lists.specs.Tests.{le_or, case}
+use Rattle.lists.specs.Lists.{keep, In, here, there, in_getD}
 use Rattle.lists.specs.Loops.{position_from, position, position_says}
 use Rattle.scheduler.specs.declared.Job.{Job}
 use Rattle.scheduler.specs.Jobs.{unused}
@@ -135,3 +136,13 @@ soonest_in never (x ∷ xs) l = by (le_or x (soonest never xs)) (λ q. soonest_i
 pub soonest_last : (never : ℕ) (xs : List ℕ) (x : ℕ) → soonest never (xs ++ (x ∷ [])) ≡ min (soonest never xs) x
 soonest_last never [] x = omega arith
 soonest_last never (y ∷ xs) x = omega (arith, soonest_last never xs x)
+
+-- ## A count
+
+-- as many numbers of a column are the one wanted as jobs have it
+pub counted : (f : Job → ℕ) (wanted : ℕ) (js : List Job) → count_by (λ x. x == wanted) (map f js) ≡ length (keep (λ (j : Job). eqb (f j) wanted) js)
+counted f wanted js = sym (length-filter (λ x. x == wanted) (map f js)) ∙ by js
+  where
+    by : (js : List Job) → length (filter (λ x. x == wanted) (map f js)) ≡ length (keep (λ (j : Job). eqb (f j) wanted) js)
+    by [] = refl
+    by (j ∷ js) = case (eqb (f j) wanted) (λ t. rw t (ap suc (by js))) (λ t. rw t (by js))

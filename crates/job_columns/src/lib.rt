@@ -2,7 +2,7 @@
 // columns that both kinds have, and what becomes of them where a job comes in, begins, is in cleanup or leaves.
 #![tactic(auto)]
 
-ghost use Rattle.std.specs.Prelude.{◌≡◌, List, [], ◌∷◌, ◌++◌, map, ℕ, ◌+◌, ◌-◌, ◌≤◌, ◌<◌, eqb, length, get_or, set, take};
+ghost use Rattle.std.specs.Prelude.{◌≡◌, ◌==◌, List, [], ◌∷◌, ◌++◌, map, ℕ, ◌+◌, ◌-◌, ◌≤◌, ◌<◌, length, get_or, set, take, count_by};
 ghost use Rattle.lists.specs.Lists.{keep};
 ghost use Rattle.lists.specs.Loops.{position};
 ghost use Rattle.lists.specs.Pads.{pad};
@@ -57,16 +57,10 @@ fn due(job: Job, settings: Settings) -> u32
     requires { Low job }
     ensures { result ≡ due_of settings job }
 {
-    let s = job.state;
-    match s {
-        State::Unused => job.start + settings.run_time(job.estimate as u32),
-        State::Waiting => {
-            if job.start == 0 {
-                return NEVER;
-            }
-            job.start
-        }
-        State::Running => job.start + settings.run_time(job.estimate as u32),
+    match job.state {
+        State::Waiting if job.start == 0 => NEVER,
+        State::Waiting => job.start,
+        State::Unused | State::Running => job.start + settings.run_time(job.estimate as u32),
         State::Cleanup => job.end + settings.cleanup(),
     }
 }
@@ -92,14 +86,12 @@ pub fn append(
         → JobColumns settings (js ++ (j ∷ [])) tickets.new nodes.new states.new dues.new starts.new
         tenants.new estimates.new leasts.new (at + 1) }
 {
-    let t = j.tenant;
-    let s = j.state;
     tickets[at] = j.ticket;
     nodes[at] = j.nodes as u32;
-    states[at] = state_number(s);
+    states[at] = state_number(j.state);
     dues[at] = due(j, settings);
     starts[at] = j.start;
-    tenants[at] = tenant_number(t);
+    tenants[at] = tenant_number(j.tenant);
     estimates[at] = j.estimate as u32;
     leasts[at] = j.least as u32;
 }
@@ -127,11 +119,10 @@ pub fn spread(
         ranks.new forecasts.new result }
 {
     let settings = d.settings;
-    let mut i: usize = 0;
-    while i < Scheduler::LIVE {
+    for i in 0..Scheduler::LIVE {
         let j = d.jobs[i];
         if !j.is_live() {
-            break;
+            return i;
         }
         append(
             tickets, nodes, states, dues, starts, tenants, estimates, leasts, i, j, settings,
@@ -140,36 +131,29 @@ pub fn spread(
         submitted[i] = j.submitted;
         ranks[i] = j.rank;
         forecasts[i] = j.forecast;
-        i += 1;
     }
-    i
+    Scheduler::LIVE
 }
 
 fn state_of(n: u32) -> State
     ensures { result ≡ state_at n }
 {
-    if n == 1 {
-        return State::Waiting;
+    match n {
+        1 => State::Waiting,
+        2 => State::Running,
+        3 => State::Cleanup,
+        _ => State::Unused,
     }
-    if n == 2 {
-        return State::Running;
-    }
-    if n == 3 {
-        return State::Cleanup;
-    }
-    State::Unused
 }
 
 fn tenant_of(n: u32) -> Tenant
     ensures { result ≡ tenant_at n }
 {
-    if n == 1 {
-        return Tenant::A;
+    match n {
+        1 => Tenant::A,
+        2 => Tenant::B,
+        _ => Tenant::Nobody,
     }
-    if n == 2 {
-        return Tenant::B;
-    }
-    Tenant::Nobody
 }
 
 // The end of a run, by when its nodes are free; only a job in cleanup has one.
@@ -177,10 +161,7 @@ fn end_of(state: u32, due: u32, cleanup: u32) -> u32
     requires { state ≡ 3 → cleanup ≤ due }
     ensures { result ≡ end_at state due cleanup }
 {
-    if state == 3 {
-        return due - cleanup;
-    }
-    0
+    if state == 3 { due - cleanup } else { 0 }
 }
 
 // The job in this place.
@@ -247,22 +228,19 @@ pub fn gather(
         starts.now tenants.now estimates.now leasts.now promises.now submitted.now
         ranks.now forecasts.now live) → result ≡ store k.model }
 {
-    let none = Job::unused();
-    let mut jobs = [none; 64];
+    let mut jobs = [Job::unused(); 64];
     let cleanup = settings.cleanup();
-    let mut i: usize = 0;
-    while i < live {
+    for i in 0..live {
         jobs[i] = job_at(
             tickets, nodes, states, dues, starts, tenants, estimates, leasts, promises, submitted,
             ranks, forecasts, i, cleanup,
         );
-        i += 1;
     }
     Scheduler {
-        settings: settings,
-        clock: clock,
-        next: next,
-        jobs: jobs,
+        settings,
+        clock,
+        next,
+        jobs,
     }
 }
 
@@ -282,12 +260,11 @@ pub fn find(tickets: &[u32; 64], live: usize, ticket: u32) -> usize
             high = middle;
         }
     }
-    if low < live {
-        if tickets[low] == ticket {
-            return low;
-        }
+    if low < live && tickets[low] == ticket {
+        low
+    } else {
+        live
     }
-    live
 }
 
 // A place of a column leaves, those after it move up.
@@ -295,13 +272,8 @@ pub fn shift(list: &mut [u32; 64], live: usize, at: usize)
     requires { (at < live) × (live ≤ slots) }
     ensures { (xs : List ℕ) → list.old ≡ pad slots 0 xs → length xs ≡ live → list.new ≡ pad slots 0 (remove_at at xs) }
 {
-    let last = live - 1;
-    let mut i = at;
-    while i < last {
-        list[i] = list[i + 1];
-        i += 1;
-    }
-    list[last] = 0;
+    list.copy_within(at + 1..live, at);
+    list[live - 1] = 0;
 }
 
 // The jobs in these places have left, one after another.
@@ -310,12 +282,8 @@ pub fn shift_all(list: &mut [u32; 64], live: usize, gone: &[u32; 64], count: usi
     ensures { (xs : List ℕ) → list.old ≡ pad slots 0 xs → length xs ≡ live
         → list.new ≡ pad slots 0 (removes (take count gone.now) xs) }
 {
-    let mut n = live;
-    let mut k: usize = 0;
-    while k < count {
-        shift(list, n, gone[k] as usize);
-        n -= 1;
-        k += 1;
+    for k in 0..count {
+        shift(list, live - k, gone[k] as usize);
     }
 }
 
@@ -388,14 +356,12 @@ pub fn first_due(dues: &[u32; 64], from: usize, end: usize, minute: u32) -> usiz
     requires { (from ≤ end) × (end ≤ slots) }
     ensures { FirstDue dues.now from end minute result }
 {
-    let mut i = from;
-    while i < end {
+    for i in from..end {
         if dues[i] == minute {
             return i;
         }
-        i += 1;
     }
-    i
+    end
 }
 
 // The first minute in which somebody is due.
@@ -404,13 +370,8 @@ pub fn next_due(dues: &[u32; 64], live: usize) -> u32
     ensures { (f : Job → ℕ) (js : List Job) → Column f js dues.now → length js ≡ live → result ≡ soonest never (map f js) }
 {
     let mut first = NEVER;
-    let mut i: usize = 0;
-    while i < live {
-        let t = dues[i];
-        if t < first {
-            first = t;
-        }
-        i += 1;
+    for i in 0..live {
+        first = first.min(dues[i]);
     }
     first
 }
@@ -418,18 +379,9 @@ pub fn next_due(dues: &[u32; 64], live: usize) -> u32
 // How many of the first numbers are this one.
 fn count_of(list: &[u32; 64], live: usize, wanted: u32) -> usize
     requires { live ≤ slots }
-    ensures { (f : Job → ℕ) (js : List Job) → Column f js list.now → length js ≡ live
-        → result ≡ length (keep (λ (j : Job). eqb (f j) wanted) js) }
+    ensures { result ≡ count_by (λ x. x == wanted) (take live list.now) }
 {
-    let mut n: usize = 0;
-    let mut i: usize = 0;
-    while i < live {
-        if list[i] == wanted {
-            n += 1;
-        }
-        i += 1;
-    }
-    n
+    list[..live].iter().filter(|&&n| n == wanted).count()
 }
 
 // How many live jobs are this tenant's.

@@ -30,21 +30,3 @@ returns c =
 
 pub loop-i-init : goal.loop-i-init
 loop-i-init c = (omega arith, λ js e n. c.requires.1)
-
-pub offset_bounds-estimates-i : goal.offset_bounds-estimates-i
-offset_bounds-estimates-i c = omega arith
-
-pub bounds-estimates-i : goal.bounds-estimates-i
-bounds-estimates-i c = omega arith
-
-pub offset_bounds-holds-i : goal.offset_bounds-holds-i
-offset_bounds-holds-i c = omega arith
-
-pub bounds-holds-i : goal.bounds-holds-i
-bounds-holds-i c = omega arith
-
-pub overflow_add-i : goal.overflow_add-i
-overflow_add-i c = omega arith
-
-pub loop-i-smaller : goal.loop-i-smaller
-loop-i-smaller c = omega arith

@@ -3,7 +3,7 @@
 use native.Mathlib.Omega.{arith}
 use lib.ListN.{length-set}
 use Rattle.conservative_columns.specs.Started.{noted_none, noted_yes, noted_waits, noted_ran, noted_all}
-use Rattle.conservative_columns.proofs.note_started.Goals.{else-states-i-eq2, then-states-i-eq2+else-was-i-eq1, then-states-i-eq2+then-was-i-eq1}
+use Rattle.conservative_columns.proofs.note_started.Goals.{else-states-i-eq2, else-states-i-eq2-via-else-states-i-eq2, else-states-i-eq2-via-then-states-i-eq2+else-was-i-eq1, then-states-i-eq2+then-was-i-eq1}
 use Rattle.conservative_columns.proofs.note_started.Goals as goal
 
 pub loop-i-init : goal.loop-i-init
@@ -21,42 +21,16 @@ loop-i-preserved c =
         simp length-set l.invariant.2,
         λ js ks k. noted_yes k t (omega (arith, l.invariant.1, t, p)) w.if-states-i-eq2.true w.if-was-i-eq1.true (l.invariant.3 js ks k),
       )
-      | then-states-i-eq2+else-was-i-eq1 w ↦ rw (w.started-is, w.n-is) (omega (arith, t), omega (arith, l.invariant.1), l.invariant.2, λ js ks k. noted_ran k t w.if-was-i-eq1.false (l.invariant.3 js ks k))
-      | else-states-i-eq2 w ↦ rw (w.started-is, w.n-is) (omega (arith, t), omega (arith, l.invariant.1), l.invariant.2, λ js ks k. noted_waits k t w.if-states-i-eq2.false (l.invariant.3 js ks k))
+      | else-states-i-eq2 w ↦ rw (w.started-is, w.n-is) (
+        omega (arith, t),
+        omega (arith, l.invariant.1),
+        l.invariant.2,
+        λ js ks k. elim w.else-states-i-eq2.branch [
+          | else-states-i-eq2-via-then-states-i-eq2+else-was-i-eq1 v ↦ noted_ran k t v.if-was-i-eq1.false (l.invariant.3 js ks k)
+          | else-states-i-eq2-via-else-states-i-eq2 v ↦ noted_waits k t v.if-states-i-eq2.false (l.invariant.3 js ks k)
+        ],
+      )
     ]
 
 pub returns : goal.returns
 returns c = λ js ks k. noted_all k c.loop-i-test.false (c.loop-i.invariant.3 js ks k)
-
-pub offset_bounds-states-i : goal.offset_bounds-states-i
-offset_bounds-states-i c = omega arith
-
-pub bounds-states-i : goal.bounds-states-i
-bounds-states-i c = omega arith
-
-pub offset_bounds-was-i : goal.offset_bounds-was-i
-offset_bounds-was-i c = omega arith
-
-pub bounds-was-i : goal.bounds-was-i
-bounds-was-i c = omega arith
-
-pub offset_bounds-tickets-i : goal.offset_bounds-tickets-i
-offset_bounds-tickets-i c = omega arith
-
-pub bounds-tickets-i : goal.bounds-tickets-i
-bounds-tickets-i c = omega arith
-
-pub offset_bounds-started-n : goal.offset_bounds-started-n
-offset_bounds-started-n c = omega arith
-
-pub bounds-started-n : goal.bounds-started-n
-bounds-started-n c = omega arith
-
-pub overflow_add-n : goal.overflow_add-n
-overflow_add-n c = omega arith
-
-pub overflow_add-i : goal.overflow_add-i
-overflow_add-i c = omega arith
-
-pub loop-i-smaller : goal.loop-i-smaller
-loop-i-smaller c = omega arith

@@ -1,6 +1,6 @@
 -- `conservative_columns::note_started` meets its contract: those in the first places are listed.
 -- Assumes nothing.
-use Prim.Native.Nat.{◌-◌, ◌≤◌}
+use Prim.Native.Nat.{◌≤◌}
 use mathlib.Core.List.{List}
 use Rattle.scheduler.specs.declared.Job.{Job}
 use Rattle.job_columns.specs.Columns.{Whole}
@@ -10,6 +10,3 @@ use Rattle.conservative_columns.proofs.note_started.Given as goal
 abbrev pub invariant-loop-i : goal.invariant-loop-i
 invariant-loop-i l =
     (l.i ≤ l.live) × (l.n ≤ l.i) × Whole l.started × ((js ks : List Job) (c : Compared js ks l.tickets l.was l.states l.live) → Noted c l.i l.started l.n)
-
-abbrev pub decreases-loop-i : goal.decreases-loop-i
-decreases-loop-i l = l.live - l.i

@@ -112,6 +112,3 @@ bounds-holders-n c = omega (arith, inside (goal.at.bounds-holders-n c).In-loop-i
 
 pub overflow_add-n : goal.overflow_add-n
 overflow_add-n c = omega (arith, inside (goal.at.overflow_add-n c).In-loop-i)
-
-pub overflow_add-i : goal.overflow_add-i
-overflow_add-i c = omega (arith, inside (goal.at.overflow_add-i c).In-loop-i)

@@ -1,6 +1,6 @@
 -- `easy_columns::begin` meets its contract. The invariant: the lists are those of the first `i` jobs.
 -- Assumes nothing.
-use Prim.Native.Nat.{◌-◌, ◌≤◌}
+use Prim.Native.Nat.{◌≤◌}
 use mathlib.Core.Path.{◌≡◌}
 use Rattle.scheduler.specs.declared.Settings.{Settings}
 use Rattle.scheduler.specs.Settings.{cleanup as cleanupOf}
@@ -12,6 +12,3 @@ invariant-loop-i l =
     (l.i ≤ l.live)
     × ((S : Settings) (b : Beginning l.tickets l.nodes l.states l.dues l.initial.asked l.initial.held l.initial.ends l.initial.holders l.live S) → l.initial.spare ≡ S.nodes
     → l.cleanup ≡ cleanupOf S → Looked b.model l.i l.asked l.held l.ends l.holders l.n l.spare)
-
-abbrev pub decreases-loop-i : goal.decreases-loop-i
-decreases-loop-i l = l.live - l.i

@@ -1,6 +1,6 @@
 -- `easy_columns::holder` meets its contract. The invariant: the search over the places that are left finds the place.
 -- Assumes nothing.
-use Prim.Native.Nat.{◌-◌, ◌≤◌}
+use Prim.Native.Nat.{◌≤◌}
 use mathlib.Core.Path.{◌≡◌}
 use mathlib.Core.List.{List}
 use lib.ListN.{length, drop}
@@ -15,6 +15,3 @@ abbrev pub invariant-loop-i : goal.invariant-loop-i
 invariant-loop-i l =
     (l.i ≤ l.holding)
     × ((rs : List Job) → Column ticket_of rs l.holders → length rs ≡ l.holding → position_from (has_ticket l.ticket) l.i (drop l.i rs) ≡ position (has_ticket l.ticket) rs)
-
-abbrev pub decreases-loop-i : goal.decreases-loop-i
-decreases-loop-i l = l.holding - l.i

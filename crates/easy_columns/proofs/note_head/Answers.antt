@@ -14,16 +14,16 @@ use Rattle.easy_columns.proofs.note_head.Goals as goal
 
 pub returns-then-at-live : goal.returns-then-at-live
 returns-then-at-live c = λ m o a n t f et em h.
-    head_stored m a o h _ _ _ _ n et em c.if-head-ne0.true (c.find-at.ensures m.jobs t a n) c.if-at-live.true _ f
+    head_stored m a o h _ _ _ _ n et em c.if-head-eq0.false (c.find-at.ensures m.jobs t a n) c.if-at-live.true _ f
 
 pub returns-else-at-live : goal.returns-else-at-live
 returns-else-at-live c = λ m o a n t f et em h.
     absurd (omega (
       arith,
-      head_place m a o h _ _ _ _ n et em c.if-head-ne0.true (c.find-at.ensures m.jobs t a n),
+      head_place m a o h _ _ _ _ n et em c.if-head-eq0.false (c.find-at.ensures m.jobs t a n),
       c.if-at-live.false,
     ))
 
-pub returns-else-head-ne0 : goal.returns-else-head-ne0
-returns-else-head-ne0 c = λ m o a n t f et em h.
-    f ∙ ap (λ (x : Option Forecast). pad slots 0 (map forecast_of (noted x m).jobs)) (sym (none_heard m.jobs o h (sym c.if-head-ne0.false ∙ et)))
+pub returns-then-head-eq0 : goal.returns-then-head-eq0
+returns-then-head-eq0 c = λ m o a n t f et em h.
+    f ∙ ap (λ (x : Option Forecast). pad slots 0 (map forecast_of (noted x m).jobs)) (sym (none_heard m.jobs o h (sym c.if-head-eq0.true ∙ et)))

@@ -91,6 +91,3 @@ offset_bounds-dues-at c = omega (arith, inside (goal.at.offset_bounds-dues-at c)
 
 pub bounds-dues-at : goal.bounds-dues-at
 bounds-dues-at c = omega (arith, inside (goal.at.bounds-dues-at c).In-loop-k)
-
-pub overflow_add-k : goal.overflow_add-k
-overflow_add-k c = omega (arith, inside (goal.at.overflow_add-k c).In-loop-k)

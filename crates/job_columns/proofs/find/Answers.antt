@@ -8,6 +8,7 @@ use Rattle.scheduler.specs.Jobs.{unused}
 use Rattle.scheduler.specs.Table.{ticket_of}
 use Rattle.job_columns.specs.Columns.{column_at}
 use Rattle.job_columns.specs.Searches.{place_of, between_later, between_sooner, between_here, between_none}
+use Rattle.job_columns.proofs.find.Goals.{else-low-live-via-then-low-live+else-tickets-low, else-low-live-via-else-low-live}
 use Rattle.job_columns.proofs.find.Goals as goal
 
 pub loop-low-init : goal.loop-low-init
@@ -43,14 +44,12 @@ returns-then-tickets-low c =
     sym (ap (λ o. place_of o c.args.live) (between_here a (l.invariant.2 js k a n) (omega arith) h
     (sym (column_at ticket_of js c.args.tickets.now k unused l.low h) ∙ c.if-tickets-low.true)))
 
-pub returns-else-tickets-low : goal.returns-else-tickets-low
-returns-else-tickets-low c =
-    let l = c.loop-low in
-    λ js k a n.
-    sym (ap (λ o. place_of o c.args.live) (between_none a (l.invariant.2 js k a n) (omega arith)
-    (λ h q. c.if-tickets-low.false (column_at ticket_of js c.args.tickets.now k unused l.low h ∙ q))))
-
 pub returns-else-low-live : goal.returns-else-low-live
 returns-else-low-live c =
     let l = c.loop-low in
-    λ js k a n. sym (ap (λ o. place_of o c.args.live) (between_none a (l.invariant.2 js k a n) (omega arith) (λ h q. omega arith)))
+    λ js k a n.
+    let none = between_none a (l.invariant.2 js k a n) (omega arith) in
+    sym (ap (λ o. place_of o c.args.live) (elim c.else-low-live.branch [
+      | else-low-live-via-then-low-live+else-tickets-low w ↦ none (λ h q. w.if-tickets-low.false (column_at ticket_of js c.args.tickets.now k unused l.low h ∙ q))
+      | else-low-live-via-else-low-live w ↦ none (λ h q. omega (arith, w.if-low-live.false, n, h))
+    ]))

@@ -34,4 +34,6 @@ loop-i-preserved c =
 pub returns : goal.returns
 returns c =
     let l = c.loop-i in
-    record { from_to = l.invariant.0; to_end = l.invariant.1; passed = l.invariant.2; here = λ h. absurd (omega arith) }
+    let a = c.args in
+    let e : l.i ≡ a.end = omega (arith, l.auto.i-end, c.requires.0) in
+    record { from_to = c.requires.0; to_end = omega arith; passed = rw e at l.invariant.2; here = λ h. absurd (omega arith) }

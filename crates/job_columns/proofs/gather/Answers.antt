@@ -26,7 +26,7 @@ pub loop-i-init : goal.loop-i-init
 unfolding pad
 loop-i-init c =
     let k = c.requires in
-    (omega arith, omega (arith, k.sound.few, k.columns.core.live_is), c.cleanup-cleanup.ensures, λ k. ap (replicate 64) c.unused-none.ensures)
+    (omega arith, omega (arith, k.sound.few, k.columns.core.live_is), c.cleanup-cleanup.ensures, λ k. ap (replicate 64) c.unused-jobs.ensures)
 
 pub job_at-requires : goal.job_at-requires
 job_at-requires c =

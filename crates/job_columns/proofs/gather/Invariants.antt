@@ -1,6 +1,6 @@
 -- `job_columns::gather` meets its contract: the first jobs are in their slots, and the slots after them are unused.
 -- Assumes nothing.
-use Prim.Native.Nat.{◌-◌, ◌≤◌}
+use Prim.Native.Nat.{◌≤◌}
 use mathlib.Core.Path.{◌≡◌}
 use lib.ListN.{take}
 use Rattle.lists.specs.Pads.{pad}
@@ -15,6 +15,3 @@ invariant-loop-i l =
     (l.i ≤ l.live) × (l.live ≤ slots) × (l.cleanup ≡ cleanupOf l.settings)
     × ((k : SchedulerColumns l.settings l.clock l.next l.tickets l.nodes l.states l.dues l.starts l.tenants l.estimates l.leasts l.promises l.submitted l.ranks l.forecasts l.live)
     → l.jobs ≡ pad slots unused (take l.i k.model.jobs))
-
-abbrev pub decreases-loop-i : goal.decreases-loop-i
-decreases-loop-i l = l.live - l.i

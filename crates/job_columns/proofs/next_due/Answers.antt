@@ -13,7 +13,6 @@ use Rattle.job_columns.specs.Columns.{column_at}
 use Rattle.job_columns.specs.JobColumns.{never}
 use Rattle.job_columns.specs.Searches.{soonest, soonest_last}
 use Rattle.job_columns.proofs.next_due.Goals as goal
-use Rattle.job_columns.proofs.next_due.Goals.{then-t-first, else-t-first}
 
 -- one place more
 more : (f : Job → ℕ) (js : List Job) (i : ℕ) → i < length js
@@ -34,7 +33,7 @@ loop-i-preserved c =
           let t = column_at f js a.dues.now k unused l.i h in
           let w = l.invariant.1 f js k n in
           let m = more f js l.i h in
-          elim c.if-t-first.branch [ then-t-first q ↦ omega arith | else-t-first q ↦ omega arith ],
+          omega (arith, c.min-first.ensures),
     )
 
 pub returns : goal.returns

@@ -1,6 +1,6 @@
 -- `job_columns::next_due` meets its contract: the soonest of the places passed.
 -- Assumes nothing.
-use Prim.Native.Nat.{ℕ, ◌-◌, ◌≤◌}
+use Prim.Native.Nat.{ℕ, ◌≤◌}
 use mathlib.Core.Path.{◌≡◌}
 use mathlib.Core.List.{List, map}
 use lib.ListN.{length, take}
@@ -13,6 +13,3 @@ use Rattle.job_columns.proofs.next_due.Given as goal
 abbrev pub invariant-loop-i : goal.invariant-loop-i
 invariant-loop-i l =
     (l.i ≤ l.live) × ((f : Job → ℕ) (js : List Job) → Column f js l.dues → length js ≡ l.live → l.first ≡ soonest never (map f (take l.i js)))
-
-abbrev pub decreases-loop-i : goal.decreases-loop-i
-decreases-loop-i l = l.live - l.i

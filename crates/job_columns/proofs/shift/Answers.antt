@@ -1,47 +1,38 @@
--- `job_columns::shift` meets its contract: the places before i have moved up, those from there on are as they were.
+-- `job_columns::shift` meets its contract.
 -- Assumes nothing.
-use Prim.Native.Nat.{ℕ, ◌-◌, ◌≤◌}
+use Prim.Native.Nat.{ℕ, zero, suc, ◌+◌, ◌-◌, ◌≤◌, ◌<◌}
 use native.Mathlib.Omega.{arith}
 use mathlib.Core.Path.{◌≡◌, ap, ◌∙◌}
-use mathlib.Core.List.{List}
-use lib.ListN.{length, set}
-use Rattle.lists.specs.Pads.{pad, length_pad}
+use mathlib.Core.List.{List, [], ◌∷◌, ◌++◌}
+use lib.ListN.{length, get_or, set, take}
+use Rattle.std.proofs.Common.{drop, drop-cons, length-take-le, add-one}
+use Rattle.std.proofs.lemmas.List.{set_at}
+use Rattle.std.specs.List.{copy_within}
+use Rattle.lists.specs.Pads.{pad}
 use Rattle.scheduler.specs.Limits.{slots}
-use Rattle.job_columns.specs.Removal.{removed_pad}
-use Rattle.job_columns.specs.ShiftLoop.{shifting_first, shifting_there, shifting_next, shifting_last}
+use Rattle.job_columns.specs.Removal.{remove_at, removed_pad}
 use Rattle.job_columns.proofs.shift.Goals as goal
 
--- the list is as long as its places are many
-whole : (list xs : List ℕ) (live : ℕ) → list ≡ pad slots 0 xs → length xs ≡ live → live ≤ slots → length list ≡ slots
-whole list xs live e n l = ap length e ∙ length_pad slots 0 xs (omega arith)
+-- those after the place move up, and the last place is written
+moved_up : (xs : List ℕ) (at n : ℕ) → at + n < length xs
+    → set ((take at xs ++ take n (drop (suc at) xs)) ++ drop (at + n) xs) (at + n) 0 ≡ remove_at at (take (suc (at + n)) xs) ++ (0 ∷ drop (suc (at + n)) xs)
+moved_up [] at n l = absurd (omega arith)
+moved_up (x ∷ xs) zero n l =
+    let z : 0 + n ≡ n = omega arith in
+    rw (z, drop-cons (x ∷ xs) n 0 (omega arith)) (set_at (take n xs) (get_or (x ∷ xs) n 0) (drop n xs) 0 n (length-take-le n xs (omega arith)))
+moved_up (x ∷ xs) (suc at) n l =
+    let e : suc at + n ≡ suc (at + n) = omega arith in
+    rw e (ap (λ (ys : List ℕ). x ∷ ys) (moved_up xs at n (omega arith)))
 
-pub loop-i-init : goal.loop-i-init
-loop-i-init c =
-    let a = c.args in (
-      omega arith,
-      omega (arith, c.requires.0),
-      omega (arith, c.requires.0),
-      λ xs e n. shifting_first 0 a.at a.list.now (omega (arith, whole a.list.now xs a.live e n c.requires.1, c.requires)),
-    )
-
-pub loop-i-preserved : goal.loop-i-preserved
-loop-i-preserved c =
-    let l = c.loop-i in
-    let a = c.args in (
-      omega arith,
-      omega arith,
-      l.invariant.2,
-      λ xs e n.
-          let v = l.invariant.3 xs e n in
-          rw (shifting_there 0 v) (shifting_next 0 v (omega (arith, whole a.list.now xs a.live e n c.requires.1, l.invariant.2))),
-    )
+moved : (list xs : List ℕ) (at live : ℕ) → list ≡ pad slots 0 xs → length xs ≡ live → (at < live) × (live ≤ slots) → length list ≡ slots
+    → set (copy_within list (at + 1) live at) (live - 1) 0 ≡ pad slots 0 (remove_at at xs)
+moved list xs at live e n r w =
+    let k = live - suc at in
+    let last : live - 1 ≡ at + k = omega (arith, r) in
+    let end : suc (at + k) ≡ live = omega (arith, r) in
+    rw (add-one, last) (moved_up list at k (omega (arith, r)) ∙ rw (end) (removed_pad slots 0 at live list xs e n r.0 r.1))
 
 pub returns : goal.returns
 returns c =
-    let l = c.loop-i in
-    let a = c.args in
     λ xs e n.
-    let end : a.live - 1 ≡ l.i = omega (arith, l.invariant.2) in
-    ap (λ (k : ℕ). set l.list k 0) end
-    ∙ shifting_last 0 (l.invariant.3 xs e n) a.live 0 (omega (arith, l.invariant.2))
-    ∙ removed_pad slots 0 a.at a.live a.list.now xs e n c.requires.0 c.requires.1
+    rw c.copy_within.ensures.after (moved c.args.list.now xs c.args.at c.args.live e n c.requires c.told-list)

@@ -32,7 +32,7 @@ module _ (gone : List ℕ) (live count : ℕ) (r : (live ≤ slots) × (count �
   here = place gone live count k r.2 (omega (arith, r.0, r.1)) r.3 h
 
 pub loop-k-init : goal.loop-k-init
-loop-k-init c = (omega arith, omega arith, λ xs e l. e)
+loop-k-init c = (omega arith, λ xs e l. e)
 
 pub overflow_cast-gone : goal.overflow_cast-gone
 overflow_cast-gone c =
@@ -42,12 +42,7 @@ overflow_cast-gone c =
 pub shift-requires : goal.shift-requires
 shift-requires c =
     let l = c.loop-k in
-    (omega (arith, here c.args.gone.now c.args.live c.args.count c.requires l.k (omega arith), l.invariant.1), omega (arith, l.invariant.1, c.requires.0))
-
-pub overflow_sub-n : goal.overflow_sub-n
-overflow_sub-n c =
-    let l = c.loop-k in
-    omega (arith, here c.args.gone.now c.args.live c.args.count c.requires l.k (omega arith), l.invariant.1)
+    (omega (arith, here c.args.gone.now c.args.live c.args.count c.requires l.k (omega arith)), omega (arith, c.requires.0))
 
 pub loop-k-preserved : goal.loop-k-preserved
 loop-k-preserved c =
@@ -56,11 +51,10 @@ loop-k-preserved c =
     let h : l.k < a.count = omega arith in
     let few : a.count ≤ slots = omega (arith, c.requires.0, c.requires.1) in (
       omega arith,
-      omega (arith, here c.args.gone.now c.args.live c.args.count c.requires l.k h, l.invariant.1),
       λ xs e n.
           rw (more a.gone.now a.live a.count l.k c.requires.2 few c.requires.3 h xs)
-          (c.shift.ensures (removes (take l.k a.gone.now) xs) (l.invariant.2 xs e n)
-          (omega (arith, left a.gone.now a.live a.count l.k c.requires.2 few c.requires.3 h xs n, l.invariant.1))),
+          (c.shift.ensures (removes (take l.k a.gone.now) xs) (l.invariant.1 xs e n)
+          (left a.gone.now a.live a.count l.k c.requires.2 few c.requires.3 h xs n)),
     )
 
 pub returns : goal.returns
@@ -68,4 +62,4 @@ returns c =
     let l = c.loop-k in
     let a = c.args in
     let end : l.k ≡ a.count = omega arith in
-    λ xs e n. l.invariant.2 xs e n ∙ ap (λ (m : ℕ). pad slots 0 (removes (take m a.gone.now) xs)) end
+    λ xs e n. l.invariant.1 xs e n ∙ ap (λ (m : ℕ). pad slots 0 (removes (take m a.gone.now) xs)) end

@@ -1,7 +1,7 @@
 -- `job_columns::spread` meets its contract: the columns are those of the live jobs passed.
 -- Assumes nothing.
 use native.Mathlib.Omega.{arith}
-use mathlib.Core.Path.{sym, ◌∙◌}
+use mathlib.Core.Path.{◌≡◌, sym, ◌∙◌}
 use lib.ListN.{get_or, take}
 use Rattle.scheduler.specs.Jobs.{unused}
 use Rattle.scheduler.specs.Model.{view}
@@ -28,10 +28,11 @@ loop-i-preserved c =
           (c.append.ensures (take l.i (view d).jobs) l.invariant.1.core),
     )
 
-pub returns-after-loop-i : goal.returns-after-loop-i
-returns-after-loop-i c =
+pub returns : goal.returns
+returns c =
     let l = c.loop-i in
-    all_whole (view c.args.d).jobs l.invariant.1 (omega (arith, c.requires.0.holds.few, c.loop-i-test.false))
+    let e : l.i ≡ 64 = omega (arith, l.auto.i-end, c.requires.0.holds.few, l.invariant.0) in
+    all_whole (view c.args.d).jobs (rw e at l.invariant.1) (omega (arith, c.requires.0.holds.few))
 
 pub returns-then-not-is_live : goal.returns-then-not-is_live
 returns-then-not-is_live c =

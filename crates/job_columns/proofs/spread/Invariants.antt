@@ -1,6 +1,6 @@
 -- `job_columns::spread` meets its contract: the columns are those of the live jobs passed.
 -- Assumes nothing.
-use Prim.Native.Nat.{◌-◌, ◌≤◌}
+use Prim.Native.Nat.{◌≤◌}
 use lib.ListN.{length, take}
 use Rattle.scheduler.specs.Model.{view}
 use Rattle.job_columns.specs.JobColumns.{AllColumns}
@@ -10,6 +10,3 @@ abbrev pub invariant-loop-i : goal.invariant-loop-i
 invariant-loop-i l =
     (l.i ≤ length (view l.d).jobs) × AllColumns l.d.settings (take l.i (view l.d).jobs) l.tickets l.nodes l.states l.dues l.starts l.tenants l.estimates l.leasts l.promises
     l.submitted l.ranks l.forecasts l.i
-
-abbrev pub decreases-loop-i : goal.decreases-loop-i
-decreases-loop-i l = 64 - l.i
