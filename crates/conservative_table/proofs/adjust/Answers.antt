@@ -8,38 +8,13 @@ use mathlib.Core.List.{List}
 use mathlib.Core.Logic.{◌⊎◌, inl, inr}
 use lib.ListN.{length, get_or, set}
 use lib.Seq.{get_or-set_same, get_or-set_other}
-use borrow.Rule.Slice.PartMut.{put_mid, mid_of}
-use Rattle.std.proofs.Common.{rules}
-use Rattle.std.proofs.lemmas.List.{places}
+use borrow.Rule.Slice.PartMut.{mid_of}
 use Rattle.lists.specs.Tests.{le_or}
 use Rattle.scheduler.specs.Limits.{max_nodes}
 use Rattle.conservative_table.specs.ListChanges.{changed, SpareNodes, Adjustable}
+use Rattle.conservative_table.proofs.Parts.{part_long, part_at, put_long, put_before, put_inside, put_after}
 use Rattle.conservative_table.proofs.adjust.Goals.{then-release, else-release}
 use Rattle.conservative_table.proofs.adjust.Goals as goal
-
--- the part and its places, and the places once a part is put back
-module _ (xs : List ℕ) (a k : ℕ) where
-  part_long : a + k ≤ length xs → length (mid_of a k xs) ≡ k
-  part_long h = search (rules, places)
-
-  part_at : (j : ℕ) → a ≤ j → j < a + k → get_or (mid_of a k xs) (j - a) 0 ≡ get_or xs j 0
-  part_at j l u =
-      let e : a + (j - a) ≡ j = omega arith in
-      let p : get_or (mid_of a k xs) (j - a) 0 ≡ get_or xs (a + (j - a)) 0 = search (rules, places) in
-      p ∙ ap (λ (m : ℕ). get_or xs m 0) e
-
-  module _ (ys : List ℕ) (h : a + k ≤ length xs) (n : length ys ≡ k) where
-    put_long : length (put_mid a k xs ys) ≡ length xs
-    put_long = search (rules, places)
-
-    put_before : (j : ℕ) → j < a → get_or (put_mid a k xs ys) j 0 ≡ get_or xs j 0
-    put_before j l = search (rules, places)
-
-    put_inside : (j : ℕ) → a ≤ j → j < a + k → get_or (put_mid a k xs ys) j 0 ≡ get_or ys (j - a) 0
-    put_inside j l u = search (rules, places)
-
-    put_after : (j : ℕ) → a + k ≤ j → get_or (put_mid a k xs ys) j 0 ≡ get_or xs j 0
-    put_after j l = search (rules, places)
 
 module _ {xs : List ℕ} {from to nodes : ℕ} {release : Bool} (q : Adjustable xs from to nodes release) (order : from ≤ to) where
   abbrev part : List ℕ
@@ -50,11 +25,7 @@ module _ {xs : List ℕ} {from to nodes : ℕ} {release : Bool} (q : Adjustable 
 
   -- the nodes of the place that the loop has come to
   spare : {i v : ℕ} → i < length part → v ≡ get_or part i 0 → SpareNodes release nodes v
-  spare {i} l e =
-      let z : from + i - from ≡ i = omega arith in
-      let p = part_at xs from (to - from) (from + i) (omega arith) (omega (arith, long)) in
-      let r = q.room (from + i) (omega arith) (omega (arith, long)) in
-      rw (e ∙ ap (λ (m : ℕ). get_or part m 0) (sym z) ∙ p) r
+  spare {i} l e = rw (e ∙ part_at xs from (to - from) i (omega (arith, long))) (q.room (from + i) (omega arith) (omega (arith, long)))
 
 -- it is changed
 one_more : (f : ℕ → ℕ) (xs ys : List ℕ) {i v : ℕ} → ((j : ℕ) → j < i → get_or ys j 0 ≡ f (get_or xs j 0))
@@ -110,6 +81,6 @@ returns c =
       inside = λ j h u.
           put_inside xs a.from k l.left-items fit n j h (omega arith)
           ∙ l.invariant.0 (j - a.from) (omega (arith, n))
-          ∙ ap (changed a.release a.nodes) (part_at xs a.from k j h (omega arith));
+          ∙ ap (changed a.release a.nodes) (part_at xs a.from k (j - a.from) (omega arith) ∙ ap (λ (m : ℕ). get_or xs m 0) (omega arith));
       after = λ j h u. put_after xs a.from k l.left-items fit n j (omega (arith, c.requires.1));
     }
