@@ -27,54 +27,33 @@ fn newly_running(before: Scheduler, after: Scheduler) -> Tickets
 {
     let mut list = [0u32; 64];
     let mut n: usize = 0;
-    let mut i: usize = 0;
-    while i < Scheduler::LIVE {
+    for i in 0..Scheduler::LIVE {
         let j = before.jobs[i];
-        let k = after.jobs[i];
-        if began(j, k) {
+        if began(j, after.jobs[i]) {
             list[n] = j.ticket;
             n += 1;
         }
-        i += 1;
     }
-    Tickets {
-        count: n,
-        list: list,
-    }
+    Tickets { count: n, list }
 }
 
 // Whether it waits before and runs after.
 fn began(before: Job, after: Job) -> bool
     ensures { result ≡ began before after }
 {
-    let s = after.state;
-    match s {
-        State::Unused => false,
-        State::Waiting => false,
-        State::Running => before.is_waiting(),
-        State::Cleanup => false,
-    }
+    before.is_waiting() && after.is_running()
 }
 
 // The answer of a call that has done its part on the table; `after` is the scheduler once the others have moved.
 pub fn advance(left: Part, after: Scheduler) -> Outcome
     ensures { result ≡ advanced_by left after }
 {
-    let started = newly_running(left.scheduler, after);
-    let refusal = left.refusal;
-    let ended = left.ended;
-    let answer = Answer {
-        refusal: refusal,
-        ticket: 0,
-        promise: 0,
-        reads: 0,
-        ended: ended,
-        started: started,
-        head: 0,
-        forecast: 0,
-    };
     Outcome {
-        answer: answer,
+        answer: Answer {
+            ended: left.ended,
+            started: newly_running(left.scheduler, after),
+            ..Answer::refused(left.refusal)
+        },
         scheduler: after,
     }
 }
@@ -85,11 +64,11 @@ pub fn depart(d: Scheduler, how: Departure, ticket: u32) -> Outcome
     ensures { result ≡ outcome (call (view d) (calls.depart how ticket)) }
 {
     let left = job_table::leave(d, how, ticket);
-    let refusal = left.refusal;
-    let mut after = left.scheduler;
-    if refusal.is_none() {
-        after = conservative_plan::replan_all(after);
-    }
+    let after = if left.refusal.is_none() {
+        conservative_plan::replan_all(left.scheduler)
+    } else {
+        left.scheduler
+    };
     advance(left, after)
 }
 
@@ -105,20 +84,15 @@ pub fn accept(d: Scheduler, s: Submission, slot: usize, start: u32, reads: u32) 
     let mut e = d;
     e.jobs[slot] = job;
     e.next = ticket + 1;
-    let none = Tickets::none();
     let started = Tickets::one_if(start == now, ticket);
-    let answer = Answer {
-        refusal: Refusal::None,
-        ticket: ticket,
-        promise: start,
-        reads: reads,
-        ended: none,
-        started: started,
-        head: 0,
-        forecast: 0,
-    };
     Outcome {
-        answer: answer,
+        answer: Answer {
+            ticket,
+            promise: start,
+            reads,
+            started,
+            ..Answer::refused(Refusal::None)
+        },
         scheduler: e,
     }
 }
@@ -148,10 +122,7 @@ pub fn submit(d: Scheduler, s: Submission) -> Outcome
 fn starts_at(job: Job, now: u32) -> bool
     ensures { result ≡ starts_at now job }
 {
-    if job.start == now {
-        return job.is_waiting();
-    }
-    false
+    job.is_waiting() && job.start == now
 }
 
 // The waiting jobs whose planned start is now start, and the call answers. If the tick is refused, no job is planned for now.
@@ -162,34 +133,20 @@ fn start_due(p: Part) -> Outcome
     let now = e.clock;
     let mut list = [0u32; 64];
     let mut n: usize = 0;
-    let mut i: usize = 0;
-    while i < Scheduler::LIVE {
+    for i in 0..Scheduler::LIVE {
         let j = e.jobs[i];
         if starts_at(j, now) {
             list[n] = j.ticket;
             n += 1;
             e.jobs[i] = conservative_plan::place(j, now, now);
         }
-        i += 1;
     }
-    let refusal = p.refusal;
-    let ended = p.ended;
-    let started = Tickets {
-        count: n,
-        list: list,
-    };
-    let answer = Answer {
-        refusal: refusal,
-        ticket: 0,
-        promise: 0,
-        reads: 0,
-        ended: ended,
-        started: started,
-        head: 0,
-        forecast: 0,
-    };
     Outcome {
-        answer: answer,
+        answer: Answer {
+            ended: p.ended,
+            started: Tickets { count: n, list },
+            ..Answer::refused(p.refusal)
+        },
         scheduler: e,
     }
 }

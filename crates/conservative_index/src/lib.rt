@@ -2,13 +2,13 @@
 // The search goes through the blocks and counts the points that it reads.
 #![tactic(auto)]
 
-ghost use Rattle.std.specs.Prelude.{◌≡◌, ◌+◌, ◌-◌, min, ◌<◌, ◌≤◌, length};
+ghost use Rattle.std.specs.Prelude.{◌≡◌, false, ◌+◌, ◌-◌, ◌<◌, ◌≤◌, length};
 ghost use Rattle.conservative_table.specs.ListChanges.{rows};
 ghost use Rattle.conservative_table.specs.ProfileLists.{IsProfile, Laying, Advancing};
 ghost use Rattle.spans.specs.Index.{blocks};
 ghost use Rattle.conservative_index.specs.BuiltIndex.{at, extremes, Built, Indexed, held};
 ghost use Rattle.conservative_index.specs.StoredIndex.{stored_blocks};
-ghost use Rattle.conservative_index.specs.Anchors.{standing, is_open, over, minute_of, enter, settle, note, Noted, pass_points, pass_block};
+ghost use Rattle.conservative_index.specs.Anchors.{is_open, over, minute_of, enter, settle, note, Noted, pass_points, pass_block};
 ghost use Rattle.conservative_index.specs.Search.{Searches, Sought};
 ghost use Rattle.conservative_index.specs.Intake.{Took};
 
@@ -21,25 +21,21 @@ pub struct Blocks {
 
 impl Blocks {
     // The blocks of this number of points, copied out of the lists.
+    // Kept: the new form is no plainer, as at Profile::copied.
     pub fn copied(low: &[u32; 9], high: &[u32; 9], points: usize) -> Blocks
         requires { (length low.now ≡ 9) × (length high.now ≡ 9) × (points ≤ rows) }
         ensures { result ≡ stored_blocks (held low.now high.now (blocks points)) }
     {
         let nothing = spans::Block { fewest: 0, most: 0 };
         let mut list = [nothing; 9];
-        let count = (points + 15) / 16;
-        let mut i: usize = 0;
-        while i < count {
+        let count = points.div_ceil(16);
+        for i in 0..count {
             list[i] = spans::Block {
                 fewest: low[i],
                 most: high[i],
             };
-            i += 1;
         }
-        Blocks {
-            count: count,
-            list: list,
-        }
+        Blocks { count, list }
     }
 }
 
@@ -50,16 +46,9 @@ fn extremes_of(free: &[u32; 131], from: usize, to: usize) -> spans::Block
 {
     let mut low = free[from];
     let mut high = low;
-    let mut i = from + 1;
-    while i < to {
-        let left = free[i];
-        if left < low {
-            low = left;
-        }
-        if high < left {
-            high = left;
-        }
-        i += 1;
+    for &left in &free[from + 1..to] {
+        low = low.min(left);
+        high = high.max(left);
     }
     spans::Block {
         fewest: low,
@@ -67,31 +56,16 @@ fn extremes_of(free: &[u32; 131], from: usize, to: usize) -> spans::Block
     }
 }
 
-// The end of the block that begins in this place.
-fn end_of(from: usize, count: usize) -> usize
-    requires { (from < count) × (count ≤ rows) }
-    ensures { result ≡ from + min 16 (count - from) }
-{
-    if count - from < 16 {
-        return count;
-    }
-    from + 16
-}
-
 // Brings the index up to date from this block on. The blocks before it are up to date already.
 pub fn build(free: &[u32; 131], count: usize, low: &mut [u32; 9], high: &mut [u32; 9], first: usize)
     requires { Built free.now count low.old high.old first × (length free.now ≡ rows) × (count ≤ rows) × (first ≤ 9) }
     ensures { Indexed free.now count low.new high.new }
 {
-    let mut b = first;
-    let mut from = first * 16;
-    while from < count {
-        let to = end_of(from, count);
-        let of = extremes_of(free, from, to);
+    for b in first..count.div_ceil(16) {
+        let from = 16 * b;
+        let of = extremes_of(free, from, (from + 16).min(count));
         low[b] = of.fewest;
         high[b] = of.most;
-        b += 1;
-        from += 16;
     }
 }
 
@@ -117,75 +91,52 @@ pub struct Start {
     pub reads: usize,
 }
 
-// The search comes to a minute. The hold may be over by then.
-fn enter(anchor: Anchor, hold: u32, minute: u32) -> Anchor
-    ensures { result ≡ enter hold minute anchor }
-{
-    match anchor {
-        Anchor::Lost => Anchor::Lost,
-        Anchor::From(a) => {
-            if a <= minute {
-                if hold <= minute - a {
-                    return Anchor::Found(a);
-                }
+impl Anchor {
+    // The search comes to a minute. The hold may be over by then.
+    fn enter(self, hold: u32, minute: u32) -> Anchor
+        ensures { result ≡ enter hold minute self }
+    {
+        match self {
+            Anchor::From(since) if since <= minute && hold <= minute - since => {
+                Anchor::Found(since)
             }
-            Anchor::From(a)
+            other => other,
         }
-        Anchor::Found(a) => Anchor::Found(a),
     }
-}
 
-// From this minute on there are enough nodes, or there are not.
-fn settle(anchor: Anchor, minute: u32, enough: bool) -> Anchor
-    ensures { result ≡ settle minute enough anchor }
-{
-    match anchor {
-        Anchor::Lost => {
-            if enough {
-                return Anchor::From(minute);
-            }
-            Anchor::Lost
+    // From this minute on there are enough nodes, or there are not.
+    fn settle(self, minute: u32, enough: bool) -> Anchor
+        ensures { result ≡ settle minute enough self }
+    {
+        match self {
+            Anchor::Lost if enough => Anchor::From(minute),
+            Anchor::From(_) if !enough => Anchor::Lost,
+            other => other,
         }
-        Anchor::From(a) => {
-            if enough {
-                return Anchor::From(a);
-            }
-            Anchor::Lost
+    }
+
+    // Whether the minute is found.
+    fn is_found(self) -> bool
+        ensures { result ≡ over self }
+    {
+        matches!(self, Anchor::Found(_))
+    }
+
+    // Whether the nodes have been free so far.
+    fn is_open(self) -> bool
+        ensures { result ≡ is_open self }
+    {
+        matches!(self, Anchor::From(_))
+    }
+
+    // The minute since which they have been free, or the minute that was found.
+    fn minute(self) -> u32
+        ensures { result ≡ minute_of self }
+    {
+        match self {
+            Anchor::Lost => 0,
+            Anchor::From(minute) | Anchor::Found(minute) => minute,
         }
-        Anchor::Found(a) => Anchor::Found(a),
-    }
-}
-
-// Whether the minute is found.
-fn over(anchor: Anchor) -> bool
-    ensures { result ≡ over anchor }
-{
-    match anchor {
-        Anchor::Lost => false,
-        Anchor::From(_) => false,
-        Anchor::Found(_) => true,
-    }
-}
-
-// Whether the nodes have been free so far.
-fn is_open(anchor: Anchor) -> bool
-    ensures { result ≡ is_open anchor }
-{
-    match anchor {
-        Anchor::Lost => false,
-        Anchor::From(_) => true,
-        Anchor::Found(_) => false,
-    }
-}
-
-// The minute since which they have been free, or the minute that was found.
-fn minute_of(anchor: Anchor) -> u32
-    ensures { result ≡ minute_of anchor }
-{
-    match anchor {
-        Anchor::Lost => 0,
-        Anchor::From(a) => a,
-        Anchor::Found(a) => a,
     }
 }
 
@@ -200,51 +151,44 @@ fn read_points(
     requires { (length free.now ≡ rows) × (length enough.old ≡ 16) × (from ≤ to) × (to ≤ rows) × (to ≤ from + 16) }
     ensures { Noted nodes (at free.now) from (to - from) result enough.new }
 {
-    let mut reads: usize = 0;
-    let mut place = from;
-    while place < to {
-        enough[reads] = nodes <= free[place];
-        reads += 1;
-        place += 1;
+    let part = &free[from..to];
+    for (k, &left) in part.iter().enumerate() {
+        enough[k] = nodes <= left;
     }
-    reads
+    part.len()
 }
 
 // The search passes these points; the notes say which of them have enough nodes. Before them the nodes have been free since a minute, or they have
-// not. (The state is in two locals: matching an enum at each point takes three times as long.)
+// not.
 fn pass_points(
     minutes: &[u32; 131],
     from: usize,
     enough: &[bool; 16],
     count: usize,
-    opened: bool,
-    since: u32,
+    before: Anchor,
     hold: u32,
 ) -> Anchor
-    requires { (length minutes.now ≡ rows) × (length enough.now ≡ 16) × (from + count ≤ rows) × (count ≤ 16) }
-    ensures { result ≡ pass_points hold (at minutes.now) (note enough.now) from count (standing opened since) }
+    requires { (length minutes.now ≡ rows) × (length enough.now ≡ 16) × (from + count ≤ rows) × (count ≤ 16) × (over before ≡ false) }
+    ensures { result ≡ pass_points hold (at minutes.now) (note enough.now) from count before }
 {
-    let mut on = opened;
-    let mut first = since;
-    let mut k: usize = 0;
-    while k < count {
-        let minute = minutes[from + k];
+    // Kept: tried, and it misses a bar of speed: matching an enum at each point takes three times as long as these two locals.
+    let mut on = before.is_open();
+    let mut first = before.minute();
+    for (k, &minute) in minutes[from..from + count].iter().enumerate() {
         if on {
-            if first <= minute {
-                if hold <= minute - first {
-                    return Anchor::Found(first);
-                }
+            if first <= minute && hold <= minute - first {
+                return Anchor::Found(first);
             }
         } else {
             first = minute;
         }
         on = enough[k];
-        k += 1;
     }
     if on {
-        return Anchor::From(first);
+        Anchor::From(first)
+    } else {
+        Anchor::Lost
     }
-    Anchor::Lost
 }
 
 // A block is passed as a whole, or each of its points is read.
@@ -263,17 +207,16 @@ fn pass_block(
     ensures { result ≡ pass_block nodes hold (at minutes.now) (at free.now) low high from (to - from) anchor }
 {
     let minute = minutes[from];
-    let here = enter(anchor, hold, minute);
-    if over(here) {
+    let here = anchor.enter(hold, minute);
+    if here.is_found() {
         return Step {
             anchor: here,
             reads: 0,
         };
     }
     if nodes <= low {
-        let next = settle(here, minute, true);
         return Step {
-            anchor: next,
+            anchor: here.settle(minute, true),
             reads: 0,
         };
     }
@@ -285,12 +228,9 @@ fn pass_block(
     }
     let mut enough = [false; 16];
     let reads = read_points(free, from, to, nodes, &mut enough);
-    let opened = is_open(here);
-    let since = minute_of(here);
-    let next = pass_points(minutes, from, &enough, reads, opened, since, hold);
     Step {
-        anchor: next,
-        reads: reads,
+        anchor: pass_points(minutes, from, &enough, reads, here, hold),
+        reads,
     }
 }
 
@@ -309,22 +249,18 @@ pub fn search(
 {
     let mut anchor = Anchor::Lost;
     let mut reads: usize = 0;
-    let mut b: usize = 0;
-    let mut from: usize = 0;
-    while from < count {
-        let to = end_of(from, count);
+    for b in 0..count.div_ceil(16) {
+        let from = 16 * b;
+        let to = (from + 16).min(count);
         let step = pass_block(
             minutes, free, from, to, low[b], high[b], anchor, nodes, hold,
         );
-        let next = step.anchor;
-        anchor = next;
+        anchor = step.anchor;
         reads += step.reads;
-        b += 1;
-        from += 16;
     }
     Start {
-        minute: minute_of(anchor),
-        reads: reads,
+        minute: anchor.minute(),
+        reads,
     }
 }
 

@@ -9,12 +9,13 @@ ghost use Rattle.scheduler.specs.Table.{with_jobs};
 ghost use Rattle.scheduler.specs.Model.{view};
 ghost use Rattle.jobs.specs.Premise.{Holds};
 ghost use Rattle.jobs.specs.Slots.{Low};
-ghost use Rattle.conservative_rules.specs.Conservative.{placed, points, compressed};
+ghost use Rattle.conservative_rules.specs.Conservative.{placed, points, compressed, spans};
 ghost use Rattle.conservative_table.specs.ListChanges.{rows};
+ghost use Rattle.conservative_table.specs.ProfileLists.{IsProfile};
 ghost use Rattle.spans.specs.Index.{index};
 ghost use Rattle.conservative_index.specs.StoredIndex.{stored_blocks};
 ghost use Rattle.conservative_profile.specs.StoredProfile.{stored};
-ghost use Rattle.conservative_plan.specs.PlannedSlots.{span_at, Planned, Tabulated};
+ghost use Rattle.conservative_plan.specs.PlannedSlots.{span_at, Planned, Slots, Tabulated};
 ghost use Rattle.conservative_plan.specs.EarliestStart.{Askable, Asked};
 ghost use Rattle.conservative_plan.specs.Replan.{Replans, Turned, TurnDone, TurnAsked};
 ghost use Rattle.conservative_plan.specs.Pass.{Replannable, calm_turns, slot_after};
@@ -29,9 +30,9 @@ pub fn span(nodes: u32, from: u32, hold: u32) -> spans::Span
     ensures { result ≡ span_at nodes from hold }
 {
     spans::Span {
-        from: from,
+        from,
         until: from + hold,
-        nodes: nodes,
+        nodes,
     }
 }
 
@@ -46,29 +47,38 @@ pub fn held_until(job: Job, settings: Settings, hold: u32) -> u32
     job.start + hold
 }
 
-// The profile: each live job's span is laid over the idle machine's.
+// The profile of slots: the span of each live job is laid over the idle machine's.
+pub fn tabulate_slots(
+    jobs: &[Job; 64],
+    settings: Settings,
+    clock: u32,
+    minutes: &mut [u32; 131],
+    free: &mut [u32; 131],
+) -> usize
+    requires { Slots settings clock jobs.now × (length minutes.old ≡ rows) × (length free.old ≡ rows) }
+    ensures { IsProfile settings.nodes (spans settings jobs.now) clock result minutes.new free.new }
+{
+    let mut count = conservative_table::idle(minutes, free, settings.nodes, clock);
+    for &job in jobs {
+        if job.is_live() {
+            let hold = settings.hold_time(job.estimate as u32);
+            let taken = spans::Span {
+                from: job.start,
+                until: held_until(job, settings, hold),
+                nodes: job.nodes as u32,
+            };
+            count = conservative_table::lay(minutes, free, 0, count, taken).count;
+        }
+    }
+    count
+}
+
+// The profile of a scheduler's jobs.
 pub fn tabulate(d: Scheduler, minutes: &mut [u32; 131], free: &mut [u32; 131]) -> usize
     requires { Holds Planned d × (length minutes.old ≡ rows) × (length free.old ≡ rows) }
     ensures { Tabulated d result minutes.new free.new }
 {
-    let settings = d.settings;
-    let mut count = conservative_table::idle(minutes, free, settings.nodes, d.clock);
-    let mut i: usize = 0;
-    while i < Scheduler::LIVE {
-        let j = d.jobs[i];
-        if j.is_live() {
-            let hold = settings.hold_time(j.estimate as u32);
-            let taken = spans::Span {
-                from: j.start,
-                until: held_until(j, settings, hold),
-                nodes: j.nodes as u32,
-            };
-            let row = conservative_table::lay(minutes, free, 0, count, taken);
-            count = row.count;
-        }
-        i += 1;
-    }
-    count
+    tabulate_slots(&d.jobs, d.settings, d.clock, minutes, free)
 }
 
 // The profile as a value.
@@ -144,10 +154,7 @@ pub fn take_turn(
     let found = conservative_table::search_before(minutes, free, start, nodes, hold);
     let to = found.minute;
     if to == start {
-        return Turn {
-            start: start,
-            count: count,
-        };
+        return Turn { start, count };
     }
     let before = span(nodes, start, hold);
     let out = conservative_table::lift(minutes, free, found.near, count, before);
@@ -182,7 +189,7 @@ fn replan(
     let t = take_turn(minutes, free, count, job.nodes as u32, job.start, hold);
     if t.start == job.start {
         return Replanned {
-            job: job,
+            job,
             count: t.count,
         };
     }
@@ -245,10 +252,9 @@ pub fn replan_kept(
         if j.is_waiting() {
             let hold = settings.hold_time(j.estimate as u32);
             let t = replan(j, hold, clock, minutes, free, n);
-            let k = t.job;
-            e.jobs[i] = k;
+            e.jobs[i] = t.job;
             n = t.count;
-            turns = calm(turns, j.start, k.start);
+            turns = calm(turns, j.start, t.job.start);
         }
         i = slot_after(i, Scheduler::LIVE);
     }

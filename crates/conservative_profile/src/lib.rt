@@ -16,23 +16,20 @@ pub struct Profile {
 
 impl Profile {
     // The points, copied out of the lists.
+    // Kept: the new form is no plainer: one function for this and Blocks::copied would take the number of places, an empty element and a closure,
+    // in place of a loop of three lines.
     pub fn copied(minutes: &[u32; 131], free: &[u32; 131], count: usize) -> Profile
         requires { Copies minutes.now free.now count }
         ensures { (q : Copies minutes.now free.now count) → result ≡ stored (profile q.machine q.spans q.now) }
     {
         let nothing = spans::Point { minute: 0, free: 0 };
         let mut points = [nothing; 129];
-        let mut i: usize = 0;
-        while i < count {
+        for i in 0..count {
             points[i] = spans::Point {
                 minute: minutes[i],
                 free: free[i],
             };
-            i += 1;
         }
-        Profile {
-            count: count,
-            points: points,
-        }
+        Profile { count, points }
     }
 }

@@ -193,7 +193,7 @@ module _ {ms fs : List ℕ} {a : Row} {x : Span} {release : Bool} (l : LaysAt ms
       old : l.f t ≡ get_or fs₂ i 0
       old = table₂.value i t h d e
 
-    order : a.at < b.at
+    pub order : a.at < b.at
     order = go (le_or b.at a.at)
       where
         -- both lie in the table, or the later minute would not be the later

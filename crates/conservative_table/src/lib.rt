@@ -43,18 +43,17 @@ fn place_after(minutes: &[u32; 131], near: usize, count: usize, t: u32) -> usize
 }
 
 // The same, place after place from the near one on. This is quicker where few places lie between.
+// Kept: the new form is no plainer: one function would still have both walks, and a switch for them.
 fn place_by_steps(minutes: &[u32; 131], near: usize, count: usize, t: u32) -> usize
     requires { Ascends minutes.now near count t }
     ensures { Place minutes.now count t result }
 {
-    let mut k = near + 1;
-    while k < count {
+    for k in near + 1..count {
         if t < minutes[k] {
             return k;
         }
-        k += 1;
     }
-    k
+    count
 }
 
 // The value goes into this place; what stood there and after it moves up.
@@ -62,11 +61,7 @@ fn insert(list: &mut [u32; 131], count: usize, at: usize, value: u32)
     requires { (length list.old ≡ rows) × (at ≤ count) × (count < rows) }
     ensures { Inserted list.old count at value list.new }
 {
-    let mut i = count;
-    while at < i {
-        list[i] = list[i - 1];
-        i -= 1;
-    }
+    list.copy_within(at..count, at + 1);
     list[at] = value;
 }
 
@@ -77,10 +72,7 @@ fn split_at(minutes: &mut [u32; 131], free: &mut [u32; 131], count: usize, k: us
 {
     let last = k - 1;
     if minutes[last] == t {
-        return Row {
-            at: last,
-            count: count,
-        };
+        return Row { at: last, count };
     }
     let left = free[last];
     insert(minutes, count, k, t);
@@ -97,10 +89,7 @@ fn split(minutes: &mut [u32; 131], free: &mut [u32; 131], near: usize, count: us
     ensures { Split minutes.old free.old count t result minutes.new free.new }
 {
     if minutes[near] == t {
-        return Row {
-            at: near,
-            count: count,
-        };
+        return Row { at: near, count };
     }
     let k = place_after(minutes, near, count, t);
     split_at(minutes, free, count, k, t)
@@ -111,11 +100,7 @@ fn withdraw(list: &mut [u32; 131], count: usize, at: usize, by: usize)
     requires { (length list.old ≡ rows) × (count ≤ rows) × (at + by ≤ count) }
     ensures { Removed list.old count at by list.new }
 {
-    let mut i = at + by;
-    while i < count {
-        list[i - by] = list[i];
-        i += 1;
-    }
+    list.copy_within(at + by..count, at);
 }
 
 // A place that says the same as the one before it leaves.
@@ -123,10 +108,7 @@ fn join(minutes: &mut [u32; 131], free: &mut [u32; 131], count: usize, at: usize
     requires { Inside minutes.old free.old count at }
     ensures { Joined minutes.old free.old count at result minutes.new free.new }
 {
-    if at == 0 {
-        return count;
-    }
-    if free[at] != free[at - 1] {
+    if at == 0 || free[at] != free[at - 1] {
         return count;
     }
     withdraw(minutes, count, at, 1);
@@ -135,18 +117,17 @@ fn join(minutes: &mut [u32; 131], free: &mut [u32; 131], count: usize, at: usize
 }
 
 // `nodes` nodes are taken, or free again, in these places.
+// Kept: what may not change needs it: LaysAt and Lays, the contracts of those who call this, say by `release` which of the two is done.
 fn adjust(free: &mut [u32; 131], from: usize, to: usize, nodes: u32, release: bool)
-    requires { Adjustable free.old from to nodes release }
+    requires { Adjustable free.old from to nodes release × (from ≤ to) }
     ensures { Adjusted free.old from to nodes release free.new }
 {
-    let mut i = from;
-    while i < to {
-        if release {
-            free[i] = free[i] + nodes;
+    for left in &mut free[from..to] {
+        *left = if release {
+            *left + nodes
         } else {
-            free[i] = free[i] - nodes;
-        }
-        i += 1;
+            *left - nodes
+        };
     }
 }
 
@@ -180,15 +161,9 @@ fn change(
     requires { Lays minutes.old free.old near count x release }
     ensures { (l : Lays minutes.old free.old near count x release) → Laid l result minutes.new free.new }
 {
-    let mut from = minutes[0];
-    if from < x.from {
-        from = x.from;
-    }
+    let from = minutes[0].max(x.from);
     if x.until <= from {
-        return Row {
-            at: count,
-            count: count,
-        };
+        return Row { at: count, count };
     }
     let begin = split(minutes, free, near, count, from);
     let rest = lay_at(minutes, free, begin, x, release);
@@ -261,6 +236,7 @@ fn reach(minutes: &[u32; 131], free: &[u32; 131], from: usize, nodes: u32, until
     requires { Ending minutes.now from until × (length free.now ≡ rows) }
     ensures { Reached minutes.now free.now from nodes until result }
 {
+    // Kept: the new form is no plainer. That a place ends the walk is known to the proof alone (Ending): a `for` would need an end, and an answer there.
     let mut k = from;
     while minutes[k] < until {
         if free[k] < nodes {
@@ -276,20 +252,12 @@ fn skip(free: &[u32; 131], from: usize, nodes: u32) -> usize
     requires { Ending free.now from nodes }
     ensures { Skipped free.now from nodes result }
 {
+    // Kept: the new form is no plainer, as in `reach`.
     let mut k = from;
     while free[k] < nodes {
         k += 1;
     }
     k
-}
-
-fn sooner(a: u32, b: u32) -> u32
-    ensures { result ≡ min a b }
-{
-    if a < b {
-        return a;
-    }
-    b
 }
 
 // The earliest minute for a job that stands in the plan from this start on. From its start on its own nodes are there for it, so the search ends
@@ -307,7 +275,7 @@ pub fn search_before(
     let mut i = skip(free, 0, nodes);
     while minutes[i] < start {
         let here = minutes[i];
-        let until = sooner(here + hold, start);
+        let until = (here + hold).min(start);
         let k = reach(minutes, free, i + 1, nodes, until);
         if until <= minutes[k] {
             return Found {

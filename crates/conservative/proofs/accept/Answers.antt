@@ -5,4 +5,4 @@ use Rattle.conservative.proofs.accept.Goals as goal
 
 pub returns : goal.returns
 unfolding accepted
-returns c = rw (c.one_if-started.ensures, c.none-none.ensures, c.place-job.ensures, c.fresh-order.ensures)
+returns c = rw (c.one_if-started.ensures, c.refused.ensures, c.place-job.ensures, c.fresh-order.ensures)

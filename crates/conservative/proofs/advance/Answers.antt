@@ -3,4 +3,4 @@ use Rattle.conservative.proofs.advance.Goals as goal
 
 pub returns : goal.returns
 unfolding advanced_by
-returns c = rw c.newly_running-started.ensures
+returns c = rw (c.newly_running.ensures, c.refused.ensures)

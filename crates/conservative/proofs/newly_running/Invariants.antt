@@ -1,6 +1,6 @@
 use mathlib.Core.Path.{◌≡◌}
 use mathlib.Core.List.{List}
-use Prim.Native.Nat.{ℕ, ◌-◌, ◌≤◌}
+use Prim.Native.Nat.{ℕ, ◌≤◌}
 use lib.ListN.{length, take}
 use Rattle.lists.specs.Pads.{pad}
 use Rattle.scheduler.specs.declared.Scheduler.{Scheduler}
@@ -15,6 +15,3 @@ pub record Inv (before after : Scheduler) (list : List ℕ) (n i : ℕ) : Type 0
 
 abbrev pub invariant-loop-i : goal.invariant-loop-i
 invariant-loop-i l = Inv l.before l.after l.list l.n l.i
-
-abbrev pub decreases-loop-i : goal.decreases-loop-i
-decreases-loop-i l = 64 - l.i

@@ -33,7 +33,7 @@ returns c =
     let l = c.loop-i in
     let len = part_whole c.args.p c.well_formed.0 in
     let done = starts_done l.invariant len (omega arith) in
-    λ j. record {
+    rw c.refused.ensures (λ j. record {
       answer = record { refusal = c.args.p.refusal; ticket = 0; promise = 0; reads = 0; ended = c.args.p.ended; started = done.1 j; head = 0; forecast = 0 };
       scheduler = done.0 j;
-    }
+    })

@@ -3,7 +3,7 @@
 use Prim.Native.Nat.{ℕ, suc, ◌+◌, ◌-◌, ◌≤◌, ◌<◌}
 use native.Mathlib.Omega.{arith}
 use native.Mathlib.Numerals.{add-one}
-use mathlib.Core.Path.{◌≡◌, refl, sym, ap, ◌∙◌}
+use mathlib.Core.Path.{◌≡◌, sym, ap, ◌∙◌}
 use mathlib.Core.Bool.{Bool}
 use mathlib.Core.List.{List}
 use lib.ListN.{get_or}
@@ -18,9 +18,9 @@ module _ (ms : List ℕ) (bs : List Bool) (from count hold : ℕ) (a : Anchor) w
     pub inside : k ≤ count
     pub is : b ≡ pass_points hold (at ms) (note bs) from k a
 
-  pub begin : Inv a 0
+  pub begin : {b : Anchor} → b ≡ a → Inv b 0
   unfolding pass_points
-  begin = record { inside = omega arith; is = refl }
+  begin e = record { inside = omega arith; is = e }
 
   pub pass-more : {b d : Anchor} {k : ℕ} → Inv b k → d ≡ pass_point hold (get_or ms (from + k) 0) (note bs k) b
       → d ≡ pass_points hold (at ms) (note bs) from (suc k) a
@@ -41,7 +41,4 @@ module _ (ms : List ℕ) (bs : List Bool) (from count hold : ℕ) (a : Anchor) w
   all-passed q l = q.is ∙ ap (λ (k : ℕ). pass_points hold (at ms) (note bs) from k a) (omega (arith, q.inside))
 
 abbrev pub invariant-loop-k : goal.invariant-loop-k
-invariant-loop-k l = Inv l.minutes l.enough l.from l.count l.hold (standing l.initial.on l.initial.first) (standing l.on l.first) l.k
-
-abbrev pub decreases-loop-k : goal.decreases-loop-k
-decreases-loop-k l = l.count - l.k
+invariant-loop-k l = Inv l.minutes l.enough l.from l.count l.hold l.fn.before (standing l.on l.first) l.k

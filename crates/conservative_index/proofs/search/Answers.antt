@@ -1,38 +1,36 @@
 -- `conservative_index::search` meets its contract: before each block the search stands where it should, and has counted what it should.
 -- Assumes nothing.
-use Prim.Native.Nat.{◌+◌, ◌-◌, ◌≤◌}
+use Prim.Native.Nat.{◌+◌, ◌-◌, ◌*◌, ◌≤◌}
+use mathlib.Core.Path.{◌≡◌}
 use native.Mathlib.Omega.{arith}
 use Rattle.conservative_index.specs.Anchors.{pass_few}
 use Rattle.conservative_index.specs.Search.{going_begin, going_on, going_end}
 use borrow.Author.Rules.{rules}
 use Rattle.conservative_index.proofs.search.Goals as goal
 
-pub loop-from-init : goal.loop-from-init
-loop-from-init c = going_begin
-
-pub end_of-to-requires : goal.end_of-to-requires
-end_of-to-requires c =
-    (omega arith, c.requires.fit)
+pub loop-b-init : goal.loop-b-init
+loop-b-init c = going_begin
 
 pub pass_block-step-requires : goal.pass_block-step-requires
 pass_block-step-requires c =
-    let e = c.end_of-to.ensures in
+    let e = c.min-to.ensures in
     (c.requires.profile.minutes_long, c.requires.profile.free_long, omega (arith, e), omega (arith, e, c.requires.fit), omega (arith, e))
 
 pub overflow_add-reads : goal.overflow_add-reads
 overflow_add-reads c =
-    let l = c.loop-from in
-    let e = c.end_of-to.ensures in
-    let h : c.pass_block-step.result.reads ≤ c.end_of-to.result - l.from = rw c.pass_block-step.ensures
+    let l = c.loop-b in
+    let e = c.min-to.ensures in
+    let h : c.pass_block-step.result.reads ≤ c.min-to.result - 16 * l.b = rw c.pass_block-step.ensures
     (pass_few _ _ _ _ _ _ _ _ _) in
     let k : l.reads + c.pass_block-step.result.reads ≤ 262 = omega (arith, e, c.requires.fit, l.invariant.few) in
     search rules
 
-pub loop-from-preserved : goal.loop-from-preserved
-loop-from-preserved c =
-    let l = c.loop-from in
-    let e = c.end_of-to.ensures in
-    going_on l.invariant (omega arith) _ (omega (arith, e)) c.pass_block-step.result c.pass_block-step.ensures
+pub loop-b-preserved : goal.loop-b-preserved
+loop-b-preserved c =
+    let l = c.loop-b in
+    let e = c.min-to.ensures in
+    let z : 16 * (l.b + 1) ≡ 16 * l.b + 16 = omega arith in
+    rw z (going_on l.invariant (omega arith) _ (omega (arith, e)) c.pass_block-step.result c.pass_block-step.ensures)
 
 pub returns : goal.returns
-returns c = λ s. going_end c.loop-from.invariant (omega arith) s c.minute_of.ensures
+returns c = λ s. going_end c.loop-b.invariant (omega arith) s c.minute.ensures

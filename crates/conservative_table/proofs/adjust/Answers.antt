@@ -1,67 +1,86 @@
 -- `conservative_table::adjust` meets its contract: the places passed are changed.
 -- Assumes nothing.
-use Prim.Native.Nat.{ℕ, ◌+◌, ◌≤◌, ◌<◌}
+use Prim.Native.Nat.{ℕ, ◌+◌, ◌-◌, ◌≤◌, ◌<◌}
 use native.Mathlib.Omega.{arith}
-use mathlib.Core.Path.{◌≡◌, sym, ap, ◌∙◌}
+use mathlib.Core.Path.{◌≡◌, refl, sym, ap, ◌∙◌}
 use mathlib.Core.Bool.{Bool}
 use mathlib.Core.List.{List}
-use lib.ListN.{get_or}
-use Rattle.conservative_table.specs.ListChanges.{changed}
 use mathlib.Core.Logic.{◌⊎◌, inl, inr}
-use lib.ListN.{length, set, length-set}
+use lib.ListN.{length, get_or, set}
 use lib.Seq.{get_or-set_same, get_or-set_other}
+use borrow.Rule.Slice.PartMut.{mid_of}
 use Rattle.lists.specs.Tests.{le_or}
 use Rattle.scheduler.specs.Limits.{max_nodes}
-use Rattle.conservative_table.proofs.adjust.Invariants.{Inv}
-use Rattle.conservative_table.proofs.adjust.Goals.{else-release, then-release}
+use Rattle.conservative_table.specs.ListChanges.{changed, SpareNodes, Adjustable}
+use Rattle.conservative_table.proofs.Parts.{part_long, part_at, put_long, put_before, put_inside, put_after}
+use Rattle.conservative_table.proofs.adjust.Goals.{then-release, else-release}
 use Rattle.conservative_table.proofs.adjust.Goals as goal
 
-one_more : {xs : List ℕ} {from to nodes i : ℕ} {release : Bool} (ys : List ℕ) → Inv xs from to nodes release ys i
-    → (zs : List ℕ) → zs ≡ set ys i (changed release nodes (get_or ys i 0)) → i < to → i < length ys → Inv xs from to nodes release zs (i + 1)
-one_more {xs} {from} {to} {nodes} {i} {release} ys v zs e l h = rw e (record {
-  long = length-set ys i (changed release nodes (get_or ys i 0)) ∙ v.long;
-  low = omega (arith, v.low);
-  high = omega arith;
-  before = λ j a. get_or-set_other ys i j (changed release nodes (get_or ys i 0)) 0 (λ q. omega (arith, v.low)) ∙ v.before j a;
-  inside = λ j a b. go j a b (le_or i j);
-  after = λ j a. get_or-set_other ys i j (changed release nodes (get_or ys i 0)) 0 (λ q. omega arith) ∙ v.after j (omega arith);
-})
+module _ {xs : List ℕ} {from to nodes : ℕ} {release : Bool} (q : Adjustable xs from to nodes release) (order : from ≤ to) where
+  abbrev part : List ℕ
+  part = mid_of from (to - from) xs
+
+  long : length part ≡ to - from
+  long = part_long xs from (to - from) (omega (arith, q.long, q.fit))
+
+  -- the nodes of the place that the loop has come to
+  spare : {i v : ℕ} → i < length part → v ≡ get_or part i 0 → SpareNodes release nodes v
+  spare {i} l e = rw (e ∙ part_at xs from (to - from) i (omega (arith, long))) (q.room (from + i) (omega arith) (omega (arith, long)))
+
+-- it is changed
+one_more : (f : ℕ → ℕ) (xs ys : List ℕ) {i v : ℕ} → ((j : ℕ) → j < i → get_or ys j 0 ≡ f (get_or xs j 0))
+    → ((j : ℕ) → i ≤ j → get_or ys j 0 ≡ get_or xs j 0) → i < length ys → v ≡ f (get_or ys i 0) → (j : ℕ) → j < i + 1 → get_or (set ys i v) j 0 ≡ f (get_or xs j 0)
+one_more f xs ys {i} {v} done left h e j u = go (le_or i j)
   where
-    go : (j : ℕ) → from ≤ j → j < i + 1 → (i ≤ j) ⊎ (j < i) → get_or (set ys i (changed release nodes (get_or ys i 0))) j 0 ≡ changed release nodes (get_or xs j 0)
-    go j a b (inl d) =
-        let f : j ≡ i = omega arith in
-        ap (λ (m : ℕ). get_or (set ys i (changed release nodes (get_or ys i 0))) m 0) f
-        ∙ get_or-set_same ys i (changed release nodes (get_or ys i 0)) 0 h
-        ∙ ap (changed release nodes) (v.after i (omega arith) ∙ ap (λ (m : ℕ). get_or xs m 0) (sym f))
-    go j a b (inr d) = get_or-set_other ys i j (changed release nodes (get_or ys i 0)) 0 (λ q. omega arith) ∙ v.inside j a d
+    go : (i ≤ j) ⊎ (j < i) → get_or (set ys i v) j 0 ≡ f (get_or xs j 0)
+    go (inl d) =
+        let z : j ≡ i = omega arith in
+        rw z (get_or-set_same ys i v 0 h ∙ e ∙ ap f (left i (omega arith)))
+    go (inr d) = get_or-set_other ys i j v 0 (λ q. omega arith) ∙ done j d
 
-pub overflow_add-free : goal.overflow_add-free
-overflow_add-free c =
-    let l = c.loop-i in
-    let r : get_or c.args.free.now l.i 0 + c.args.nodes ≤ max_nodes = rw c.if-release.true at (c.requires.room l.i l.invariant.low (omega arith)) in
-    omega (arith, l.invariant.after l.i (omega arith))
+pub loop-left-init : goal.loop-left-init
+loop-left-init c = (λ j l. absurd (omega arith), λ j l. refl)
 
-pub overflow_sub-free : goal.overflow_sub-free
-overflow_sub-free c =
-    let l = c.loop-i in
-    let r : c.args.nodes ≤ get_or c.args.free.now l.i 0 = rw c.if-release.false at (c.requires.room l.i l.invariant.low (omega arith)) in
-    omega (arith, l.invariant.after l.i (omega arith))
+pub overflow_add-left : goal.overflow_add-left
+overflow_add-left c =
+    let l = c.loop-left in
+    let r : get_or l.left-items l.left-index 0 + c.args.nodes ≤ max_nodes =
+    rw c.if-release.true at (spare c.requires.0 c.requires.1 c.loop-left-test.true (l.invariant.1 l.left-index (omega arith))) in
+    omega arith
 
-pub loop-i-preserved : goal.loop-i-preserved
-loop-i-preserved c =
-    let l = c.loop-i in
-    let h : l.i < length l.free = omega (arith, l.invariant.long, c.requires.long, c.requires.fit) in
-    let r = c.args.release in
-    one_more l.free l.invariant c.if-release.free
-    (elim c.if-release.branch [ then-release w ↦ w.free-is ∙ ap (λ (b : Bool). set l.free l.i (changed b c.args.nodes (get_or l.free l.i 0))) (sym w.if-release.true) | else-release w ↦ w.free-is ∙ ap (λ (b : Bool). set l.free l.i (changed b c.args.nodes (get_or l.free l.i 0))) (sym w.if-release.false) ]) (omega arith) h
+pub overflow_sub-left : goal.overflow_sub-left
+overflow_sub-left c =
+    let l = c.loop-left in
+    rw c.if-release.false at (spare c.requires.0 c.requires.1 c.loop-left-test.true (l.invariant.1 l.left-index (omega arith)))
+
+pub loop-left-preserved : goal.loop-left-preserved
+loop-left-preserved c =
+    let l = c.loop-left in
+    let a = c.args in
+    let e : c.if-release.left ≡ changed a.release a.nodes (get_or l.left-items l.left-index 0) =
+    elim c.if-release.branch [
+      | then-release w ↦ w.left-is ∙ ap (λ (b : Bool). changed b a.nodes (get_or l.left-items l.left-index 0)) (sym w.if-release.true)
+      | else-release w ↦ w.left-is ∙ ap (λ (b : Bool). changed b a.nodes (get_or l.left-items l.left-index 0)) (sym w.if-release.false)
+    ] in (
+      one_more (changed a.release a.nodes) _ l.left-items l.invariant.0 l.invariant.1 (omega (arith, l.auto.left-items, c.loop-left-test.true)) e,
+      λ j h. get_or-set_other l.left-items l.left-index j c.if-release.left 0 (λ q. omega arith) ∙ l.invariant.1 j (omega arith),
+    )
 
 pub returns : goal.returns
 returns c =
-    let l = c.loop-i in
+    let a = c.args in
+    let l = c.loop-left in
+    let xs = a.free.now in
+    let k : ℕ = a.to - a.from in
+    let q = c.requires.0 in
+    let fit : a.from + k ≤ length xs = omega (arith, q.long, q.fit, c.requires.1) in
+    let n : length l.left-items ≡ k = l.auto.left-items ∙ long q c.requires.1 in
     record {
-      long = l.invariant.long;
-      before = l.invariant.before;
-      inside = λ j a b. l.invariant.inside j a (omega arith);
-      after =
-          λ j a b. l.invariant.after j (omega (arith, l.invariant.high));
+      long = put_long xs a.from k l.left-items fit n;
+      before = put_before xs a.from k l.left-items fit n;
+      inside = λ j h u.
+          put_inside xs a.from k l.left-items fit n j h (omega arith)
+          ∙ l.invariant.0 (j - a.from) (omega (arith, n))
+          ∙ ap (changed a.release a.nodes) (part_at xs a.from k (j - a.from) (omega arith) ∙ ap (λ (m : ℕ). get_or xs m 0) (omega arith));
+      after = λ j h u. put_after xs a.from k l.left-items fit n j (omega (arith, c.requires.1));
     }

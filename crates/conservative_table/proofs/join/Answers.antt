@@ -2,13 +2,13 @@
 -- Assumes nothing.
 use native.Mathlib.Omega.{arith}
 use Rattle.conservative_table.specs.Join.{join_none, join_left}
+use Rattle.conservative_table.proofs.join.Goals.{then-at-eq0-via-then-at-eq0, then-at-eq0-via-else-at-eq0+then-free-at}
 use Rattle.conservative_table.proofs.join.Goals as goal
 
 pub returns-then-at-eq0 : goal.returns-then-at-eq0
-returns-then-at-eq0 c = join_none c.requires (λ u. absurd (omega arith))
-
-pub returns-then-free-at : goal.returns-then-free-at
-returns-then-free-at c = join_none c.requires (λ u. c.if-free-at.true)
+returns-then-at-eq0 c =
+    join_none c.requires
+    (λ u. elim c.then-at-eq0.branch [ then-at-eq0-via-then-at-eq0 w ↦ absurd (omega arith) | then-at-eq0-via-else-at-eq0+then-free-at w ↦ w.if-free-at.true ])
 
 pub returns : goal.returns
 returns c =

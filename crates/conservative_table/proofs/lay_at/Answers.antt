@@ -2,7 +2,7 @@
 -- changes leaves.
 -- Assumes nothing.
 use native.Mathlib.Omega.{arith}
-use Rattle.conservative_table.specs.LaidSpans.{end_ascends, lay_adjustable, end_inside, begin_inside, laid_at}
+use Rattle.conservative_table.specs.LaidSpans.{end_ascends, lay_adjustable, order, end_inside, begin_inside, laid_at}
 use Rattle.conservative_table.proofs.lay_at.Goals as goal
 
 pub place_by_steps-k-requires : goal.place_by_steps-k-requires
@@ -15,7 +15,8 @@ split_at-end-requires c =
 
 pub adjust-requires : goal.adjust-requires
 adjust-requires c =
-    lay_adjustable c.requires c.split_at-end.ensures
+    let s = c.split_at-end.ensures in
+    (lay_adjustable c.requires s, omega (arith, order c.requires s))
 
 pub join-later-requires : goal.join-later-requires
 join-later-requires c =

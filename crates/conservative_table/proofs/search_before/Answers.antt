@@ -17,7 +17,7 @@ overflow_add-here c =
     omega (arith, s.table.low l.i (l.invariant.past.inside s), s.hold_to)
 
 pub reach-k-requires : goal.reach-k-requires
-reach-k-requires c = rw c.sooner-until.ensures (reach_ends c.requires
+reach-k-requires c = rw c.min-until.ensures (reach_ends c.requires
     c.loop-i.invariant (omega arith))
 
 pub offset_bounds-minutes-k : goal.offset_bounds-minutes-k
@@ -28,7 +28,7 @@ bounds-minutes-k c = c.reach-k.ensures.going.fit
 
 pub returns-then-until-minutes : goal.returns-then-until-minutes
 returns-then-until-minutes c =
-    let e = c.sooner-until.ensures in
+    let e = c.min-until.ensures in
     found_reached c.requires
     c.loop-i.invariant (omega arith) (rw e at c.reach-k.ensures) (omega (arith, e))
 
@@ -37,7 +37,7 @@ overflow_add-k c = omega (arith, c.reach-k.ensures.going.fit)
 
 pub skip-i-requires-in-loop-i : goal.skip-i-requires-in-loop-i
 skip-i-requires-in-loop-i c =
-    let e = c.sooner-until.ensures in
+    let e = c.min-until.ensures in
     let s = c.requires in
     skip_ends s (past_reached s c.loop-i.invariant (omega arith)
     (rw e at c.reach-k.ensures) (omega (arith, e)))
@@ -47,7 +47,7 @@ loop-i-smaller c = omega (arith, c.skip-i-in-loop-i.ensures.going.above, c.skip-
 
 pub loop-i-preserved : goal.loop-i-preserved
 loop-i-preserved c =
-    let e = c.sooner-until.ensures in
+    let e = c.min-until.ensures in
     let s = c.requires in
     skipped s (past_reached s c.loop-i.invariant (omega arith)
     (rw e at c.reach-k.ensures) (omega (arith, e))) c.skip-i-in-loop-i.ensures

@@ -1,6 +1,6 @@
 -- `Profile::copied` meets its contract: the points passed are copied.
 -- Assumes nothing.
-use Prim.Native.Nat.{ℕ, ◌-◌, ◌≤◌}
+use Prim.Native.Nat.{ℕ, ◌≤◌}
 use mathlib.Core.Path.{◌≡◌}
 use mathlib.Core.List.{List}
 use Rattle.lists.specs.Pads.{pad}
@@ -16,6 +16,3 @@ pub record Inv (ms fs : List ℕ) (n : ℕ) (ps : List Point) (i : ℕ) : Type 0
 
 abbrev pub invariant-loop-i : goal.invariant-loop-i
 invariant-loop-i l = Inv l.minutes l.free l.count l.points l.i
-
-abbrev pub decreases-loop-i : goal.decreases-loop-i
-decreases-loop-i l = l.count - l.i
