@@ -31,9 +31,6 @@ overflow_add-sum c =
       avail_low h.holding c.args.minute,
     )
 
-pub overflow_add-i : goal.overflow_add-i
-overflow_add-i c = omega (arith, holding_few c.requires.holding)
-
 pub loop-i-preserved : goal.loop-i-preserved
 loop-i-preserved c =
     let l = c.loop-i in

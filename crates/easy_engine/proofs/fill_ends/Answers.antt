@@ -45,9 +45,6 @@ overflow_add-ends c =
       p.low (get_or p.jobs l.i unused) (in_getD p.jobs l.i unused h),
     )
 
-pub offset_bounds-ends-i-in-loop-i : goal.offset_bounds-ends-i-in-loop-i
-offset_bounds-ends-i-in-loop-i c = omega (arith, c.requires.few)
-
 pub bounds-ends-i-in-loop-i : goal.bounds-ends-i-in-loop-i
 bounds-ends-i-in-loop-i c = omega (arith, c.requires.few)
 
