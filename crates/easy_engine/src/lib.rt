@@ -37,6 +37,7 @@ fn given(nodes: u32, end: u32, minute: u32) -> u32
 }
 
 // The nodes free now and those that are given back by this minute.
+#[tactic(auto, using(crate::specs::Shadows::holding_few))]
 pub fn avail_at(held: &[u32; 64], ends: &[u32; 64], running: usize, spare: u32, minute: u32) -> u32
     requires { Held held.now ends.now running spare }
     ensures { (h : Held held.now ends.now running spare) → result ≡ avail h.model minute }
