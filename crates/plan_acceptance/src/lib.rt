@@ -3,7 +3,7 @@
 // lists of numbers, and the tests go over these.
 #![tactic(auto)]
 
-ghost use Rattle.std.specs.Prelude.{◌≡◌, true, ◌&&◌, ◌-◌, max, leb, ltb};
+ghost use Rattle.std.specs.Prelude.{◌≡◌, true, ◌&&◌, ◌-◌, leb, ltb};
 ghost use Rattle.lists.specs.Tests.{on};
 ghost use Rattle.lists.specs.Lists.{first};
 ghost use Rattle.spans.specs.Spans.{used};
@@ -58,16 +58,13 @@ pub fn survey(
     let settings = d.settings;
     let kind = settings.kind;
     let mut count: usize = 0;
-    let mut i: usize = 0;
-    while i < Scheduler::LIVE {
-        let j = d.jobs[i];
+    for &j in &d.jobs {
         if is_planned(j, kind) {
             held[count] = j.nodes as u32;
             froms[count] = j.start;
             untils[count] = free_from(j, settings);
             count += 1;
         }
-        i += 1;
     }
     count
 }
@@ -76,10 +73,7 @@ pub fn survey(
 fn taken(nodes: u32, from: u32, until: u32, minute: u32) -> u32
     ensures { result ≡ on (leb from minute && ltb minute until) nodes }
 {
-    if minute < from {
-        return 0;
-    }
-    if minute < until {
+    if from <= minute && minute < until {
         return nodes;
     }
     0
@@ -97,22 +91,10 @@ fn used_at(
     ensures { (p : Planned held.now froms.now untils.now count) → result ≡ used minute (spans p.settings p.jobs) }
 {
     let mut sum: u32 = 0;
-    let mut i: usize = 0;
-    while i < count {
+    for i in 0..count {
         sum += taken(held[i], froms[i], untils[i], minute);
-        i += 1;
     }
     sum
-}
-
-// The later of two minutes.
-fn later(a: u32, b: u32) -> u32
-    ensures { result ≡ max a b }
-{
-    if a < b {
-        return b;
-    }
-    a
 }
 
 // Whether the plan takes no more than these nodes in any minute from now on. It is enough to try the minutes in which jobs begin.
@@ -128,13 +110,11 @@ fn fits_every(
     ensures { (p : Planned held.now froms.now untils.now count)
         → result ≡ fits_every nodes (spans p.settings p.jobs) clock }
 {
-    let mut i: usize = 0;
-    while i < count {
-        let minute = later(clock, froms[i]);
+    for i in 0..count {
+        let minute = clock.max(froms[i]);
         if nodes < used_at(held, froms, untils, count, minute) {
             return false;
         }
-        i += 1;
     }
     true
 }
@@ -143,13 +123,10 @@ fn fits_every(
 fn asked_first(d: Scheduler) -> u32
     ensures { result ≡ on_choice (first is_waiting d.jobs) 0 nodes_of }
 {
-    let mut i: usize = 0;
-    while i < Scheduler::LIVE {
-        let j = d.jobs[i];
+    for &j in &d.jobs {
         if j.is_waiting() {
             return j.nodes as u32;
         }
-        i += 1;
     }
     0
 }
@@ -178,17 +155,14 @@ fn rests(
     if job.forecast != 0 {
         return false;
     }
-    if easy_engine::may_pass(
+    !easy_engine::may_pass(
         job.nodes as u32,
         job.estimate as u32,
         spare,
         extra,
         room,
         settings,
-    ) {
-        return false;
-    }
-    true
+    )
 }
 
 // Whether every waiting job passes, where the head can start in this minute.
@@ -199,17 +173,13 @@ fn queue_rests(d: Scheduler, minute: u32, spare: u32, extra: u32) -> bool
     let settings = d.settings;
     let room = minute - d.clock;
     let mut ahead: u32 = 0;
-    let mut i: usize = 0;
-    while i < Scheduler::LIVE {
-        let j = d.jobs[i];
+    for &j in &d.jobs {
         if j.is_waiting() {
-            if rests(j, ahead, minute, spare, extra, room, settings) {
-                ahead += 1;
-            } else {
+            if !rests(j, ahead, minute, spare, extra, room, settings) {
                 return false;
             }
+            ahead += 1;
         }
-        i += 1;
     }
     true
 }

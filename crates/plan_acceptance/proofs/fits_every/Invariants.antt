@@ -1,6 +1,5 @@
 -- `plan_acceptance::fits_every` meets its contract. The invariant: whether the jobs that are left fit where they begin is whether all do.
 -- Assumes nothing.
-use Prim.Native.Nat.{◌-◌, ◌≤◌}
 use mathlib.Core.Path.{◌≡◌}
 use lib.ListN.{drop}
 use Rattle.lists.specs.Every.{every}
@@ -11,8 +10,5 @@ use Rattle.plan_acceptance.proofs.fits_every.Given as goal
 
 abbrev pub invariant-loop-i : goal.invariant-loop-i
 invariant-loop-i l =
-    (l.i ≤ l.count) × ((p : Planned l.held l.froms l.untils l.count)
-    → every (fits_at p l.nodes l.clock) (drop l.i p.jobs) ≡ fits_every l.nodes (spans p.settings p.jobs) l.clock)
-
-abbrev pub decreases-loop-i : goal.decreases-loop-i
-decreases-loop-i l = l.count - l.i
+    (p : Planned l.held l.froms l.untils l.count)
+    → every (fits_at p l.nodes l.clock) (drop l.i p.jobs) ≡ fits_every l.nodes (spans p.settings p.jobs) l.clock

@@ -4,7 +4,6 @@ use Prim.Native.Nat.{◌+◌}
 use native.Mathlib.Omega.{arith}
 use mathlib.Core.Path.{◌≡◌}
 use lib.ListN.{drop}
-use borrow.Author.Rules.{rules}
 use Rattle.lists.specs.Lists as lists
 use Rattle.conservative_laws.specs.Validity.{taken}
 use Rattle.plan_acceptance.specs.Plan.{Planned, used_first, used_step, used_done, used_low}
@@ -22,40 +21,19 @@ step c p =
     used_step p c.args.minute l.i c.taken-sum.result (omega arith) c.taken-sum.ensures
 
 pub loop-i-init : goal.loop-i-init
-loop-i-init c = (search rules, λ p. omega (arith, used_first p c.args.minute))
-
-pub offset_bounds-held-i : goal.offset_bounds-held-i
-offset_bounds-held-i c = omega (arith, c.requires.few)
-
-pub bounds-held-i : goal.bounds-held-i
-bounds-held-i c = omega (arith, c.requires.few)
-
-pub offset_bounds-froms-i : goal.offset_bounds-froms-i
-offset_bounds-froms-i c = omega (arith, c.requires.few)
-
-pub bounds-froms-i : goal.bounds-froms-i
-bounds-froms-i c = omega (arith, c.requires.few)
-
-pub offset_bounds-untils-i : goal.offset_bounds-untils-i
-offset_bounds-untils-i c = omega (arith, c.requires.few)
-
-pub bounds-untils-i : goal.bounds-untils-i
-bounds-untils-i c = omega (arith, c.requires.few)
+loop-i-init c = (λ p. omega (arith, used_first p c.args.minute))
 
 pub overflow_add-sum : goal.overflow_add-sum
 overflow_add-sum c =
     let l = c.loop-i in
-    omega (arith, l.invariant.1 c.requires, step c c.requires, used_low c.requires c.args.minute)
-
-pub overflow_add-i : goal.overflow_add-i
-overflow_add-i c = omega (arith, c.requires.few)
+    omega (arith, l.invariant c.requires, step c c.requires, used_low c.requires c.args.minute)
 
 pub loop-i-preserved : goal.loop-i-preserved
 loop-i-preserved c =
     let l = c.loop-i in
-    (omega arith, λ p. omega (arith, l.invariant.1 p, step c p))
+    λ p. omega (arith, l.invariant p, step c p)
 
 pub returns : goal.returns
 returns c =
     let l = c.loop-i in
-    λ p. omega (arith, l.invariant.1 p, used_done p c.args.minute l.i (omega arith))
+    λ p. omega (arith, l.invariant p, used_done p c.args.minute l.i (omega arith))

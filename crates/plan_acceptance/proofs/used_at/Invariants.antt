@@ -1,6 +1,6 @@
 -- `plan_acceptance::used_at` meets its contract. The invariant: the sum and what the jobs that are left take is the whole.
 -- Assumes nothing.
-use Prim.Native.Nat.{◌+◌, ◌-◌, ◌≤◌}
+use Prim.Native.Nat.{◌+◌}
 use mathlib.Core.Path.{◌≡◌}
 use lib.ListN.{drop}
 use Rattle.lists.specs.Lists as lists
@@ -12,8 +12,5 @@ use Rattle.plan_acceptance.proofs.used_at.Given as goal
 
 abbrev pub invariant-loop-i : goal.invariant-loop-i
 invariant-loop-i l =
-    (l.i ≤ l.count) × ((p : Planned l.held l.froms l.untils l.count)
-    → l.sum + lists.sum (taken p.settings l.minute) (drop l.i p.jobs) ≡ used l.minute (spans p.settings p.jobs))
-
-abbrev pub decreases-loop-i : goal.decreases-loop-i
-decreases-loop-i l = l.count - l.i
+    (p : Planned l.held l.froms l.untils l.count)
+    → l.sum + lists.sum (taken p.settings l.minute) (drop l.i p.jobs) ≡ used l.minute (spans p.settings p.jobs)
