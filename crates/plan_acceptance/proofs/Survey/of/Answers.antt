@@ -1,21 +1,22 @@
--- `plan_acceptance::survey` meets its contract. The invariant: the lists have the jobs of the first slots that the plan has.
+-- `plan_acceptance::Survey::of` meets its contract. The invariant: the lists have the jobs of the first slots that the plan has.
 -- Assumes nothing.
 use native.Mathlib.Omega.{arith}
 use mathlib.Core.Path.{refl, sym, ◌∙◌}
 use Rattle.scheduler.proofs.Lengths.{whole}
+use Rattle.easy_engine.specs.SurveyLoop.{blank}
 use Rattle.plan_acceptance.specs.Plan.{slot_in, plan_skips, plan_takes, plan_all}
-use Rattle.plan_acceptance.proofs.survey.Goals.{else-is_planned, then-is_planned}
-use Rattle.plan_acceptance.proofs.survey.Goals as goal
+use Rattle.plan_acceptance.proofs.Survey.of.Goals.{else-is_planned, then-is_planned}
+use Rattle.plan_acceptance.proofs.Survey.of.Goals as goal
 
 pub loop-j-init : goal.loop-j-init
 loop-j-init c =
-    (omega arith, record { held_is = c.requires.1; froms_are = c.requires.2; untils_are = c.requires.3; count_is = refl })
+    (omega arith, record { held_is = blank; froms_are = blank; untils_are = blank; count_is = refl })
 
 pub free_from-requires : goal.free_from-requires
 free_from-requires c =
     let l = c.loop-j in
     let d = c.args.d in
-    c.requires.0 _ (slot_in d l.j-index (omega (arith, whole d c.well_formed.0)) (sym c.is_planned.ensures ∙ c.if-is_planned.true))
+    c.requires _ (slot_in d l.j-index (omega (arith, whole d c.well_formed.0)) (sym c.is_planned.ensures ∙ c.if-is_planned.true))
 
 pub loop-j-preserved : goal.loop-j-preserved
 loop-j-preserved c =

@@ -1,4 +1,4 @@
--- `plan_acceptance::used_at` meets its contract. The invariant: the sum and what the jobs that are left take is the whole.
+-- `plan_acceptance::Survey::used_at` meets its contract. The invariant: the sum and what the jobs that are left take is the whole.
 -- Assumes nothing.
 use Prim.Native.Nat.{◌+◌}
 use native.Mathlib.Omega.{arith}
@@ -7,14 +7,14 @@ use lib.ListN.{drop}
 use Rattle.lists.specs.Lists as lists
 use Rattle.conservative_laws.specs.Validity.{taken}
 use Rattle.plan_acceptance.specs.Plan.{Planned, used_first, used_step, used_done, used_low}
-use Rattle.plan_acceptance.proofs.used_at.Goals.{After-taken-sum}
-use Rattle.plan_acceptance.proofs.used_at.Goals as goal
+use Rattle.plan_acceptance.proofs.Survey.used_at.Goals.{After-taken-sum}
+use Rattle.plan_acceptance.proofs.Survey.used_at.Goals as goal
 
 -- one step
 step : (c : After-taken-sum)
     → let l = c.loop-i in
     let a = c.args in
-    (p : Planned a.held.now a.froms.now a.untils.now a.count)
+    (p : Planned a.self.now.held a.self.now.froms a.self.now.untils a.self.now.count)
     → c.taken-sum.result + lists.sum (taken p.settings a.minute) (drop (l.i + 1) p.jobs) ≡ lists.sum (taken p.settings a.minute) (drop l.i p.jobs)
 step c p =
     let l = c.loop-i in

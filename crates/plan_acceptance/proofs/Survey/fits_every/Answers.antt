@@ -1,9 +1,9 @@
--- `plan_acceptance::fits_every` meets its contract. The invariant: whether the jobs that are left fit where they begin is whether all do.
+-- `plan_acceptance::Survey::fits_every` meets its contract. The invariant: whether the jobs that are left fit where they begin is whether all do.
 -- Assumes nothing.
 use native.Mathlib.Omega.{arith}
 use mathlib.Core.Path.{sym, ◌∙◌}
 use Rattle.plan_acceptance.specs.Plan.{fits_first, fits_more, fits_fails, fits_done}
-use Rattle.plan_acceptance.proofs.fits_every.Goals as goal
+use Rattle.plan_acceptance.proofs.Survey.fits_every.Goals as goal
 
 pub loop-i-init : goal.loop-i-init
 loop-i-init c = (λ p. fits_first p c.args.nodes c.args.clock)

@@ -1,9 +1,9 @@
--- `plan_acceptance::survey` meets its contract. The invariant: the lists have the jobs of the first slots that the plan has.
+-- `plan_acceptance::Survey::of` meets its contract. The invariant: the lists have the jobs of the first slots that the plan has.
 -- Assumes nothing.
 use Prim.Native.Nat.{◌≤◌}
 use lib.ListN.{take}
 use Rattle.plan_acceptance.specs.Plan.{PlanColumns, planned_of}
-use Rattle.plan_acceptance.proofs.survey.Given as goal
+use Rattle.plan_acceptance.proofs.Survey.of.Given as goal
 
 abbrev pub invariant-loop-j : goal.invariant-loop-j
 invariant-loop-j l =
