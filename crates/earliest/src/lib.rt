@@ -25,10 +25,7 @@ fn released(job: Job, settings: Settings, now: u32) -> u32
     if job.is_cleaning() {
         return job.end + settings.cleanup();
     }
-    let mut end = job.start + job.least as u32;
-    if end < now {
-        end = now;
-    }
+    let end = (job.start + job.least as u32).max(now);
     end + settings.cleanup()
 }
 
@@ -48,9 +45,7 @@ fn survey(d: Scheduler, held: &mut [u32; 64], ends: &mut [u32; 64]) -> Taken
     let clock = d.clock;
     let mut running: usize = 0;
     let mut spare = settings.nodes;
-    let mut i: usize = 0;
-    while i < Scheduler::LIVE {
-        let j = d.jobs[i];
+    for &j in &d.jobs {
         if j.is_holding() {
             let nodes = j.nodes as u32;
             held[running] = nodes;
@@ -58,12 +53,8 @@ fn survey(d: Scheduler, held: &mut [u32; 64], ends: &mut [u32; 64]) -> Taken
             running += 1;
             spare -= nodes;
         }
-        i += 1;
     }
-    Taken {
-        running: running,
-        spare: spare,
-    }
+    Taken { running, spare }
 }
 
 // The smallest minute, now or later, at which this many nodes would be free.
@@ -87,13 +78,10 @@ fn earliest(d: Scheduler, nodes: u32) -> u32
 fn asked_by(d: Scheduler, ticket: u32) -> u32
     ensures { result ≡ nodes_in (first (departs_as Departure.Cancel ticket) d.jobs) }
 {
-    let mut i: usize = 0;
-    while i < Scheduler::LIVE {
-        let j = d.jobs[i];
+    for &j in &d.jobs {
         if j.departs(Departure::Cancel, ticket) {
             return j.nodes as u32;
         }
-        i += 1;
     }
     0
 }

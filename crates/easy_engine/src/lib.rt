@@ -37,15 +37,14 @@ fn given(nodes: u32, end: u32, minute: u32) -> u32
 }
 
 // The nodes free now and those that are given back by this minute.
+#[tactic(auto, using(crate::specs::Shadows::holding_few))]
 pub fn avail_at(held: &[u32; 64], ends: &[u32; 64], running: usize, spare: u32, minute: u32) -> u32
     requires { Held held.now ends.now running spare }
     ensures { (h : Held held.now ends.now running spare) → result ≡ avail h.model minute }
 {
     let mut sum = spare;
-    let mut i: usize = 0;
-    while i < running {
+    for i in 0..running {
         sum += given(held[i], ends[i], minute);
-        i += 1;
     }
     sum
 }
@@ -84,10 +83,8 @@ pub fn shadow(
     ensures { (l : Lacks held.now ends.now running spare nodes latest) → result ≡ shadow l.of.model nodes }
 {
     let mut best = latest;
-    let mut i: usize = 0;
-    while i < running {
-        best = sooner(held, ends, running, spare, nodes, best, ends[i]);
-        i += 1;
+    for &end in &ends[..running] {
+        best = sooner(held, ends, running, spare, nodes, best, end);
     }
     best
 }
@@ -97,12 +94,10 @@ pub fn first_within(asked: &[u32; 64], waiting: usize, most: u32) -> usize
     requires { waiting ≤ slots }
     ensures { (ws : List Job) → Column asks ws asked.now → length ws ≡ waiting → result ≡ place_of (position (asks_to most) ws) waiting }
 {
-    let mut i: usize = 0;
-    while i < waiting {
+    for i in 0..waiting {
         if asked[i] <= most {
             return i;
         }
-        i += 1;
     }
     waiting
 }
@@ -142,12 +137,10 @@ fn forward(
     ensures { (ws : List Job) → Column asks ws asked.now → Column estimate_of ws estimates.now → length ws ≡ waiting
         → fit ≡ place_of (position (asks_to spare) ws) waiting → result ≡ place_of (position (may_pass settings spare extra room) ws) waiting }
 {
-    let mut i = fit;
-    while i < waiting {
+    for i in fit..waiting {
         if may_pass(asked[i], estimates[i], spare, extra, room, settings) {
             return i;
         }
-        i += 1;
     }
     waiting
 }
@@ -245,9 +238,9 @@ fn settle(
     );
     if waiting <= i {
         return Settled {
-            running: running,
-            count: count,
-            spare: spare,
+            running,
+            count,
+            spare,
         };
     }
     let n = start(
@@ -274,10 +267,8 @@ fn fill_ends(ends: &mut [u32; 64], terms: &[u32; 64], running: usize, settings: 
     requires { StartsInTime ends.old terms.now running }
     ensures { (s : StartsInTime ends.old terms.now running) → Column (until settings) s.jobs ends.new }
 {
-    let mut i: usize = 0;
-    while i < running {
-        ends[i] = ends[i] + settings.hold_time(terms[i]);
-        i += 1;
+    for i in 0..running {
+        ends[i] += settings.hold_time(terms[i]);
     }
 }
 
@@ -337,10 +328,7 @@ fn announce(
     }
     let latest = clock + settings.unit();
     let minute = shadow(held, ends, running, spare, asked[h], latest);
-    Announced {
-        ticket: ticket,
-        minute: minute,
-    }
+    Announced { ticket, minute }
 }
 
 // Who was head before a call that gave or withdrew a ticket (0 for neither), by the first job that waits now.

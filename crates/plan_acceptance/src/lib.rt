@@ -1,9 +1,9 @@
 // Tests whether the records of a scheduler that is read back fit together (document 02, No. 11), once each passes its own tests. Every minute must
-// have enough nodes. On EASY the queue must also be at rest, with its head's forecast and all bounds in time. A survey puts the plan into lent
+// have enough nodes. On EASY the queue must also be at rest, with its head's forecast and all bounds in time. A survey puts the plan into
 // lists of numbers, and the tests go over these.
 #![tactic(auto)]
 
-ghost use Rattle.std.specs.Prelude.{◌≡◌, true, ◌&&◌, ◌-◌, max, leb, ltb};
+ghost use Rattle.std.specs.Prelude.{◌≡◌, true, ◌&&◌, ◌-◌, leb, ltb};
 ghost use Rattle.lists.specs.Tests.{on};
 ghost use Rattle.lists.specs.Lists.{first};
 ghost use Rattle.spans.specs.Spans.{used};
@@ -14,7 +14,7 @@ ghost use Rattle.scheduler.specs.Model.{view};
 ghost use Rattle.jobs.specs.Slots.{Low};
 ghost use Rattle.conservative_rules.specs.Conservative.{spans};
 ghost use Rattle.easy_rules.specs.Easy.{queue, on_choice};
-ghost use Rattle.job_columns.specs.Columns.{Blank, nodes_of};
+ghost use Rattle.job_columns.specs.Columns.{nodes_of};
 ghost use Rattle.checkpoint_laws.specs.Stages.{own_plan, records_accepted, plan_accepted};
 ghost use Rattle.lists.specs.EveryLoop.{every_from};
 ghost use Rattle.plan_acceptance.specs.Plan.{plan_in, in_plan, PlanLow, PlanColumns, Planned};
@@ -44,112 +44,90 @@ fn free_from(job: Job, settings: Settings) -> u32
     job.start + settings.hold_time(job.estimate as u32)
 }
 
-// Lists the jobs that the plan has, in order: their nodes, the minutes from which these are taken, and those from which they are free again. Unused
-// slots may stand between the jobs.
-pub fn survey(
-    d: Scheduler,
-    held: &mut [u32; 64],
-    froms: &mut [u32; 64],
-    untils: &mut [u32; 64],
-) -> usize
-    requires { PlanLow (view d) × Blank held.old × Blank froms.old × Blank untils.old }
-    ensures { PlanColumns d.settings (plan_in (view d)) held.new froms.new untils.new result }
-{
-    let settings = d.settings;
-    let kind = settings.kind;
-    let mut count: usize = 0;
-    let mut i: usize = 0;
-    while i < Scheduler::LIVE {
-        let j = d.jobs[i];
-        if is_planned(j, kind) {
-            held[count] = j.nodes as u32;
-            froms[count] = j.start;
-            untils[count] = free_from(j, settings);
-            count += 1;
-        }
-        i += 1;
-    }
-    count
-}
-
 // The nodes, if they are taken in this minute.
 fn taken(nodes: u32, from: u32, until: u32, minute: u32) -> u32
     ensures { result ≡ on (leb from minute && ltb minute until) nodes }
 {
-    if minute < from {
-        return 0;
-    }
-    if minute < until {
+    if from <= minute && minute < until {
         return nodes;
     }
     0
 }
 
-// The nodes that the plan takes in this minute.
-fn used_at(
-    held: &[u32; 64],
-    froms: &[u32; 64],
-    untils: &[u32; 64],
-    count: usize,
-    minute: u32,
-) -> u32
-    requires { Planned held.now froms.now untils.now count }
-    ensures { (p : Planned held.now froms.now untils.now count) → result ≡ used minute (spans p.settings p.jobs) }
-{
-    let mut sum: u32 = 0;
-    let mut i: usize = 0;
-    while i < count {
-        sum += taken(held[i], froms[i], untils[i], minute);
-        i += 1;
-    }
-    sum
+// The jobs that the plan has, in order: their nodes, the minutes from which these are taken, and those from which they are free again. The places
+// past the count are 0.
+#[derive(Clone, Copy)]
+pub struct Survey {
+    pub held: [u32; 64],
+    pub froms: [u32; 64],
+    pub untils: [u32; 64],
+    pub count: usize,
 }
 
-// The later of two minutes.
-fn later(a: u32, b: u32) -> u32
-    ensures { result ≡ max a b }
-{
-    if a < b {
-        return b;
-    }
-    a
-}
-
-// Whether the plan takes no more than these nodes in any minute from now on. It is enough to try the minutes in which jobs begin.
-fn fits_every(
-    held: &[u32; 64],
-    froms: &[u32; 64],
-    untils: &[u32; 64],
-    count: usize,
-    clock: u32,
-    nodes: u32,
-) -> bool
-    requires { Planned held.now froms.now untils.now count }
-    ensures { (p : Planned held.now froms.now untils.now count)
-        → result ≡ fits_every nodes (spans p.settings p.jobs) clock }
-{
-    let mut i: usize = 0;
-    while i < count {
-        let minute = later(clock, froms[i]);
-        if nodes < used_at(held, froms, untils, count, minute) {
-            return false;
+impl Survey {
+    // Unused slots may stand between the jobs of the scheduler.
+    pub fn of(d: Scheduler) -> Survey
+        requires { PlanLow (view d) }
+        ensures { PlanColumns d.settings (plan_in (view d)) result.held result.froms result.untils result.count }
+    {
+        let settings = d.settings;
+        let kind = settings.kind;
+        let mut held = [0u32; 64];
+        let mut froms = [0u32; 64];
+        let mut untils = [0u32; 64];
+        let mut count: usize = 0;
+        for &j in &d.jobs {
+            if is_planned(j, kind) {
+                held[count] = j.nodes as u32;
+                froms[count] = j.start;
+                untils[count] = free_from(j, settings);
+                count += 1;
+            }
         }
-        i += 1;
+        Survey {
+            held,
+            froms,
+            untils,
+            count,
+        }
     }
-    true
+
+    // The nodes that the plan takes in this minute.
+    fn used_at(&self, minute: u32) -> u32
+        requires { Planned self.now.held self.now.froms self.now.untils self.now.count }
+        ensures { (p : Planned self.now.held self.now.froms self.now.untils self.now.count) → result ≡ used minute (spans p.settings p.jobs) }
+    {
+        let mut sum: u32 = 0;
+        for i in 0..self.count {
+            sum += taken(self.held[i], self.froms[i], self.untils[i], minute);
+        }
+        sum
+    }
+
+    // Whether the plan takes no more than these nodes in any minute from now on. It is enough to try the minutes in which jobs begin.
+    fn fits_every(&self, clock: u32, nodes: u32) -> bool
+        requires { Planned self.now.held self.now.froms self.now.untils self.now.count }
+        ensures { (p : Planned self.now.held self.now.froms self.now.untils self.now.count)
+            → result ≡ fits_every nodes (spans p.settings p.jobs) clock }
+    {
+        for i in 0..self.count {
+            let minute = clock.max(self.froms[i]);
+            if nodes < self.used_at(minute) {
+                return false;
+            }
+        }
+        true
+    }
 }
 
 // The nodes that the first waiting job asks for; 0 where nobody waits.
 fn asked_first(d: Scheduler) -> u32
     ensures { result ≡ on_choice (first is_waiting d.jobs) 0 nodes_of }
 {
-    let mut i: usize = 0;
-    while i < Scheduler::LIVE {
-        let j = d.jobs[i];
+    for &j in &d.jobs {
         if j.is_waiting() {
             return j.nodes as u32;
         }
-        i += 1;
     }
     0
 }
@@ -178,17 +156,14 @@ fn rests(
     if job.forecast != 0 {
         return false;
     }
-    if easy_engine::may_pass(
+    !easy_engine::may_pass(
         job.nodes as u32,
         job.estimate as u32,
         spare,
         extra,
         room,
         settings,
-    ) {
-        return false;
-    }
-    true
+    )
 }
 
 // Whether every waiting job passes, where the head can start in this minute.
@@ -199,31 +174,21 @@ fn queue_rests(d: Scheduler, minute: u32, spare: u32, extra: u32) -> bool
     let settings = d.settings;
     let room = minute - d.clock;
     let mut ahead: u32 = 0;
-    let mut i: usize = 0;
-    while i < Scheduler::LIVE {
-        let j = d.jobs[i];
+    for &j in &d.jobs {
         if j.is_waiting() {
-            if rests(j, ahead, minute, spare, extra, room, settings) {
-                ahead += 1;
-            } else {
+            if !rests(j, ahead, minute, spare, extra, room, settings) {
                 return false;
             }
+            ahead += 1;
         }
-        i += 1;
     }
     true
 }
 
 // On EASY, of a plan that fits: whether the queue is at rest, with its head's forecast and all bounds in time. What the plan takes now are the
 // nodes that are held now.
-fn queue_accepted(
-    d: Scheduler,
-    held: &[u32; 64],
-    froms: &[u32; 64],
-    untils: &[u32; 64],
-    count: usize,
-) -> bool
-    requires { Fitting d held.now froms.now untils.now count }
+fn queue_accepted(d: Scheduler, plan: &Survey) -> bool
+    requires { Fitting d plan.now.held plan.now.froms plan.now.untils plan.now.count }
     ensures { result ≡ own_plan Kind.Easy (view d) }
 {
     let need = asked_first(d);
@@ -232,13 +197,13 @@ fn queue_accepted(
     }
     let settings = d.settings;
     let clock = d.clock;
-    let spare = settings.nodes - used_at(held, froms, untils, count, clock);
+    let spare = settings.nodes - plan.used_at(clock);
     if need <= spare {
         return false;
     }
     let latest = clock + settings.unit();
-    let minute = easy_engine::shadow(held, untils, count, spare, need, latest);
-    let extra = easy_engine::avail_at(held, untils, count, spare, minute) - need;
+    let minute = easy_engine::shadow(&plan.held, &plan.untils, plan.count, spare, need, latest);
+    let extra = easy_engine::avail_at(&plan.held, &plan.untils, plan.count, spare, minute) - need;
     queue_rests(d, minute, spare, extra)
 }
 
@@ -248,17 +213,14 @@ pub fn plan_accepted(d: Scheduler) -> bool
     requires { records_accepted (view d) ≡ true }
     ensures { result ≡ plan_accepted (view d) }
 {
-    let mut held = [0u32; 64];
-    let mut froms = [0u32; 64];
-    let mut untils = [0u32; 64];
-    let count = survey(d, &mut held, &mut froms, &mut untils);
+    let plan = Survey::of(d);
     let settings = d.settings;
-    if fits_every(&held, &froms, &untils, count, d.clock, settings.nodes) {
-        let kind = settings.kind;
-        return match kind {
-            Kind::Conservative => true,
-            Kind::Easy => queue_accepted(d, &held, &froms, &untils, count),
-        };
+    if !plan.fits_every(d.clock, settings.nodes) {
+        return false;
     }
-    false
+    let kind = settings.kind;
+    match kind {
+        Kind::Conservative => true,
+        Kind::Easy => queue_accepted(d, &plan),
+    }
 }

@@ -28,7 +28,7 @@ pub enum State {
 }
 
 // Whose job it is (document 02, No. 4: the "houses" A and B). An unused slot is nobody's. A submission that names neither A nor B is nobody's too.
-#[derive(Clone, Copy)]
+#[derive(Clone, Copy, PartialEq, Eq)]
 pub enum Tenant {
     Nobody,
     A,

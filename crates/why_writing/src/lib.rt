@@ -18,6 +18,7 @@ ghost use Rattle.why_laws.specs.Sizes.{why_bytes};
 ghost use Rattle.why_writing.specs.ExactText.{Room, Writes};
 ghost use Rattle.why_writing.specs.ListedText.{pair_text, row_text, rows_text, listed_text, slot_text};
 
+use plan_acceptance::Survey;
 use scheduler::{Job, Kind, Scheduler};
 
 // The bytes for which a page has to have room.
@@ -60,25 +61,22 @@ fn put_row(
 }
 
 // The holders in a minute, of the plan that the lists have.
-fn put_holders(
-    page: &mut [u8],
-    at: usize,
-    minute: u32,
-    tickets: &[u32; 64],
-    held: &[u32; 64],
-    froms: &[u32; 64],
-    untils: &[u32; 64],
-    count: usize,
-) -> usize
-    requires { (count ≤ slots) × Room page.old at (rows_text minute tickets.now held.now froms.now untils.now count) }
-    ensures { Writes page.old at (rows_text minute tickets.now held.now froms.now untils.now count)
+fn put_holders(page: &mut [u8], at: usize, minute: u32, tickets: &[u32; 64], plan: &Survey) -> usize
+    requires { (plan.now.count ≤ slots) × Room page.old at (rows_text minute tickets.now plan.now.held plan.now.froms plan.now.untils plan.now.count) }
+    ensures { Writes page.old at (rows_text minute tickets.now plan.now.held plan.now.froms plan.now.untils plan.now.count)
         page.new result }
 {
     let mut p = at;
-    let mut i: usize = 0;
-    while i < count {
-        p = put_row(page, p, minute, tickets[i], held[i], froms[i], untils[i]);
-        i += 1;
+    for i in 0..plan.count {
+        p = put_row(
+            page,
+            p,
+            minute,
+            tickets[i],
+            plan.held[i],
+            plan.froms[i],
+            plan.untils[i],
+        );
     }
     p
 }
@@ -90,48 +88,26 @@ fn put_sentence(
     ticket: u32,
     minute: u32,
     tickets: &[u32; 64],
-    held: &[u32; 64],
-    froms: &[u32; 64],
-    untils: &[u32; 64],
-    count: usize,
+    plan: &Survey,
 ) -> usize
-    requires { (count ≤ slots) × Room page.old at (listed_text ticket minute tickets.now held.now froms.now untils.now count) }
+    requires { (plan.now.count ≤ slots) × Room page.old at (listed_text ticket minute tickets.now plan.now.held plan.now.froms plan.now.untils plan.now.count) }
     ensures { Writes page.old at
-        (listed_text ticket minute tickets.now held.now froms.now untils.now count) page.new result }
+        (listed_text ticket minute tickets.now plan.now.held plan.now.froms plan.now.untils plan.now.count) page.new result }
 {
     let a = put_pair(page, at, b"stack ", ticket, b" waits, minute ", minute);
-    let b = put_holders(page, a, minute, tickets, held, froms, untils, count);
+    let b = put_holders(page, a, minute, tickets, plan);
     text::put_byte(page, b, NEWLINE)
 }
 
 // The sentence of a slot: only a waiting job has one, about the minute just before its start.
-fn put_slot(
-    page: &mut [u8],
-    at: usize,
-    j: Job,
-    tickets: &[u32; 64],
-    held: &[u32; 64],
-    froms: &[u32; 64],
-    untils: &[u32; 64],
-    count: usize,
-) -> usize
-    requires { (count ≤ slots) × (is_waiting j ≡ true → 1 ≤ j.start)
-        × Room page.old at (slot_text tickets.now held.now froms.now untils.now count j) }
-    ensures { Writes page.old at (slot_text tickets.now held.now froms.now untils.now count j)
+fn put_slot(page: &mut [u8], at: usize, j: Job, tickets: &[u32; 64], plan: &Survey) -> usize
+    requires { (plan.now.count ≤ slots) × (is_waiting j ≡ true → 1 ≤ j.start)
+        × Room page.old at (slot_text tickets.now plan.now.held plan.now.froms plan.now.untils plan.now.count j) }
+    ensures { Writes page.old at (slot_text tickets.now plan.now.held plan.now.froms plan.now.untils plan.now.count j)
         page.new result }
 {
     if j.is_waiting() {
-        return put_sentence(
-            page,
-            at,
-            j.ticket,
-            j.start - 1,
-            tickets,
-            held,
-            froms,
-            untils,
-            count,
-        );
+        return put_sentence(page, at, j.ticket, j.start - 1, tickets, plan);
     }
     at
 }
@@ -141,11 +117,8 @@ fn survey_tickets(d: Scheduler, tickets: &mut [u32; 64], count: usize)
     requires { Holds Sound d × Blank tickets.old × (length (view d).jobs ≡ count) }
     ensures { Column ticket_of (view d).jobs tickets.new }
 {
-    let mut i: usize = 0;
-    while i < count {
-        let j = d.jobs[i];
-        tickets[i] = j.ticket;
-        i += 1;
+    for i in 0..count {
+        tickets[i] = d.jobs[i].ticket;
     }
 }
 
@@ -155,16 +128,11 @@ fn put_sentences(page: &mut [u8], d: Scheduler) -> usize
     ensures { Writes page.old 0 (sentences (findings (view d))) page.new result }
 {
     let mut tickets = [0u32; 64];
-    let mut held = [0u32; 64];
-    let mut froms = [0u32; 64];
-    let mut untils = [0u32; 64];
-    let count = plan_acceptance::survey(d, &mut held, &mut froms, &mut untils);
-    survey_tickets(d, &mut tickets, count);
+    let plan = Survey::of(d);
+    survey_tickets(d, &mut tickets, plan.count);
     let mut at: usize = 0;
-    let mut i: usize = 0;
-    while i < count {
-        at = put_slot(page, at, d.jobs[i], &tickets, &held, &froms, &untils, count);
-        i += 1;
+    for &j in &d.jobs[..plan.count] {
+        at = put_slot(page, at, j, &tickets, &plan);
     }
     at
 }

@@ -11,24 +11,22 @@ use Rattle.earliest.proofs.asked_by.Goals as goal
 
 pub returns-then-departs : goal.returns-then-departs
 returns-then-departs c =
-    let o = c.loop-i in
-    ap nodes_in (sym (first_hit (departs_as Cancel c.args.ticket) c.args.d.jobs unused o.i (omega (arith, whole c.args.d c.well_formed.0))
-    (sym c.departs.ensures ∙ c.if-departs.true)) ∙ o.invariant.1)
+    let o = c.loop-j in
+    ap nodes_in (sym (first_hit (departs_as Cancel c.args.ticket) c.args.d.jobs unused o.j-index (omega (arith, whole c.args.d c.well_formed.0))
+    (sym c.departs.ensures ∙ c.if-departs.true)) ∙ o.invariant)
 
-pub loop-i-preserved : goal.loop-i-preserved
-loop-i-preserved c =
-    let o = c.loop-i in (
-      omega arith,
-      sym (first_miss (departs_as Cancel c.args.ticket) c.args.d.jobs unused o.i (omega (arith, whole c.args.d c.well_formed.0))
-          (sym c.departs.ensures ∙ c.if-departs.false))
-          ∙ o.invariant.1,
-    )
+pub loop-j-preserved : goal.loop-j-preserved
+loop-j-preserved c =
+    let o = c.loop-j in
+    sym (first_miss (departs_as Cancel c.args.ticket) c.args.d.jobs unused o.j-index (omega (arith, whole c.args.d c.well_formed.0))
+    (sym c.departs.ensures ∙ c.if-departs.false))
+    ∙ o.invariant
 
 pub returns : goal.returns
 returns c =
-    let o = c.loop-i in
+    let o = c.loop-j in
     let l = whole c.args.d c.well_formed.0 in
-    ap nodes_in (sym (first_end (departs_as Cancel c.args.ticket) c.args.d.jobs unused o.i (omega arith)) ∙ o.invariant.1)
+    ap nodes_in (sym (first_end (departs_as Cancel c.args.ticket) c.args.d.jobs unused o.j-index (omega arith)) ∙ o.invariant)
 
-pub loop-i-init : goal.loop-i-init
-loop-i-init c = (omega arith, refl)
+pub loop-j-init : goal.loop-j-init
+loop-j-init c = refl

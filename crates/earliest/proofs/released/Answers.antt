@@ -5,7 +5,6 @@ use mathlib.Core.Path.{sym, ◌∙◌}
 use Rattle.scheduler.specs.Times.{cleanup_le}
 use Rattle.jobs.specs.Soundness.{holding_runs}
 use Rattle.easy_laws.specs.EarliestStart.{until_over, until_cleared}
-use Rattle.earliest.proofs.released.Goals.{then-end-now, else-end-now}
 use Rattle.earliest.proofs.released.Goals as goal
 
 pub overflow_add-result : goal.overflow_add-result
@@ -18,18 +17,9 @@ returns-then-is_cleaning c =
     omega (arith, c.cleanup.ensures, until_cleared c.args.settings c.args.now c.args.job e)
 
 pub overflow_add-result-2 : goal.overflow_add-result-2
-overflow_add-result-2 c =
-    let l = cleanup_le c.args.settings in
-    elim c.if-end-now.branch [
-      | then-end-now w ↦ omega (arith, c.requires, c.cleanup-2.ensures)
-      | else-end-now w ↦ omega (arith, c.requires, c.cleanup-2.ensures)
-    ]
+overflow_add-result-2 c = omega (arith, cleanup_le c.args.settings)
 
 pub returns : goal.returns
 returns c =
     let r = holding_runs c.args.job.state c.requires.2 (sym c.is_cleaning.ensures ∙ c.if-is_cleaning.false) in
-    let u = until_over c.args.settings c.args.now c.args.job r in
-    elim c.if-end-now.branch [
-      | then-end-now w ↦ omega (arith, c.cleanup-2.ensures)
-      | else-end-now w ↦ omega (arith, c.cleanup-2.ensures)
-    ]
+    omega (arith, until_over c.args.settings c.args.now c.args.job r)

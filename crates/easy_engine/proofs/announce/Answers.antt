@@ -20,9 +20,6 @@ use Rattle.easy_engine.proofs.announce.Goals as goal
 latest : (c : After-unit) → let a = c.args in a.clock + c.unit.result ≡ a.clock + unit a.settings
 latest c = ap (λ (n : ℕ). c.args.clock + n) c.unit.ensures
 
-pub first_within-h-requires : goal.first_within-h-requires
-first_within-h-requires c = c.requires.surveyed.waits.few
-
 pub returns-then-waiting-h : goal.returns-then-waiting-h
 returns-then-waiting-h c =
     let i = c.first_within-h.result in
@@ -30,12 +27,6 @@ returns-then-waiting-h c =
     let s = a.surveyed in
     let e = c.first_within-h.ensures s.asking s.waits.asked_is s.waits.count_is in
     sym (ap announced (forecast_none m s.model (nobody_waits s i e c.if-waiting-h.true)))
-
-pub offset_bounds-tickets-h : goal.offset_bounds-tickets-h
-offset_bounds-tickets-h c = omega (arith, c.requires.surveyed.waits.few)
-
-pub bounds-tickets-h : goal.bounds-tickets-h
-bounds-tickets-h c = omega (arith, c.requires.surveyed.waits.few)
 
 pub returns-then-before-ticket : goal.returns-then-before-ticket
 returns-then-before-ticket c =
@@ -51,12 +42,6 @@ pub overflow_add-latest : goal.overflow_add-latest
 overflow_add-latest c =
     let s = c.requires.surveyed in
     omega (arith, s.clock_is, s.ready.sound.clock_to, c.unit.ensures, unit_le c.args.settings)
-
-pub offset_bounds-asked-h : goal.offset_bounds-asked-h
-offset_bounds-asked-h c = omega (arith, c.requires.surveyed.waits.few)
-
-pub bounds-asked-h : goal.bounds-asked-h
-bounds-asked-h c = omega (arith, c.requires.surveyed.waits.few)
 
 pub shadow-minute-requires : goal.shadow-minute-requires
 shadow-minute-requires c =

@@ -1,24 +1,11 @@
 -- `easy_engine::avail_at` meets its contract. The invariant: the sum and what the jobs that are left have given back is the whole.
 -- Assumes nothing.
 use native.Mathlib.Omega.{arith}
-use Rattle.easy_engine.specs.Shadows.{holding_few, avail_first, avail_step, avail_done, avail_low}
-use borrow.Author.Rules.{rules}
+use Rattle.easy_engine.specs.Shadows.{avail_first, avail_step, avail_done, avail_low}
 use Rattle.easy_engine.proofs.avail_at.Goals as goal
 
 pub loop-i-init : goal.loop-i-init
-loop-i-init c = (search rules, λ h. avail_first h.holding c.args.minute)
-
-pub offset_bounds-held-i : goal.offset_bounds-held-i
-offset_bounds-held-i c = omega (arith, holding_few c.requires.holding)
-
-pub bounds-held-i : goal.bounds-held-i
-bounds-held-i c = omega (arith, holding_few c.requires.holding)
-
-pub offset_bounds-ends-i : goal.offset_bounds-ends-i
-offset_bounds-ends-i c = omega (arith, holding_few c.requires.holding)
-
-pub bounds-ends-i : goal.bounds-ends-i
-bounds-ends-i c = omega (arith, holding_few c.requires.holding)
+loop-i-init c = λ h. avail_first h.holding c.args.minute
 
 pub overflow_add-sum : goal.overflow_add-sum
 overflow_add-sum c =
@@ -26,20 +13,17 @@ overflow_add-sum c =
     let h = c.requires in
     omega (
       arith,
-      l.invariant.1 h,
+      l.invariant h,
       avail_step h.holding c.args.minute l.i c.given-sum.result (omega arith) c.given-sum.ensures,
       avail_low h.holding c.args.minute,
     )
 
-pub overflow_add-i : goal.overflow_add-i
-overflow_add-i c = omega (arith, holding_few c.requires.holding)
-
 pub loop-i-preserved : goal.loop-i-preserved
 loop-i-preserved c =
     let l = c.loop-i in
-    (omega arith, λ h. omega (arith, l.invariant.1 h, avail_step h.holding c.args.minute l.i c.given-sum.result (omega arith) c.given-sum.ensures))
+    λ h. omega (arith, l.invariant h, avail_step h.holding c.args.minute l.i c.given-sum.result (omega arith) c.given-sum.ensures)
 
 pub returns : goal.returns
 returns c =
     let l = c.loop-i in
-    λ h. omega (arith, l.invariant.1 h, avail_done h.holding c.args.minute l.i (omega arith))
+    λ h. omega (arith, l.invariant h, avail_done h.holding c.args.minute l.i (omega arith))

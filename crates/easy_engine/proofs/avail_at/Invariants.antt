@@ -1,6 +1,6 @@
 -- `easy_engine::avail_at` meets its contract. The invariant: the sum and what the jobs that are left have given back is the whole.
 -- Assumes nothing.
-use Prim.Native.Nat.{◌+◌, ◌-◌, ◌≤◌}
+use Prim.Native.Nat.{◌+◌}
 use mathlib.Core.Path.{◌≡◌}
 use lib.ListN.{drop}
 use Rattle.lists.specs.Lists.{sum}
@@ -11,7 +11,4 @@ use Rattle.easy_engine.proofs.avail_at.Given as goal
 
 abbrev pub invariant-loop-i : goal.invariant-loop-i
 invariant-loop-i l =
-    (l.i ≤ l.running) × ((h : Held l.held l.ends l.running l.spare) → l.sum + sum (given h.model.settings l.minute) (drop l.i h.jobs) ≡ avail h.model l.minute)
-
-abbrev pub decreases-loop-i : goal.decreases-loop-i
-decreases-loop-i l = l.running - l.i
+    (h : Held l.held l.ends l.running l.spare) → l.sum + sum (given h.model.settings l.minute) (drop l.i h.jobs) ≡ avail h.model l.minute

@@ -13,26 +13,14 @@ use Rattle.easy_engine.proofs.choose.Goals as goal
 latest : (c : After-unit) → let a = c.args in a.clock + c.unit.result ≡ a.clock + unit a.settings
 latest c = ap (λ (n : ℕ). c.args.clock + n) c.unit.ensures
 
-pub first_within-h-requires : goal.first_within-h-requires
-first_within-h-requires c = c.requires.waits.few
-
 pub returns-then-waiting-h : goal.returns-then-waiting-h
 returns-then-waiting-h c =
     λ s. let e = c.first_within-h.ensures s.asking s.waits.asked_is s.waits.count_is in by_no_head s c.first_within-h.result e c.if-waiting-h.true
-
-pub offset_bounds-asked-h : goal.offset_bounds-asked-h
-offset_bounds-asked-h c = omega (arith, c.requires.waits.few)
-
-pub bounds-asked-h : goal.bounds-asked-h
-bounds-asked-h c = omega (arith, c.requires.waits.few)
 
 pub returns-then-need-spare : goal.returns-then-need-spare
 returns-then-need-spare c =
     λ s. let e = c.first_within-h.ensures s.asking s.waits.asked_is s.waits.count_is in
     by_head s c.first_within-h.result e c.if-waiting-h.false c.if-need-spare.true
-
-pub first_within-fit-requires : goal.first_within-fit-requires
-first_within-fit-requires c = c.requires.waits.few
 
 pub returns-then-waiting-fit : goal.returns-then-waiting-fit
 returns-then-waiting-fit c = λ s. by_no_fit s c.first_within-fit.result
@@ -72,9 +60,6 @@ overflow_sub-room c =
     let f = c.if-need-spare.false in
     let k = head_lacks p i e l f _ (latest (goal.at.overflow_sub-room c).After-unit) in
     room_low p i e l f c.shadow-minute.result c.avail_at.result (c.shadow-minute.ensures k) (c.avail_at.ensures k.of)
-
-pub forward-requires : goal.forward-requires
-forward-requires c = c.requires.waits.few
 
 pub returns : goal.returns
 returns c =

@@ -13,23 +13,10 @@ use Rattle.scheduler.specs.Jobs.{unused}
 use Rattle.easy_engine.specs.Survey.{from_of, term_of}
 use Rattle.job_columns.specs.Columns.{column_at}
 use Rattle.easy_engine.specs.SurveyLoop.{until_from, from_there, fill_next, fill_done}
-use borrow.Author.Rules.{rules}
 use Rattle.easy_engine.proofs.fill_ends.Goals as goal
 
 pub loop-i-init : goal.loop-i-init
-loop-i-init c = (search rules, λ s. s.starts_are)
-
-pub offset_bounds-ends-i : goal.offset_bounds-ends-i
-offset_bounds-ends-i c = omega (arith, c.requires.few)
-
-pub bounds-ends-i : goal.bounds-ends-i
-bounds-ends-i c = omega (arith, c.requires.few)
-
-pub offset_bounds-terms-i : goal.offset_bounds-terms-i
-offset_bounds-terms-i c = omega (arith, c.requires.few)
-
-pub bounds-terms-i : goal.bounds-terms-i
-bounds-terms-i c = omega (arith, c.requires.few)
+loop-i-init c = λ s. s.starts_are
 
 pub overflow_add-ends : goal.overflow_add-ends
 overflow_add-ends c =
@@ -37,7 +24,7 @@ overflow_add-ends c =
     let p = c.requires in
     let h : l.i < length p.jobs = omega (arith, p.count_is) in
     let e : get_or l.ends l.i 0 ≡ from_of (get_or p.jobs l.i unused) =
-    ap (λ ns. get_or ns l.i 0) (l.invariant.1 p) ∙ from_there c.args.settings p.jobs l.i h in
+    ap (λ ns. get_or ns l.i 0) (l.invariant p) ∙ from_there c.args.settings p.jobs l.i h in
     omega (
       arith,
       c.hold_time.ensures,
@@ -45,28 +32,20 @@ overflow_add-ends c =
       p.low (get_or p.jobs l.i unused) (in_getD p.jobs l.i unused h),
     )
 
-pub offset_bounds-ends-i-in-loop-i : goal.offset_bounds-ends-i-in-loop-i
-offset_bounds-ends-i-in-loop-i c = omega (arith, c.requires.few)
-
-pub bounds-ends-i-in-loop-i : goal.bounds-ends-i-in-loop-i
-bounds-ends-i-in-loop-i c = omega (arith, c.requires.few)
-
 pub loop-i-preserved : goal.loop-i-preserved
 loop-i-preserved c =
-    let l = c.loop-i in (
-      omega arith,
-      λ p.
-          let h : l.i < length p.jobs = omega (arith, p.count_is) in
-          rw (
-            l.invariant.1 p,
-            from_there c.args.settings p.jobs l.i h,
-            c.hold_time.ensures,
-            column_at term_of p.jobs c.args.terms.now p.terms_are unused l.i h,
-            ← until_from c.args.settings (get_or p.jobs l.i unused),
-          ) (fill_next c.args.settings p.jobs l.i h),
-    )
+    let l = c.loop-i in
+    λ p.
+    let h : l.i < length p.jobs = omega (arith, p.count_is) in
+    rw (
+      l.invariant p,
+      from_there c.args.settings p.jobs l.i h,
+      c.hold_time.ensures,
+      column_at term_of p.jobs c.args.terms.now p.terms_are unused l.i h,
+      ← until_from c.args.settings (get_or p.jobs l.i unused),
+    ) (fill_next c.args.settings p.jobs l.i h)
 
 pub returns : goal.returns
 returns c =
     let l = c.loop-i in
-    λ p. l.invariant.1 p ∙ ap (pad slots 0) (fill_done c.args.settings p.jobs l.i (omega (arith, p.count_is)))
+    λ p. l.invariant p ∙ ap (pad slots 0) (fill_done c.args.settings p.jobs l.i (omega (arith, p.count_is)))

@@ -1,7 +1,6 @@
 -- `easy_engine::fill_ends` meets its contract. The invariant: the places passed have the minutes until which nodes are held, the others those
 -- from which.
 -- Assumes nothing.
-use Prim.Native.Nat.{◌-◌, ◌≤◌}
 use mathlib.Core.Path.{◌≡◌}
 use Rattle.lists.specs.Pads.{pad}
 use Rattle.scheduler.specs.Limits.{slots}
@@ -11,7 +10,4 @@ use Rattle.easy_engine.proofs.fill_ends.Given as goal
 
 abbrev pub invariant-loop-i : goal.invariant-loop-i
 invariant-loop-i l =
-    (l.i ≤ l.running) × ((s : StartsInTime l.initial.ends l.terms l.running) → l.ends ≡ pad slots 0 (filled l.settings s.jobs l.i))
-
-abbrev pub decreases-loop-i : goal.decreases-loop-i
-decreases-loop-i l = l.running - l.i
+    (s : StartsInTime l.initial.ends l.terms l.running) → l.ends ≡ pad slots 0 (filled l.settings s.jobs l.i)

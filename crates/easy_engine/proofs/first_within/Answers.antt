@@ -10,11 +10,10 @@ use Rattle.scheduler.specs.Jobs.{unused}
 use Rattle.job_columns.specs.Columns.{column_at}
 use Rattle.job_columns.specs.Searches.{place_of}
 use Rattle.easy_engine.specs.Survey.{asks, asks_to}
-use borrow.Author.Rules.{rules}
 use Rattle.easy_engine.proofs.first_within.Goals as goal
 
 pub loop-i-init : goal.loop-i-init
-loop-i-init c = (search rules, λ ws k e. refl)
+loop-i-init c = λ ws k e. refl
 
 pub returns-then-asked-i : goal.returns-then-asked-i
 returns-then-asked-i c =
@@ -22,22 +21,20 @@ returns-then-asked-i c =
     let a = c.args in
     λ ws k e.
     let h : l.i < length ws = omega arith in
-    sym (ap (λ o. place_of o a.waiting) (sym (l.invariant.1 ws k e)
+    sym (ap (λ o. place_of o a.waiting) (sym (l.invariant ws k e)
     ∙ position_hit unused (asks_to a.most) ws l.i h (rw (← column_at asks ws a.asked.now k unused l.i h) (le-leb _ _ c.if-asked-i.true))))
 
 pub loop-i-preserved : goal.loop-i-preserved
 loop-i-preserved c =
     let l = c.loop-i in
-    let a = c.args in (
-      omega arith,
-      λ ws k e.
-          let h : l.i < length ws = omega arith in
-          sym (position_miss unused (asks_to a.most) ws l.i h
-          (rw (← column_at asks ws a.asked.now k unused l.i h) (lt-leb _ _ c.if-asked-i.false))) ∙ l.invariant.1 ws k e,
-    )
+    let a = c.args in
+    λ ws k e.
+    let h : l.i < length ws = omega arith in
+    sym (position_miss unused (asks_to a.most) ws l.i h
+    (rw (← column_at asks ws a.asked.now k unused l.i h) (lt-leb _ _ c.if-asked-i.false))) ∙ l.invariant ws k e
 
 pub returns : goal.returns
 returns c =
     let l = c.loop-i in
     let a = c.args in
-    λ ws k e. sym (ap (λ o. place_of o a.waiting) (sym (l.invariant.1 ws k e) ∙ position_end unused (asks_to a.most) ws l.i (omega arith)))
+    λ ws k e. sym (ap (λ o. place_of o a.waiting) (sym (l.invariant ws k e) ∙ position_end unused (asks_to a.most) ws l.i (omega arith)))

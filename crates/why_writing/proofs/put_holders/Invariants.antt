@@ -1,13 +1,9 @@
 -- `why_writing::put_holders` meets its contract: the holders among the jobs passed are written.
 -- Assumes nothing.
-use Prim.Native.Nat.{◌-◌, ◌≤◌}
 use Rattle.why_writing.specs.ExactText.{Writes}
 use Rattle.why_writing.specs.ListedText.{rows_text}
 use Rattle.why_writing.proofs.put_holders.Given as goal
 
 abbrev pub invariant-loop-i : goal.invariant-loop-i
 invariant-loop-i l =
-    (l.i ≤ l.count) × Writes l.initial.page l.at (rows_text l.minute l.tickets l.held l.froms l.untils l.i) l.page l.p
-
-abbrev pub decreases-loop-i : goal.decreases-loop-i
-decreases-loop-i l = l.count - l.i
+    Writes l.initial.page l.at (rows_text l.minute l.tickets l.plan.held l.plan.froms l.plan.untils l.i) l.page l.p

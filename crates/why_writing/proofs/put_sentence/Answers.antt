@@ -14,7 +14,7 @@ put_pair-a-requires c =
           omega (
             arith,
             c.requires.1.fits,
-            listed_length a.ticket a.minute a.tickets.now a.held.now a.froms.now a.untils.now a.count,
+            listed_length a.ticket a.minute a.tickets.now a.plan.now.held a.plan.now.froms a.plan.now.untils a.plan.now.count,
           );
     }
 
@@ -23,7 +23,7 @@ put_holders-b-requires c =
     let a = c.args in (
       c.requires.0,
       room_at c.put_pair-a.ensures c.requires.1
-          (omega (arith, listed_length a.ticket a.minute a.tickets.now a.held.now a.froms.now a.untils.now a.count)),
+          (omega (arith, listed_length a.ticket a.minute a.tickets.now a.plan.now.held a.plan.now.froms a.plan.now.untils a.plan.now.count)),
     )
 
 pub put_byte-requires : goal.put_byte-requires
@@ -32,7 +32,7 @@ put_byte-requires c =
     omega (
       arith,
       c.requires.1.fits,
-      listed_length a.ticket a.minute a.tickets.now a.held.now a.froms.now a.untils.now a.count,
+      listed_length a.ticket a.minute a.tickets.now a.plan.now.held a.plan.now.froms a.plan.now.untils a.plan.now.count,
       c.put_pair-a.ensures.place,
       c.put_pair-a.auto,
       c.put_holders-b.ensures.place,
