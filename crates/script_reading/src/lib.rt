@@ -9,6 +9,7 @@ ghost use Rattle.text.specs.LineFields.{fields_after};
 ghost use Rattle.history.specs.Calls.{ask, wait, depart};
 ghost use Rattle.script_rules.specs.Reading.{command_in};
 ghost use Rattle.desk_lines.specs.DeskLine.{with_kind, kind_of, opening_in};
+ghost use Rattle.script_reading.specs.declared.Asked.TheVariants.{Malformed};
 ghost use Rattle.script_reading.specs.Meaning.{opens, asks, follows, form_from, when_read, opening_of};
 ghost use Rattle.script_reading.specs.LineReading.{UpTo};
 ghost use Rattle.script_reading.specs.CommandFields.{one_number_of, order_for, most_with, order_by};
@@ -17,6 +18,7 @@ use scheduler::{Departure, Kind, Opening, Request, Scheduler, Settings, Submissi
 use text::{Line, Numbers};
 
 // What a later line asks.
+// Kept: a call and a wait are two answers of one rank with a line that lacks the form, and `Row` and `Later` give an end beside each of the three.
 #[derive(Clone, Copy)]
 pub enum Asked {
     Call(Request),
@@ -29,10 +31,7 @@ pub enum Asked {
 fn has_form(count: usize, first: &[u8], fields: usize, word: &[u8]) -> bool
     ensures { result ≡ form_from count first.now fields word.now }
 {
-    if count != fields {
-        return false;
-    }
-    text::is_word(first, word)
+    count == fields && text::is_word(first, word)
 }
 
 // Which rules a word names.
@@ -45,27 +44,25 @@ pub fn read_kind(part: &[u8]) -> Option<Kind>
     text::is_word(part, b"loose").then_some(Kind::Easy)
 }
 
-fn opening(named: Option<Kind>, given: Numbers) -> Option<Opening>
-    ensures { opens result ≡ with_kind (follows named) (λ k. when_read 6 given (opening_of k)) }
+fn opening(kind: Option<Kind>, given: Numbers) -> Option<Opening>
+    ensures { opens result ≡ with_kind (follows kind) (λ k. when_read 6 given (opening_of k)) }
 {
-    let Some(k) = named else {
-        return None;
-    };
+    let kind = kind?;
     if given.count < 6 {
         return None;
     }
-    let v = given.values;
+    let [nodes, minute, ticket, cleanup, quota_a, quota_b, ..] = given.values;
     Some(Opening {
         settings: Settings {
-            kind: k,
-            nodes: v[0],
-            cleanup: v[3],
-            quota_a: v[4],
-            quota_b: v[5],
+            kind,
+            nodes,
+            cleanup,
+            quota_a,
+            quota_b,
             longest: Scheduler::LONGEST_ESTIMATE,
         },
-        minute: v[1],
-        ticket: v[2],
+        minute,
+        ticket,
     })
 }
 
@@ -75,13 +72,11 @@ pub fn read_first(line: &[u8]) -> Option<Opening>
 {
     let count = text::field_count(line);
     let first = text::field(line, 0);
-    if has_form(count, first, 8, b"desk") {
-        let word = text::field(line, 1);
-        let named = read_kind(word);
-        let given = text::field_numbers(line, 2);
-        return opening(named, given);
+    if !has_form(count, first, 8, b"desk") {
+        return None;
     }
-    None
+    let kind = read_kind(text::field(line, 1));
+    opening(kind, text::field_numbers(line, 2))
 }
 
 // What the fields of a later line ask, as far as they were read: up to a place of the line.
@@ -91,16 +86,26 @@ struct Row {
     end: usize,
 }
 
+impl Row {
+    fn malformed(end: usize) -> Row
+        ensures { result ≡ record { asked = Malformed; end = end } }
+    {
+        Row {
+            asked: Asked::Malformed,
+            end,
+        }
+    }
+}
+
 // An order of the house with this letter.
 fn order(letter: u32, nodes: u32, least: u32, most: u32) -> Asked
     ensures { asks result ≡ some (order_for nodes least most letter) }
 {
-    let tenant = Tenant::of_letter(letter);
     Asked::Call(Request::Submit(Submission {
-        nodes: nodes,
+        nodes,
         estimate: most,
-        tenant: tenant,
-        least: least,
+        tenant: Tenant::of_letter(letter),
+        least,
     }))
 }
 
@@ -109,20 +114,12 @@ fn submission_between(nodes: u32, least: u32, script: &[u8], end: usize) -> Row
     ensures { UpTo script.now end (most_with nodes least (fields_after script.now end)) (asks result.asked) result.end }
 {
     let a = text::number_after(script, end);
-    let minutes = a.said;
-    let Some(most) = minutes else {
-        return Row {
-            asked: Asked::Malformed,
-            end: a.end,
-        };
+    let Some(most) = a.said else {
+        return Row::malformed(a.end);
     };
     let h = text::capital_after(script, a.end);
-    let house = h.said;
-    let Some(letter) = house else {
-        return Row {
-            asked: Asked::Malformed,
-            end: h.end,
-        };
+    let Some(letter) = h.said else {
+        return Row::malformed(h.end);
     };
     Row {
         asked: order(letter, nodes, least, most),
@@ -135,24 +132,15 @@ fn submission(script: &[u8], end: usize) -> Row
     ensures { UpTo script.now end (order_by (fields_after script.now end)) (asks result.asked) result.end }
 {
     let a = text::number_after(script, end);
-    let first = a.said;
-    let Some(nodes) = first else {
-        return Row {
-            asked: Asked::Malformed,
-            end: a.end,
-        };
+    let Some(nodes) = a.said else {
+        return Row::malformed(a.end);
     };
     let b = text::number_after(script, a.end);
-    let second = b.said;
-    let Some(minutes) = second else {
-        return Row {
-            asked: Asked::Malformed,
-            end: b.end,
-        };
+    let Some(minutes) = b.said else {
+        return Row::malformed(b.end);
     };
     let h = text::capital_after(script, b.end);
-    let house = h.said;
-    let Some(letter) = house else {
+    let Some(letter) = h.said else {
         return submission_between(nodes, minutes, script, b.end);
     };
     Row {
@@ -166,12 +154,8 @@ fn departure(how: Departure, script: &[u8], end: usize) -> Row
     ensures { UpTo script.now end (one_number_of (λ t. ask (depart how t)) (fields_after script.now end)) (asks result.asked) result.end }
 {
     let a = text::number_after(script, end);
-    let said = a.said;
-    let Some(ticket) = said else {
-        return Row {
-            asked: Asked::Malformed,
-            end: a.end,
-        };
+    let Some(ticket) = a.said else {
+        return Row::malformed(a.end);
     };
     Row {
         asked: Asked::Call(Request::Depart(how, ticket)),
@@ -184,12 +168,8 @@ fn waiting(script: &[u8], end: usize) -> Row
     ensures { UpTo script.now end (one_number_of wait (fields_after script.now end)) (asks result.asked) result.end }
 {
     let a = text::number_after(script, end);
-    let said = a.said;
-    let Some(minutes) = said else {
-        return Row {
-            asked: Asked::Malformed,
-            end: a.end,
-        };
+    let Some(minutes) = a.said else {
+        return Row::malformed(a.end);
     };
     Row {
         asked: Asked::Wait(minutes),
@@ -213,10 +193,7 @@ fn read_row(script: &[u8], at: usize) -> Row
     if text::word_at(script, at, b"drop") {
         return departure(Departure::Cancel, script, at + 4);
     }
-    Row {
-        asked: Asked::Malformed,
-        end: at,
-    }
+    Row::malformed(at)
 }
 
 // A later line, and where it ends.
@@ -232,15 +209,10 @@ pub fn read_later(script: &[u8], at: usize) -> Later
 {
     let row = read_row(script, at);
     let line = text::next_line(script, row.end);
-    if line.end == row.end {
-        let asked = row.asked;
-        return Later {
-            asked: asked,
-            line: line,
-        };
-    }
-    Later {
-        asked: Asked::Malformed,
-        line: line,
-    }
+    let asked = if line.end == row.end {
+        row.asked
+    } else {
+        Asked::Malformed
+    };
+    Later { asked, line }
 }

@@ -1,6 +1,8 @@
 -- Laws of the fields of a line: how many there are, and where the search for one goes on and ends.
 -- Assumes nothing.
-use Rattle.std.specs.Prelude.{◌≡◌, refl, List, [], ◌∷◌, ℕ, zero, suc, ◌+◌, ◌-◌, ◌≤◌, ◌<◌, eqb, length, get_or, drop}
+use Rattle.std.specs.Prelude.{◌≡◌, refl, cond, List, [], ◌∷◌, ℕ, zero, suc, ◌+◌, ◌-◌, ◌≤◌, ◌<◌, eqb, length, get_or, drop}
+use Rattle.std.specs.List.{count_by}
+use Rattle.std.proofs.lemmas.List.Recursion.{is_count_by}
 use Rattle.std.proofs.Common.{ap, ◌∙◌, add-one, arith, drop_of_length-le, length-drop, drop-cons, drop-drop}
 use borrow.Author.Tests.{eq-eqb, ne_eqb}
 use Rattle.lists.specs.Tests.{case}
@@ -91,3 +93,13 @@ module _ (s : List ℕ) (a k n : ℕ) (low : n < k) where
   past_last h =
       let all : length (upto 9 (drop a s)) ≡ length (drop a s) = omega (arith, length-drop a s, upto_le 9 (drop a s)) in
       rw (one_more, fields_one (drop a s) all) (ap or_empty (drop_none (k - (n + 1))))
+
+-- there is one more than tabs
+pub fields_count : (s : List ℕ) → length (fields_of s) ≡ count_by (λ b. eqb b 9) s + 1
+unfolding fields_of
+fields_count s = omega (arith, fields_some s, is_count_by (λ s. length (fields_of s) - 1) (λ b. eqb b 9) refl more s) where
+  more : (b : ℕ) (bs : List ℕ) → length (fields_of (b ∷ bs)) - 1 ≡ cond (eqb b 9) (1 + (length (fields_of bs) - 1)) (length (fields_of bs) - 1)
+  more b bs =
+      case (eqb b 9)
+      (λ e. rw e (omega (arith, fields_some bs)))
+      (λ e. rw e (omega (arith, length_in_first b (fields_of bs) (fields_some bs))))

@@ -1,9 +1,8 @@
 -- Laws of the numbers in a line's fields: what the next field adds.
 -- Assumes nothing.
 use Rattle.std.specs.Prelude.{◌≡◌, refl, List, [], ◌∷◌, ℕ, zero, suc, ◌<◌, get_or, drop, Some, None}
-use Rattle.std.proofs.Common.{sym, ap, ◌∙◌, arith}
+use Rattle.std.proofs.Common.{sym, ap, ◌∙◌}
 use Rattle.std.proofs.Math.ListN.{length}
-use Rattle.text.specs.Prefixes.{upto}
 use Rattle.text.specs.Fields.{fields_of, field_of, or_empty}
 use Rattle.text.specs.FieldLaws.{fields_first, fields_tab, fields_one}
 use Rattle.text.specs.Numbers.{number_of, leading}

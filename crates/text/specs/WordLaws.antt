@@ -5,6 +5,7 @@ use Rattle.std.proofs.Common.{ap, add-one}
 use native.Mathlib.Omega.{arith}
 use Rattle.std.proofs.Math.ListN.{length, drop_of_length-le}
 use Rattle.std.proofs.Math.Seq.{drop-cons}
+use lib.Pointwise.{pointwise}
 use borrow.Author.Tests.{eqb-true, eq-eqb, ne_eqb}
 use Rattle.lists.specs.Tests.{both, true_false, and_right_false}
 use Rattle.text.specs.Words.{is_word}
@@ -30,6 +31,14 @@ word_length [] [] h = absurd (h refl)
 word_length [] (b ∷ bs) h = refl
 word_length (w ∷ ws) [] h = refl
 word_length (w ∷ ws) (b ∷ bs) h = and_right_false (eqb b w) (word_length ws bs (λ e. h (ap suc e)))
+
+-- it is compared byte by byte
+pub word_bytes : (w p : List ℕ) → pointwise eqb p w ≡ is_word w p
+unfolding is_word
+word_bytes [] [] = refl
+word_bytes [] (b ∷ bs) = refl
+word_bytes (w ∷ ws) [] = refl
+word_bytes (w ∷ ws) (b ∷ bs) = rw (word_bytes ws bs)
 
 -- the bytes from a place on
 module _ (w p : List ℕ) (i : ℕ) (same : length p ≡ length w) where

@@ -1,9 +1,10 @@
 -- Laws of `sets`, a list written at a place: what is written piece by piece is written whole.
 -- Assumes nothing.
 use Rattle.std.specs.Prelude.{◌≡◌, refl, List, [], ◌∷◌, ◌++◌, ℕ, suc, ◌+◌, ◌≤◌, ◌<◌, length, get_or, take, set}
-use Rattle.std.proofs.Common.{ap, sym, ◌∙◌, add-zero, add-one, arith, take-suc, length-take-le}
-use Rattle.std.proofs.lemmas.List.Edits.{sets}
+use Rattle.std.proofs.Common.{ap, sym, ◌∙◌, add-zero, add-one, arith, take-suc, length-take-le, drop-drop, append_assoc}
+use Rattle.std.proofs.lemmas.List.Edits.{sets, sets-eq}
 use Rattle.std.proofs.lemmas.List.{set_comm}
+use borrow.Rule.Slice.PartMut.{put_mid}
 
 pub sets_append : (l : List ℕ) (i : ℕ) (xs ys : List ℕ) → sets l i (xs ++ ys) ≡ sets (sets l i xs) (i + length xs) ys
 sets_append l i [] ys = rw add-zero
@@ -26,3 +27,7 @@ sets_past l i (x ∷ xs) j b h =
 -- the last byte first
 pub sets_last : (l : List ℕ) (i : ℕ) (xs : List ℕ) (b : ℕ) → sets l i (xs ++ (b ∷ [])) ≡ sets (set l (i + length xs) b) i xs
 sets_last l i xs b = sets_append l i xs (b ∷ []) ∙ sym (sets_past l i xs (i + length xs) b (omega arith))
+
+-- a part of the list is written over by as many bytes
+pub put_sets : (i n : ℕ) (l part xs : List ℕ) → part ≡ xs → n ≡ length xs → i + length xs ≤ length l → put_mid i n l part ≡ sets l i xs
+put_sets i n l part xs e f h = rw (e, f, drop-drop, sets-eq xs l i h, append_assoc)

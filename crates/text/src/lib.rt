@@ -23,14 +23,12 @@ const SPACE: u8 = 32;
 fn find_byte(s: &[u8], from: usize, byte: u8) -> usize
     ensures { result ≡ from + length (upto byte (drop from s.now)) }
 {
-    let mut i = from;
-    while i < s.len() {
+    for i in from..s.len() {
         if s[i] == byte {
             return i;
         }
-        i += 1;
     }
-    i
+    from.max(s.len())
 }
 
 // Where the field k of a line begins, counted from 0. Past the last: the line's end.
@@ -38,14 +36,12 @@ fn field_start(line: &[u8], k: usize) -> usize
     ensures { (result ≤ length line.now) × (fields_of (drop result line.now) ≡ fields_from line.now k) }
 {
     let mut start: usize = 0;
-    let mut n: usize = 0;
-    while n < k {
+    for _ in 0..k {
         let t = find_byte(line, start, TAB);
         if t == line.len() {
             return t;
         }
         start = t + 1;
-        n += 1;
     }
     start
 }
@@ -55,24 +51,16 @@ pub fn field(line: &[u8], k: usize) -> &[u8]
     ensures { result.now ≡ field_of line.now k }
 {
     let start = field_start(line, k);
-    let e = find_byte(line, start, TAB);
-    &line[start..e]
+    let end = find_byte(line, start, TAB);
+    &line[start..end]
 }
 
 // How many fields a line has: one more than its tabs.
-#[tactic(auto, using(crate::specs::FieldLaws::count_tab, crate::specs::FieldLaws::count_other))]
+#[tactic(auto, using(crate::specs::FieldLaws::fields_count))]
 pub fn field_count(line: &[u8]) -> usize
     ensures { result ≡ length (fields_of line.now) }
 {
-    let mut n: usize = 1;
-    let mut i: usize = 0;
-    while i < line.len() {
-        if line[i] == TAB {
-            n += 1;
-        }
-        i += 1;
-    }
-    n
+    line.iter().filter(|b| **b == TAB).count() + 1
 }
 
 // One to seven digits, with no leading zero but 0 itself.
@@ -80,16 +68,11 @@ pub fn number(part: &[u8]) -> Option<u32>
     ensures { result ≡ number_of part.now }
 {
     let n = part.len();
-    if n < 1 {
+    if n < 1 || 7 < n {
         return None;
     }
-    if 7 < n {
+    if 1 < n && part[0] == b'0' {
         return None;
-    }
-    if 1 < n {
-        if part[0] == 48 {
-            return None;
-        }
     }
     digits(part)
 }
@@ -100,22 +83,17 @@ fn digits(part: &[u8]) -> Option<u32>
     ensures { result ≡ digits_from 0 part.now }
 {
     let mut v: u32 = 0;
-    let mut i: usize = 0;
-    while i < part.len() {
-        let b = part[i];
-        if b < 48 {
+    for &b in part {
+        if !b.is_ascii_digit() {
             return None;
         }
-        if 57 < b {
-            return None;
-        }
-        v = v * 10 + ((b - 48) as u32);
-        i += 1;
+        v = v * 10 + u32::from(b - b'0');
     }
     Some(v)
 }
 
 // Numbers in order; the places past the count are 0.
+// Kept: the count stands beside an array, since there is no heap, and each line asks for a number of its own; `numbers_from` speaks of both.
 #[derive(Clone, Copy)]
 pub struct Numbers {
     pub count: usize,
@@ -126,68 +104,41 @@ pub struct Numbers {
 pub fn field_numbers(line: &[u8], k: usize) -> Numbers
     ensures { result ≡ numbers_from line.now k }
 {
-    let mut values = [0u32; 8];
-    let mut count: usize = 0;
+    let mut values = [0; 8];
     let mut start = field_start(line, k);
-    while count < 8 {
-        let rest = &line[start..];
-        let part = field(rest, 0);
-        let said = number(part);
-        let Some(v) = said else {
-            return Numbers {
-                count: count,
-                values: values,
-            };
+    for count in 0..8 {
+        let part = field(&line[start..], 0);
+        let Some(v) = number(part) else {
+            return Numbers { count, values };
         };
         values[count] = v;
-        count += 1;
         let end = start + part.len();
         if end == line.len() {
             return Numbers {
-                count: count,
-                values: values,
+                count: count + 1,
+                values,
             };
         }
         start = end + 1;
     }
-    Numbers {
-        count: count,
-        values: values,
-    }
+    Numbers { count: 8, values }
 }
 
 // The one capital letter that a part is, as its byte.
 pub fn capital(part: &[u8]) -> Option<u32>
     ensures { result ≡ capital_of part.now }
 {
-    if part.len() != 1 {
-        return None;
+    match part {
+        [letter] if letter.is_ascii_uppercase() => Some(u32::from(*letter)),
+        _ => None,
     }
-    let byte = part[0];
-    if byte < 65 {
-        return None;
-    }
-    if 90 < byte {
-        return None;
-    }
-    Some(byte as u32)
 }
 
 // Whether a part is this word.
 pub fn is_word(part: &[u8], word: &[u8]) -> bool
     ensures { result ≡ is_word word.now part.now }
 {
-    if part.len() != word.len() {
-        return false;
-    }
-    let mut i: usize = 0;
-    while i < word.len() {
-        if part[i] != word[i] {
-            return false;
-        }
-        i += 1;
-    }
-    true
+    part == word
 }
 
 // Where the field at a place ends: at the next tab or byte 10, or at the text's end. Read from field to field, a line is looked at once: its
@@ -195,18 +146,12 @@ pub fn is_word(part: &[u8], word: &[u8]) -> bool
 fn field_end(text: &[u8], from: usize) -> usize
     ensures { result ≡ from + length (field_in (drop from text.now)) }
 {
-    let mut i = from;
-    while i < text.len() {
-        let b = text[i];
-        if b == TAB {
+    for i in from..text.len() {
+        if text[i] == TAB || text[i] == NEWLINE {
             return i;
         }
-        if b == NEWLINE {
-            return i;
-        }
-        i += 1;
     }
-    i
+    from.max(text.len())
 }
 
 // The field at a place: a part of the caller's slice.
@@ -219,6 +164,7 @@ fn field_at(text: &[u8], from: usize) -> &[u8]
 }
 
 // What a field says, and where it ends.
+// Kept: the end is wanted where the field says nothing too, so an `Option` of both would lose it.
 #[derive(Clone, Copy)]
 pub struct ReadField {
     pub said: Option<u32>,
@@ -231,22 +177,21 @@ pub fn number_at(text: &[u8], from: usize) -> ReadField
     ensures { Reads number_of (fields_at text.now from) text.now from result }
 {
     let part = field_at(text, from);
-    let said = number(part);
     ReadField {
-        said: said,
+        said: number(part),
         end: from + part.len(),
     }
 }
 
 // The capital letter in it.
+// Kept: a type parameter for the reader of the part needs a trait with a law, and that is longer than this twin of `number_at`.
 fn capital_at(text: &[u8], from: usize) -> ReadField
     requires { from ≤ length text.now }
     ensures { Reads capital_of (fields_at text.now from) text.now from result }
 {
     let part = field_at(text, from);
-    let said = capital(part);
     ReadField {
-        said: said,
+        said: capital(part),
         end: from + part.len(),
     }
 }
@@ -255,10 +200,7 @@ fn capital_at(text: &[u8], from: usize) -> ReadField
 fn is_tab(text: &[u8], at: usize) -> bool
     ensures { result ≡ has_tab (drop at text.now) }
 {
-    if text.len() <= at {
-        return false;
-    }
-    text[at] == TAB
+    at < text.len() && text[at] == TAB
 }
 
 // The number in the field after one that ends at a place. Past the last: none, and the place.
@@ -268,10 +210,7 @@ pub fn number_after(text: &[u8], end: usize) -> ReadField
     if is_tab(text, end) {
         return number_at(text, end + 1);
     }
-    ReadField {
-        said: None,
-        end: end,
-    }
+    ReadField { said: None, end }
 }
 
 // The capital letter in it.
@@ -281,10 +220,7 @@ pub fn capital_after(text: &[u8], end: usize) -> ReadField
     if is_tab(text, end) {
         return capital_at(text, end + 1);
     }
-    ReadField {
-        said: None,
-        end: end,
-    }
+    ReadField { said: None, end }
 }
 
 // Whether this word is at a place, and a tab after it.
@@ -317,12 +253,9 @@ pub fn put_word(out: &mut [u8], at: usize, word: &[u8]) -> usize
     requires { at + length word.now ≤ length out.old }
     ensures { (result ≡ at + length word.now) × (out.new ≡ sets out.old at word.now) }
 {
-    let mut i: usize = 0;
-    while i < word.len() {
-        out[at + i] = word[i];
-        i += 1;
-    }
-    at + i
+    let end = at + word.len();
+    out[at..end].copy_from_slice(word);
+    end
 }
 
 // How many digits a number has.
@@ -359,12 +292,9 @@ pub fn put_spaces(out: &mut [u8], at: usize, count: usize) -> usize
     requires { at + count ≤ length out.old }
     ensures { Wrote count out.old at (replicate count space) out.new result }
 {
-    let mut i: usize = 0;
-    while i < count {
-        out[at + i] = SPACE;
-        i += 1;
-    }
-    at + i
+    let end = at + count;
+    out[at..end].fill(SPACE);
+    end
 }
 
 // Right-set in `width` columns.
@@ -385,6 +315,7 @@ pub fn put_number_right(out: &mut [u8], at: usize, width: usize, v: u32) -> usiz
 }
 
 // Where a line ends, and whether byte 10 closes it there.
+// Kept: the end is wanted of an unclosed line too, so an `Option` of it would lose it.
 #[derive(Clone, Copy)]
 pub struct Line {
     pub end: usize,
@@ -397,12 +328,13 @@ pub fn next_line(text: &[u8], from: usize) -> Line
 {
     let end = find_byte(text, from, NEWLINE);
     Line {
-        end: end,
+        end,
         closed: end < text.len(),
     }
 }
 
 // How a text begins: it is empty; it is too long or its first line is not closed; or that line ends at a place.
+// Kept: three cases of one rank, and neither of the first two is an error of the other: a `Result` of an `Option` is no plainer.
 #[derive(Clone, Copy)]
 pub enum Begins {
     Nothing,

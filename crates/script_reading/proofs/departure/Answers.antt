@@ -2,12 +2,8 @@
 -- Assumes nothing.
 use Rattle.history.specs.Calls.{ask, depart}
 use Rattle.script_reading.specs.CommandFields.{last}
-use Rattle.script_reading.specs.LineReading.{up_to_end, up_to_nothing, up_to_next}
+use Rattle.script_reading.specs.LineReading.{up_to_end, up_to_next}
 use Rattle.script_reading.proofs.departure.Goals as goal
-
-pub returns-in_default : goal.returns-in_default
-returns-in_default c =
-    up_to_nothing _ c.number_after-a.ensures (last (λ t. ask (depart c.args.how t))) c.in_default.is
 
 pub returns : goal.returns
 returns c =

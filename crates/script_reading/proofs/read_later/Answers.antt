@@ -9,7 +9,7 @@ returns-then-line-row c =
     let u = c.read_row-row.ensures in
     (same_line_end _ u _ c.next_line-line.ensures, sym (read_whole _ u _ c.next_line-line.ensures c.if-line-row.true))
 
-pub returns : goal.returns
-returns c =
+pub returns-else-line-row : goal.returns-else-line-row
+returns-else-line-row c =
     let u = c.read_row-row.ensures in
     (same_line_end _ u _ c.next_line-line.ensures, sym (read_part _ u _ c.next_line-line.ensures c.if-line-row.false))

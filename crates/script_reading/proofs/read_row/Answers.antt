@@ -38,9 +38,10 @@ returns-then-word_at-4 c =
 
 pub returns : goal.returns
 returns c =
-    up_to_nothing_at _
+    rw c.malformed.ensures
+    (up_to_nothing_at _
     (says_nothing _
     (sym c.word_at.ensures ∙ c.if-word_at.false)
     (sym c.word_at-2.ensures ∙ c.if-word_at-2.false)
     (sym c.word_at-3.ensures ∙ c.if-word_at-3.false)
-    (sym c.word_at-4.ensures ∙ c.if-word_at-4.false))
+    (sym c.word_at-4.ensures ∙ c.if-word_at-4.false)))

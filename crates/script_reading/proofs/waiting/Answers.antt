@@ -2,11 +2,8 @@
 -- Assumes nothing.
 use Rattle.history.specs.Calls.{wait}
 use Rattle.script_reading.specs.CommandFields.{last}
-use Rattle.script_reading.specs.LineReading.{up_to_end, up_to_nothing, up_to_next}
+use Rattle.script_reading.specs.LineReading.{up_to_end, up_to_next}
 use Rattle.script_reading.proofs.waiting.Goals as goal
-
-pub returns-in_default : goal.returns-in_default
-returns-in_default c = up_to_nothing _ c.number_after-a.ensures (last wait) c.in_default.is
 
 pub returns : goal.returns
 returns c =

@@ -1,19 +1,29 @@
+-- `text::capital` meets its contract.
+-- Assumes nothing.
+use native.Mathlib.Omega.{arith}
+use lib.ListN.{length, get_or}
+use Rattle.std.proofs.Math.Logic.{⊎_elim}
 use borrow.Author.Tests.{eq-eqb, ne_eqb, lt-ltb, le-ltb}
 use Rattle.text.specs.Letters.{capital_of}
 use Rattle.text.proofs.capital.Goals as goal
 
-pub returns-then-part-ne1 : goal.returns-then-part-ne1
+pub returns-in-len1 : goal.returns-in-len1
 unfolding capital_of
-returns-then-part-ne1 c = rw (ne_eqb _ 1 c.if-part-ne1.true)
+returns-in-len1 c =
+    let letter = rw c.if-is_ascii_uppercase.true at c.is_ascii_uppercase.ensures.cases in
+    rw (c.from.ensures, eq-eqb (length c.args.part.now) 1 (omega arith), le-ltb _ 65 letter.0, le-ltb 90 _ letter.1)
 
-pub returns-then-byte-lt65 : goal.returns-then-byte-lt65
+pub returns-in_default : goal.returns-in_default
 unfolding capital_of
-returns-then-byte-lt65 c = rw (eq-eqb _ 1 c.if-part-ne1.false, lt-ltb _ 65 c.if-byte-lt65.true)
+returns-in_default c = rw (ne_eqb (length c.args.part.now) 1 (λ e. omega (arith, c.in_default.len_below)))
 
-pub returns-then-byte-gt90 : goal.returns-then-byte-gt90
+pub returns-in_default-2 : goal.returns-in_default-2
 unfolding capital_of
-returns-then-byte-gt90 c = rw (eq-eqb _ 1 c.if-part-ne1.false, le-ltb _ 65 c.if-byte-lt65.false, lt-ltb 90 _ c.if-byte-gt90.true)
+returns-in_default-2 c =
+    let other = rw c.if-is_ascii_uppercase.false at c.is_ascii_uppercase.ensures.cases in
+    rw (eq-eqb (length c.args.part.now) 1 (omega arith))
+    (⊎_elim (λ low. rw (lt-ltb _ 65 low)) (λ high. rw (le-ltb (get_or c.args.part.now 0 0) 65 (omega arith), lt-ltb 90 _ high)) other)
 
-pub returns : goal.returns
+pub returns-in_default-3 : goal.returns-in_default-3
 unfolding capital_of
-returns c = rw (eq-eqb _ 1 c.if-part-ne1.false, le-ltb _ 65 c.if-byte-lt65.false, le-ltb 90 _ c.if-byte-gt90.false)
+returns-in_default-3 c = rw (ne_eqb (length c.args.part.now) 1 (λ e. omega (arith, c.in_default.len_at_least)))

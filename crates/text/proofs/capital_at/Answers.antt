@@ -10,5 +10,5 @@ use Rattle.text.proofs.capital_at.Goals as goal
 pub returns : goal.returns
 returns c =
     let a = c.args in
-    reads_field a.text.now a.from capital_of c.capital-said.result _ (c.capital-said.ensures ∙ ap capital_of c.field_at-part.ensures)
+    reads_field a.text.now a.from capital_of c.capital.result _ (c.capital.ensures ∙ ap capital_of c.field_at-part.ensures)
     (ap (λ l. a.from + length l) c.field_at-part.ensures)

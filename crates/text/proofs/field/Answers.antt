@@ -19,6 +19,6 @@ returns c =
     let a = c.args in
     let f = c.field_start-start in
     let s = drop f.result a.line.now in
-    let r = c.find_byte-e in
+    let r = c.find_byte-end in
     let e : r.result - f.result ≡ length (upto 9 s) = omega (arith, r.ensures) in
     rw e (upto_take 9 s ∙ sym (fields_first s) ∙ ap (λ (fs : List (List ℕ)). get_or fs 0 []) f.ensures.1 ∙ from_first (fields_of a.line.now) a.k)

@@ -1,7 +1,7 @@
 -- `text::field_numbers` meets its contract: the numbers kept, and then those in the fields from `start` on, are all.
 -- Assumes nothing.
 use Rattle.std.specs.Prelude.{Some, None}
-use mathlib.Core.Path.{◌≡◌, refl, ap, sym, ◌∙◌}
+use mathlib.Core.Path.{◌≡◌, refl, ap, sym, subst, ◌∙◌}
 use mathlib.Core.List.{List, [], ◌∷◌, ◌++◌, append-nil, append_assoc}
 use Prim.Native.Nat.{ℕ, suc, ◌+◌, ◌-◌, ◌≤◌, ◌<◌}
 use native.Mathlib.Omega.{arith}
@@ -94,7 +94,7 @@ part-ends c =
 
 is-next : (c : In-Some) → c.field-part.result.now ≡ field_of (drop c.loop-count.start c.args.line.now) 0
     → number_of (field_of (drop c.loop-count.start c.args.line.now) 0) ≡ Some c.in-Some.v
-is-next c e = ap number_of (sym e) ∙ sym c.number-said.ensures ∙ c.in-Some.is
+is-next c e = ap number_of (sym e) ∙ sym c.number.ensures ∙ c.in-Some.is
 
 pub loop-count-init : goal.loop-count-init
 unfolding pad
@@ -106,17 +106,11 @@ loop-count-init c =
 pub returns-in_default : goal.returns-in_default
 returns-in_default c =
     not-next c.loop-count.invariant (omega arith)
-    (ap number_of (sym (part_is (goal.at.returns-in_default c).After-field-part)) ∙ sym c.number-said.ensures ∙ c.in_default.is)
-
-pub overflow_add-end : goal.overflow_add-end
-overflow_add-end c = omega (arith, part-ends (goal.at.overflow_add-end c).After-field-part)
+    (ap number_of (sym (part_is (goal.at.returns-in_default c).After-field-part)) ∙ sym c.number.ensures ∙ c.in_default.is)
 
 pub returns-then-end-line : goal.returns-then-end-line
 returns-then-end-line c =
     last c.loop-count.invariant (omega arith) _ (is-next (goal.at.returns-then-end-line c).In-Some (part_is (goal.at.returns-then-end-line c).After-field-part)) (omega (arith, ap length (part_is (goal.at.returns-then-end-line c).After-field-part)))
-
-pub overflow_add-start : goal.overflow_add-start
-overflow_add-start c = omega (arith, part-ends (goal.at.overflow_add-start c).After-field-part)
 
 pub loop-count-preserved : goal.loop-count-preserved
 loop-count-preserved c =
@@ -126,5 +120,6 @@ loop-count-preserved c =
 pub returns : goal.returns
 unfolding leading
 returns c =
-    let z : 8 - c.loop-count.count ≡ 0 = omega arith in
-    done c.loop-count.invariant (rw z)
+    let l = c.loop-count in
+    let e : l.count ≡ 8 = omega arith in
+    subst (λ (n : ℕ). ◌≡◌ {A = Numbers} (record { count = n; values = l.values }) (numbers_from c.args.line.now c.args.k)) e (done l.invariant (rw e))

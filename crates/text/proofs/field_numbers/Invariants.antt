@@ -19,6 +19,3 @@ pub record Inv (line : List ℕ) (k : ℕ) (values : List ℕ) (count start : �
 
 abbrev pub invariant-loop-count : goal.invariant-loop-count
 invariant-loop-count l = Inv l.line l.k l.values l.count l.start
-
-abbrev pub decreases-loop-count : goal.decreases-loop-count
-decreases-loop-count l = 8 - l.count

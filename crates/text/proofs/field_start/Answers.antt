@@ -1,38 +1,31 @@
 -- `text::field_start` meets its contract: the fields wanted are those that are k - n fields further on from `start`.
 -- Assumes nothing.
-use mathlib.Core.Path.{◌≡◌, ap, sym, ◌∙◌}
+use mathlib.Core.Path.{◌≡◌, sym, ◌∙◌}
 use Prim.Native.Nat.{◌+◌, ◌-◌, ◌≤◌, ◌<◌}
-use native.Mathlib.Nat.{sub-zero}
 use native.Mathlib.Omega.{arith}
 use lib.ListN.{length, drop, drop_of_length-le}
-use borrow.Author.Rules.{rules}
 use Rattle.text.specs.Prefixes.{upto, upto_inside}
-use Rattle.text.specs.Fields.{fields_of, fields_from}
+use Rattle.text.specs.Fields.{fields_of}
 use Rattle.text.specs.FieldLaws.{from_start, past_tab, past_last}
 use Rattle.text.proofs.field_start.Goals as goal
-
-pub loop-n-init : goal.loop-n-init
-loop-n-init c =
-    let a = c.args in
-    (search rules, search rules, ap (fields_from a.line.now) (sub-zero a.k))
 
 pub returns-then-t-line : goal.returns-then-t-line
 unfolding fields_of
 returns-then-t-line c =
-    let l = c.loop-n in
+    let l = c.loop in
     let a = c.args in
     let line = a.line.now in
     let e : length line ≤ l.start + length (upto 9 (drop l.start line)) = omega arith in
     let end : length line ≤ c.find_byte-t.result = omega arith in
-    (omega arith, rw (drop_of_length-le line end) (sym (past_last line l.start a.k l.n (omega arith) e) ∙ l.invariant.2))
+    (omega arith, rw (drop_of_length-le line end) (sym (past_last line l.start a.k l.counter (omega arith) e) ∙ l.invariant.2))
 
 pub overflow_add-start : goal.overflow_add-start
 overflow_add-start c =
-    omega (arith, upto_inside 9 c.args.line.now c.loop-n.start (omega arith))
+    omega (arith, upto_inside 9 c.args.line.now c.loop.start (omega arith))
 
-pub loop-n-preserved : goal.loop-n-preserved
-loop-n-preserved c =
-    let l = c.loop-n in
+pub loop-preserved : goal.loop-preserved
+loop-preserved c =
+    let l = c.loop in
     let a = c.args in
     let line = a.line.now in
     let r = c.find_byte-t in
@@ -40,11 +33,11 @@ loop-n-preserved c =
     let le = upto_inside 9 line l.start (omega arith) in
     let ne : (r.result ≡ length line) → ⊥ = c.if-t-line.false in
     let lt : l.start + length (upto 9 (drop l.start line)) < length line = omega arith in
-    (omega arith, omega arith, rw e (past_tab line l.start a.k l.n (omega arith) lt) ∙ l.invariant.2)
+    (omega arith, omega arith, rw e (past_tab line l.start a.k l.counter (omega arith) lt) ∙ l.invariant.2)
 
 pub returns : goal.returns
 returns c =
-    let l = c.loop-n in
+    let l = c.loop in
     let a = c.args in
-    let e : a.k - l.n ≡ 0 = omega arith in
+    let e : a.k - l.counter ≡ 0 = omega arith in
     (omega arith, sym (from_start (drop l.start a.line.now)) ∙ rw e at l.invariant.2)

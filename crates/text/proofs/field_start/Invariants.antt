@@ -6,8 +6,5 @@ use lib.ListN.{length, drop}
 use Rattle.text.specs.Fields.{fields_from}
 use Rattle.text.proofs.field_start.Given as goal
 
-abbrev pub invariant-loop-n : goal.invariant-loop-n
-invariant-loop-n l = (l.start ≤ length l.line) × (l.n ≤ l.k) × (fields_from (drop l.start l.line) (l.k - l.n) ≡ fields_from l.line l.k)
-
-abbrev pub decreases-loop-n : goal.decreases-loop-n
-decreases-loop-n l = l.k - l.n
+abbrev pub invariant-loop : goal.invariant-loop
+invariant-loop l = (l.start ≤ length l.line) × (l.counter ≤ l.k) × (fields_from (drop l.start l.line) (l.k - l.counter) ≡ fields_from l.line l.k)

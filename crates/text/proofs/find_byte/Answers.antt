@@ -1,12 +1,8 @@
 -- `text::find_byte` meets its contract: the first such byte from here on is the first from the start on.
 -- Assumes nothing.
-use mathlib.Core.Path.{refl}
 use native.Mathlib.Omega.{arith}
 use Rattle.text.specs.Prefixes.{upto_hit, upto_miss, upto_end}
 use Rattle.text.proofs.find_byte.Goals as goal
-
-pub loop-i-init : goal.loop-i-init
-loop-i-init c = refl
 
 pub returns-then-s-i : goal.returns-then-s-i
 returns-then-s-i c =
@@ -24,4 +20,4 @@ pub returns : goal.returns
 returns c =
     let l = c.loop-i in
     let a = c.args in
-    omega (arith, upto_end a.byte a.s.now l.i (omega arith))
+    grind (arith, c.max.ensures, l.invariant, upto_end a.byte a.s.now l.i, upto_end a.byte a.s.now a.from)

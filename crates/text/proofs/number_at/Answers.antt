@@ -10,5 +10,5 @@ use Rattle.text.proofs.number_at.Goals as goal
 pub returns : goal.returns
 returns c =
     let a = c.args in
-    reads_field a.text.now a.from number_of c.number-said.result _ (c.number-said.ensures ∙ ap number_of c.field_at-part.ensures)
+    reads_field a.text.now a.from number_of c.number.result _ (c.number.ensures ∙ ap number_of c.field_at-part.ensures)
     (ap (λ l. a.from + length l) c.field_at-part.ensures)

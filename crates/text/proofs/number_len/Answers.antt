@@ -6,14 +6,8 @@ use lib.ListN.{length}
 use Rattle.text.specs.NumberLaws.{decimal_one, decimal_some, decimal_length, decimal_ten}
 use Rattle.text.proofs.number_len.Goals as goal
 
-pub loop-rest-init : goal.loop-rest-init
-loop-rest-init c = omega arith
-
 pub overflow_add-n : goal.overflow_add-n
 overflow_add-n c = omega (arith, decimal_ten c.args.v (omega arith), decimal_some c.loop-rest.rest)
-
-pub loop-rest-smaller : goal.loop-rest-smaller
-loop-rest-smaller c = omega arith
 
 pub loop-rest-preserved : goal.loop-rest-preserved
 loop-rest-preserved c = omega (arith, decimal_length c.loop-rest.rest c.loop-rest-test.true)

@@ -42,9 +42,6 @@ loop-rest-preserved c =
           ∙ l.invariant.written;
     }
 
-pub shape_of-out : goal.shape_of-out
-shape_of-out c = simp length-set c.loop-rest.invariant.size
-
 pub returns : goal.returns
 returns c =
     let l = c.loop-rest in

@@ -1,37 +1,25 @@
--- `text::put_spaces` meets its contract: the spaces so far are written.
+-- `text::put_spaces` meets its contract: a part is filled.
 -- Assumes nothing.
-use mathlib.Core.Path.{◌≡◌, refl, ap, ◌∙◌}
+use mathlib.Core.Path.{◌≡◌, ap, ◌∙◌}
+use Prim.Native.Nat.{ℕ, ◌+◌, ◌-◌}
 use native.Mathlib.Omega.{arith}
-use lib.ListN.{length, replicate, length-replicate}
-use lib.Seq.{sets, length-sets}
-use borrow.Author.Rules.{rules}
-use Rattle.text.specs.WriterLaws.{sets_append}
-use Rattle.text.specs.RightSet.{space, spaces_more}
+use lib.ListN.{length, replicate, length-replicate, drop, length-drop}
+use lib.Seq.{length-take-le}
+use Rattle.std.specs.Prelude.{take}
+use Rattle.text.specs.RightSet.{space}
+use Rattle.text.specs.WriterLaws.{put_sets}
 use Rattle.text.proofs.put_spaces.Goals as goal
-
-pub loop-i-init : goal.loop-i-init
-loop-i-init c = (search rules, refl)
-
-pub bounds-out-at : goal.bounds-out-at
-bounds-out-at c =
-    let l = c.loop-i in
-    let a = c.args in
-    omega (arith, ap length l.invariant.1, length-sets a.out.now a.at (replicate l.i space))
-
-pub loop-i-preserved : goal.loop-i-preserved
-loop-i-preserved c =
-    let l = c.loop-i in
-    let a = c.args in
-    let e : l.out ≡ sets a.out.now a.at (replicate l.i space) = l.invariant.1 in
-    (omega arith, rw (e, spaces_more l.i, sets_append, length-replicate))
-
-pub shape_of-out : goal.shape_of-out
-shape_of-out c = ap length c.loop-i.invariant.1 ∙ simp length-sets
 
 pub returns : goal.returns
 returns c =
-    let l = c.loop-i in
     let a = c.args in
-    let all : l.i ≡ a.count = omega arith in
     let size = length-replicate a.count space in
-    record { place = omega arith; left = rw all at l.invariant.1; few = omega arith }
+    let part : length (take (a.at + a.count - a.at) (drop a.at a.out.now)) ≡ a.count =
+    omega (arith, length-take-le (a.at + a.count - a.at) (drop a.at a.out.now) (omega (arith, length-drop a.at a.out.now))) in
+    let filled : c.fill.new.self ≡ replicate a.count space =
+    c.fill.ensures.after (λ y h. h) ∙ ap (λ (n : ℕ). replicate n space) part in
+    record {
+      place = omega arith;
+      left = put_sets a.at _ a.out.now _ _ filled (omega arith) (omega (arith, c.requires));
+      few = omega arith;
+    }
