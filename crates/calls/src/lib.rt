@@ -1,7 +1,7 @@
 // The calls on a scheduler of either kind, by value: each goes by the kind's rules.
 #![tactic(auto)]
 
-ghost use Rattle.std.specs.Prelude.{◌≡◌, []};
+ghost use Rattle.std.specs.Prelude.{◌≡◌, [], ◌≤◌, length, take};
 ghost use Rattle.scheduler.specs.Model.{view};
 ghost use Rattle.scheduler.specs.Answers.{outcome};
 ghost use Rattle.scheduler.specs.Refusals.{wait_refusal};
@@ -10,7 +10,7 @@ ghost use Rattle.easy_rules.specs.EarliestStart.{earliest_start};
 ghost use Rattle.guarantees.specs.Rules.{call};
 ghost use Rattle.guarantees.specs.Premise.{Premise};
 ghost use Rattle.restoring.specs.Restoring.{restoring};
-ghost use Rattle.calls.specs.ListCall.{listing, listed_in, item_at};
+ghost use Rattle.calls.specs.ListCall.{over, listing, listed_in, item_at};
 ghost use Rattle.calls.specs.ProfileCall.{profile_outcome};
 ghost use Rattle.calls.specs.IndexCall.{index_outcome};
 ghost use Rattle.calls.specs.LongestCall.{longest_of};
@@ -153,6 +153,15 @@ impl<T: Copy, const N: usize> Listing<T, N> {
             },
             items,
         }
+    }
+
+    // The items at the front of a lent list, and the answer.
+    pub fn write_to(self, lent: &mut [T]) -> Shown
+        requires { (self.count ≤ N) × (self.count ≤ length lent.old) }
+        ensures { (result ≡ self.answer) × (lent.new ≡ over (take self.count self.items) lent.old) }
+    {
+        lent[..self.count].copy_from_slice(&self.items[..self.count]);
+        self.answer
     }
 
     // The item in a place; past the last one, a blank.

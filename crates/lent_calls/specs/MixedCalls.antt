@@ -21,9 +21,8 @@ use Rattle.guarantees.specs.Chain.{gives}
 use Rattle.guarantees.specs.Statement.{Start, opens, reads, changes, start_of}
 use Rattle.restoring.specs.Restoring.{restoring}
 use Rattle.calls.specs.declared.Shown.{Shown}
-use Rattle.calls.specs.declared.ProfileOutcome.{ProfileOutcome}
+use Rattle.calls.specs.declared.Listing.{Listing}
 use Rattle.calls.specs.ProfileCall.{profile_outcome}
-use Rattle.calls.specs.declared.IndexOutcome.{IndexOutcome}
 use Rattle.calls.specs.IndexCall.{index_outcome}
 use Rattle.spans.specs.declared.Block.{Block}
 use Rattle.scheduler.specs.declared.Earliest.{Earliest}
@@ -49,11 +48,11 @@ pub data Made (d : Scheduler) : Call → Answer → Scheduler → Type 0 where
   by_value : {c : Call} {o : Outcome} → o ≡ gives d c → Made d c o.answer o.scheduler
   on_lent : {c : Call} {a : Answer} {e : Scheduler} → Leaves d c a e → Made d c a e
   -- a profile counts as a call that leaves the scheduler as it is, by the refusal that it answers
-  profile_by_value : (room : ℕ) {p : ProfileOutcome} → p ≡ profile_outcome (view d) room
+  profile_by_value : (room : ℕ) {p : Listing Point 129} → p ≡ profile_outcome (view d) room
       → Made d (unchanged p.answer.refusal) (refused_answer p.answer.refusal) d
   profile_on_lent : {lent after : List Point} {s : Shown} → ShowsPoints d lent s after → Made d (unchanged s.refusal) (refused_answer s.refusal) d
   -- and so does the index
-  index_by_value : (room : ℕ) {p : IndexOutcome} → p ≡ index_outcome (view d) room
+  index_by_value : (room : ℕ) {p : Listing Block 9} → p ≡ index_outcome (view d) room
       → Made d (unchanged p.answer.refusal) (refused_answer p.answer.refusal) d
   index_on_lent : {lent after : List Block} {s : Shown} → ShowsBlocks d lent s after → Made d (unchanged s.refusal) (refused_answer s.refusal) d
   -- and the question for an earliest start, by value or on what is lent

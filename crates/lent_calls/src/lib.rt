@@ -98,13 +98,7 @@ pub fn profile(d: &Scheduler, points: &mut [Point]) -> Shown
     requires { Premise d.now }
     ensures { ShowsPoints d.now points.old result points.new }
 {
-    let p = calls::profile(*d, points.len());
-    let mut i = 0;
-    while i < p.count {
-        points[i] = calls::point_at(p, i);
-        i += 1;
-    }
-    p.answer
+    calls::profile(*d, points.len()).write_to(points)
 }
 
 // The index of the profile, into the list lent.
@@ -112,13 +106,7 @@ pub fn index(d: &Scheduler, blocks: &mut [Block]) -> Shown
     requires { Premise d.now }
     ensures { ShowsBlocks d.now blocks.old result blocks.new }
 {
-    let p = calls::index(*d, blocks.len());
-    let mut i = 0;
-    while i < p.count {
-        blocks[i] = calls::block_at(p, i);
-        i += 1;
-    }
-    p.answer
+    calls::index(*d, blocks.len()).write_to(blocks)
 }
 
 // The status page, into the front of the page lent.

@@ -1,44 +1,13 @@
--- `lent_calls::index` meets its contract: the blocks that `calls::index` gives fill the front of the list.
+-- `lent_calls::index` meets its contract: what `calls::index` gives is written to the front of the list.
 -- Assumes nothing.
-use Rattle.std.specs.Prelude.{◌≡◌, ◌<◌, length}
-use Rattle.std.proofs.Common.{ap, arith, add-one, rules}
-use Rattle.std.proofs.Math.Path.{refl}
-use Rattle.calls.specs.IndexCall.{block_at}
-use Rattle.lent_lemmas.proofs.Fills.{filled_next, filled_length}
-use Rattle.lent_calls.specs.IndexContract.{blocks_given, blocks_fits}
+use Rattle.std.specs.Prelude.{length}
+use Rattle.std.proofs.Common.{arith}
+use Rattle.lent_calls.specs.IndexContract.{blocks_few, blocks_shown}
 use Rattle.lent_calls.proofs.index.Goals as goal
-use Rattle.lent_calls.proofs.index.Goals.{After-block_at}
 
-pub loop-i-init : goal.loop-i-init
-loop-i-init c = (search rules, refl)
-
--- there is room for the next one
-below : (c : After-block_at) → c.loop-i.i < length c.loop-i.blocks
-below c =
-    let a = c.args in
-    let p = c.index-p in
-    let room = blocks_fits a.d.now (length a.blocks.now) p.result p.ensures in
-    omega (arith, c.loop-i-test.true, ap length c.loop-i.invariant.1, filled_length c.loop-i.i (block_at p.result) a.blocks.now (omega arith))
-
-pub offset_bounds-blocks-i : goal.offset_bounds-blocks-i
-offset_bounds-blocks-i c = let l = below (goal.at.offset_bounds-blocks-i c).After-block_at in search rules
-
-pub bounds-blocks-i : goal.bounds-blocks-i
-bounds-blocks-i c = below (goal.at.bounds-blocks-i c).After-block_at
-
-pub loop-i-preserved : goal.loop-i-preserved
-loop-i-preserved c =
-    let a = c.args in
-    let p = c.index-p in
-    let l = c.loop-i in
-    let room = blocks_fits a.d.now (length a.blocks.now) p.result p.ensures in
-    let next = filled_next l.i (block_at p.result) a.blocks.now (omega (arith, c.loop-i-test.true)) in
-    (omega arith, rw (l.invariant.1, c.block_at.ensures, add-one) next)
+pub write_to-requires : goal.write_to-requires
+write_to-requires c = (omega arith, blocks_few c.args.d.now (length c.args.blocks.now) _ c.requires c.index.ensures)
 
 pub returns : goal.returns
 returns c =
-    let a = c.args in
-    let p = c.index-p in
-    let l = c.loop-i in
-    let z : l.i ≡ p.result.count = omega (arith, l.invariant.0) in
-    rw (l.invariant.1, z) (blocks_given a.d.now a.blocks.now p.result p.ensures)
+    rw (c.write_to.ensures.0, c.write_to.ensures.1) (blocks_shown c.args.d.now c.args.blocks.now _ c.index.ensures)

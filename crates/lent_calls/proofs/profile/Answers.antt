@@ -1,44 +1,13 @@
--- `lent_calls::profile` meets its contract: the points that `calls::profile` gives fill the front of the list.
+-- `lent_calls::profile` meets its contract: what `calls::profile` gives is written to the front of the list.
 -- Assumes nothing.
-use Rattle.std.specs.Prelude.{◌≡◌, ◌<◌, length}
-use Rattle.std.proofs.Common.{ap, arith, add-one, rules}
-use Rattle.std.proofs.Math.Path.{refl}
-use Rattle.calls.specs.ProfileCall.{point_at}
-use Rattle.lent_lemmas.proofs.Fills.{filled_next, filled_length}
-use Rattle.lent_calls.specs.ProfileContract.{points_given, points_fits}
+use Rattle.std.specs.Prelude.{length}
+use Rattle.std.proofs.Common.{arith}
+use Rattle.lent_calls.specs.ProfileContract.{points_few, points_shown}
 use Rattle.lent_calls.proofs.profile.Goals as goal
-use Rattle.lent_calls.proofs.profile.Goals.{After-point_at}
 
-pub loop-i-init : goal.loop-i-init
-loop-i-init c = (search rules, refl)
-
--- there is room for the next one
-below : (c : After-point_at) → c.loop-i.i < length c.loop-i.points
-below c =
-    let a = c.args in
-    let p = c.profile-p in
-    let room = points_fits a.d.now (length a.points.now) p.result p.ensures in
-    omega (arith, c.loop-i-test.true, ap length c.loop-i.invariant.1, filled_length c.loop-i.i (point_at p.result) a.points.now (omega arith))
-
-pub offset_bounds-points-i : goal.offset_bounds-points-i
-offset_bounds-points-i c = let l = below (goal.at.offset_bounds-points-i c).After-point_at in search rules
-
-pub bounds-points-i : goal.bounds-points-i
-bounds-points-i c = below (goal.at.bounds-points-i c).After-point_at
-
-pub loop-i-preserved : goal.loop-i-preserved
-loop-i-preserved c =
-    let a = c.args in
-    let p = c.profile-p in
-    let l = c.loop-i in
-    let room = points_fits a.d.now (length a.points.now) p.result p.ensures in
-    let next = filled_next l.i (point_at p.result) a.points.now (omega (arith, c.loop-i-test.true)) in
-    (omega arith, rw (l.invariant.1, c.point_at.ensures, add-one) next)
+pub write_to-requires : goal.write_to-requires
+write_to-requires c = (omega arith, points_few c.args.d.now (length c.args.points.now) _ c.requires c.profile.ensures)
 
 pub returns : goal.returns
 returns c =
-    let a = c.args in
-    let p = c.profile-p in
-    let l = c.loop-i in
-    let z : l.i ≡ p.result.count = omega (arith, l.invariant.0) in
-    rw (l.invariant.1, z) (points_given a.d.now a.points.now p.result p.ensures)
+    rw (c.write_to.ensures.0, c.write_to.ensures.1) (points_shown c.args.d.now c.args.points.now _ c.profile.ensures)
