@@ -2,8 +2,7 @@
 // Its answer is that of the call by value.
 #![tactic(auto)]
 
-ghost use Rattle.std.specs.Prelude.{◌≡◌, ◌≤◌, length};
-ghost use Rattle.lists.specs.Loops.{position};
+ghost use Rattle.std.specs.Prelude.{◌≡◌, ◌≤◌, length, position};
 ghost use Rattle.scheduler.specs.Limits.{horizon, longest_hold, longest_cleanup};
 ghost use Rattle.scheduler.specs.Jobs.{departs_as};
 ghost use Rattle.scheduler.specs.Model.{view};
@@ -15,7 +14,7 @@ ghost use Rattle.conservative_rules.specs.Conservative.{call};
 ghost use Rattle.conservative_laws.specs.Validity.{Valid};
 ghost use Rattle.conservative_table.specs.ListChanges.{rows};
 ghost use Rattle.conservative_kept.specs.Beside.{Beside};
-ghost use Rattle.conservative_kept.specs.Depart.{slot_at, freed_from, freed_by, freed};
+ghost use Rattle.conservative_kept.specs.Depart.{freed_from, freed_by, freed};
 
 use scheduler::{Departure, Job, Outcome, Refusal, Request, Scheduler, Settings, Submission};
 
@@ -92,15 +91,14 @@ pub fn submit(
         let start = found.minute;
         let until = start + hold;
         if Scheduler::HORIZON < until {
-            let refused = d.refused(Refusal::PastHorizon);
             return Kept {
-                outcome: refused,
-                count: count,
+                outcome: d.refused(Refusal::PastHorizon),
+                count,
             };
         }
         let x = spans::Span {
             from: start,
-            until: until,
+            until,
             nodes: s.nodes,
         };
         let n = conservative_index::take_in(minutes, free, count, low, high, x);
@@ -110,26 +108,17 @@ pub fn submit(
             count: n,
         };
     }
-    let refused = d.refused(refusal);
     Kept {
-        outcome: refused,
-        count: count,
+        outcome: d.refused(refusal),
+        count,
     }
 }
 
-// The slot of the job that departs; 64 if there is none.
-fn slot_of(d: Scheduler, how: Departure, ticket: u32) -> usize
-    ensures { result ≡ slot_at (position (departs_as how ticket) d.jobs) }
+// The slot of the job that departs.
+fn slot_of(jobs: &[Job], how: Departure, ticket: u32) -> Option<usize>
+    ensures { result ≡ position (departs_as how ticket) jobs.now }
 {
-    let mut i: usize = 0;
-    while i < Scheduler::LIVE {
-        let j = d.jobs[i];
-        if j.departs(how, ticket) {
-            return i;
-        }
-        i += 1;
-    }
-    i
+    jobs.iter().position(|j| j.departs(how, ticket))
 }
 
 // The minute from which the nodes of a departing job are free.
@@ -155,11 +144,10 @@ pub fn given_back(
     requires { (start ≤ horizon) × (hold ≤ longest_hold) × (clock ≤ horizon) × (cleanup ≤ longest_cleanup) }
     ensures { result ≡ freed_by how nodes start hold clock cleanup }
 {
-    let from = freed_from(how, start, clock, cleanup);
     spans::Span {
-        from: from,
+        from: freed_from(how, start, clock, cleanup),
         until: start + hold,
-        nodes: nodes,
+        nodes,
     }
 }
 
@@ -194,7 +182,7 @@ pub fn depart(
     ensures { (result.outcome ≡ outcome (call (view d) (calls.depart how ticket)))
         × Beside (call (view d) (calls.depart how ticket)).model result.count minutes.new free.new low.new high.new }
 {
-    let slot = slot_of(d, how, ticket);
+    let slot = slot_of(&d.jobs, how, ticket).unwrap_or(Scheduler::LIVE);
     let left = job_table::leave(d, how, ticket);
     let refusal = left.refusal;
     let mut after = left.scheduler;
@@ -204,14 +192,12 @@ pub fn depart(
         let x = freed(job, how, d.settings, d.clock);
         let out = conservative_table::lift(minutes, free, 0, count, x);
         let passed = conservative_plan::replan_kept(after, minutes, free, out.count);
-        let moved = passed.scheduler;
-        after = moved;
+        after = passed.scheduler;
         n = passed.count;
         conservative_index::build(free, n, low, high, 0);
     }
-    let given = conservative::advance(left, after);
     Kept {
-        outcome: given,
+        outcome: conservative::advance(left, after),
         count: n,
     }
 }

@@ -20,9 +20,10 @@ fn edge(minutes: &[u32; 131], i: usize, count: usize) -> u32
     ensures { result ≡ edge minutes.now count i }
 {
     if i < count {
-        return minutes[i];
+        minutes[i]
+    } else {
+        Scheduler::HORIZON
     }
-    Scheduler::HORIZON
 }
 
 // The longest free stretch so far, with one more from one minute to another. A stretch that begins too late does not count.
@@ -33,10 +34,7 @@ fn longer(longest: u32, since: u32, end: u32, by: u32) -> u32
     if by < since {
         return longest;
     }
-    if end - since < longest {
-        return longest;
-    }
-    end - since
+    longest.max(end - since)
 }
 
 // The longest time, up to the last minute, for which the nodes are free without a break from some minute on that is not after `by`.
@@ -46,15 +44,13 @@ fn widest(minutes: &[u32; 131], free: &[u32; 131], count: usize, nodes: u32, by:
 {
     let mut since = minutes[0];
     let mut longest: u32 = 0;
-    let mut i: usize = 0;
-    while i < count {
+    for (i, &left) in free[..count].iter().enumerate() {
         let end = edge(minutes, i + 1, count);
-        if free[i] < nodes {
+        if left < nodes {
             since = end;
         } else {
             longest = longer(longest, since, end, by);
         }
-        i += 1;
     }
     longest
 }
@@ -73,7 +69,7 @@ fn by_room(d: Scheduler, q: Inquiry) -> Longest
     if 0 < estimate {
         return Longest {
             refusal: Refusal::None,
-            estimate: estimate,
+            estimate,
         };
     }
     let ever = settings.longest_within(widest(&minutes, &free, count, q.nodes, Scheduler::HORIZON));
@@ -99,7 +95,7 @@ fn shared_refusal(d: Scheduler, q: Inquiry) -> Refusal
     let shortest = Submission {
         nodes: q.nodes,
         estimate: 1,
-        tenant: tenant,
+        tenant,
         least: 0,
     };
     let slot = job_table::first_unused(d);
@@ -123,7 +119,7 @@ pub fn estimate(d: Scheduler, q: Inquiry) -> Longest
         return by_room(d, q);
     }
     Longest {
-        refusal: refusal,
+        refusal,
         estimate: 0,
     }
 }

@@ -1,7 +1,17 @@
 -- `conservative_kept::depart` meets its contract: the passes go over the points without what the job gives back.
 -- Assumes nothing.
-use mathlib.Core.Path.{◌≡◌, sym, ap, ◌∙◌}
-use mathlib.Core.Bool.{true}
+use mathlib.Core.Path.{◌≡◌, refl, sym, ap, ◌∙◌}
+use mathlib.Core.Bool.{Bool, true}
+use mathlib.Core.List.{List, [], ◌∷◌}
+use Rattle.std.specs.Prelude.{Option}
+use Rattle.std.specs.Option.{unwrap_or}
+use Rattle.std.specs.List.{position_from as first_from}
+use Rattle.std.proofs.lemmas.Iterator.Adapters.{position_from-zero}
+use Rattle.lists.specs.Tests.{case}
+use Rattle.lists.specs.Loops.{position_from}
+use Rattle.scheduler.specs.declared.Job.{Job}
+use Rattle.scheduler.specs.Limits.{slots}
+use Rattle.scheduler.specs.Jobs.{departs_as}
 use native.Mathlib.Omega.{arith}
 use Rattle.scheduler.specs.declared.Outcome.{Outcome}
 use Rattle.scheduler.specs.Model.{store, view}
@@ -10,7 +20,7 @@ use Rattle.scheduler.proofs.Lengths.{whole}
 use Rattle.scheduler.specs.declared.Scheduler.{Scheduler}
 use Rattle.scheduler.specs.declared.Departure.{Departure}
 use Rattle.scheduler.specs.Table.{with_jobs}
-use Prim.Native.Nat.{ℕ}
+use Prim.Native.Nat.{ℕ, ◌+◌}
 use Rattle.jobs.specs.Premise.{Holds, holds_as}
 use Rattle.jobs.specs.Slots.{slots_low}
 use Rattle.jobs.specs.Soundness.{Sound}
@@ -23,7 +33,7 @@ use Rattle.conservative_laws.specs.Outcomes.{call_valid}
 use Rattle.conservative.specs.Advance.{advanced_by}
 use Rattle.conservative.specs.Depart.{departs_by, replannable_held, taken_held, refused_held}
 use Rattle.conservative_kept.specs.Beside.{builds}
-use Rattle.conservative_kept.specs.Depart.{Leaver, leaver, lifts, lifted_profile, lifted_stored, passed_profile, refused_beside}
+use Rattle.conservative_kept.specs.Depart.{slot_at, Leaver, leaver, lifts, lifted_profile, lifted_stored, passed_profile, refused_beside}
 use Rattle.conservative_kept.proofs.depart.Goals.{After-leave-left, Then-is_none}
 use Rattle.conservative_kept.proofs.depart.Goals.{else-is_none, then-is_none}
 use Rattle.conservative_kept.proofs.depart.Goals as goal
@@ -35,13 +45,20 @@ accepted : (c : Then-is_none) → accepts
     (departing (view c.args.d) c.args.how c.args.ticket).refusal ≡ true
 accepted c = ap (λ (p : Part). accepts p.refusal) (sym (left_is c.before.before.before)) ∙ sym c.is_none.ensures ∙ c.if-is_none.true
 
+-- the slot that is found
+same_place : (p : Job → Bool) (k : ℕ) (js : List Job) → unwrap_or (first_from p k js) slots ≡ slot_at (position_from p k js)
+same_place p k [] = refl
+same_place p k (j ∷ js) = case (p j) (λ e. rw e refl) (λ e. rw e (same_place p (k + 1) js))
+
 -- who leaves
 who : (c : Then-is_none) → Leaver c.args.d c.args.how c.args.ticket (holds_as Valid Sound c.args.d (λ m v. v.sound) c.requires.0) (whole c.args.d c.well_formed.0)
-    c.slot_of-slot.result
+    c.unwrap_or-slot.result
 who c =
-    let f = c.slot_of-slot in
+    let f = c.unwrap_or-slot in
+    let p = departs_as c.args.how c.args.ticket in
+    let e = f.ensures ∙ ap (λ (o : Option ℕ). unwrap_or o slots) (c.slot_of.ensures ∙ position_from-zero p c.args.d.jobs) ∙ same_place p 0 c.args.d.jobs in
     leaver c.args.d c.args.how c.args.ticket (holds_as Valid Sound c.args.d (λ m v. v.sound) c.requires.0) (whole c.args.d c.well_formed.0)
-    f.result f.ensures (accepted c)
+    f.result e (accepted c)
 
 -- what the call answers, and the scheduler that it hands back, once the jobs that stay have had their turns
 module _ (d : Scheduler) (how : Departure) (ticket : ℕ) (v : Holds Valid d) (left : Part) (e : left ≡ part (departing (view d) how ticket))
@@ -107,13 +124,13 @@ returns c =
           let r = w.replan_kept-passed in
           let p = passed_profile r.result.scheduler (call m k).model
           (hands_back c.args.d c.args.how c.args.ticket c.requires.0 c.leave-left.result t a r.result.scheduler r.ensures.0) r.ensures.1 in (
-            c.advance-given.ensures ∙ ap (advanced_by c.leave-left.result) w.after-is
+            c.advance.ensures ∙ ap (advanced_by c.leave-left.result) w.after-is
                 ∙ answers c.args.d c.args.how c.args.ticket c.requires.0 c.leave-left.result t a r.result.scheduler r.ensures.0,
             rw (w.minutes-is, w.free-is, w.low-is, w.high-is, w.n-is) (record { profile = p; indexed = w.build.ensures }),
           )
       | else-is_none w ↦
           let a = e ∙ w.if-is_none.false in (
-            c.advance-given.ensures
+            c.advance.ensures
                 ∙ ap (advanced_by c.leave-left.result) w.after-is
                 ∙ ap (λ (p : Part). advanced_by p p.scheduler) t
                 ∙ refused_held m c.args.how c.args.ticket c.requires.0.holds a,

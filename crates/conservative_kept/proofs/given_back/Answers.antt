@@ -3,4 +3,4 @@
 use Rattle.conservative_kept.proofs.given_back.Goals as goal
 
 pub returns : goal.returns
-returns c = rw c.freed_from-from.ensures
+returns c = rw c.freed_from.ensures

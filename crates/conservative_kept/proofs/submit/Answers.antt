@@ -81,7 +81,7 @@ pub returns-then-until-gt-HORIZON : goal.returns-then-until-gt-HORIZON
 unfolding view
 returns-then-until-gt-HORIZON c =
     let l = late (goal.at.returns-then-until-gt-HORIZON c).Then-until-gt-HORIZON in (
-      c.refused-refused.ensures ∙ past_held c.args.d c.args.s c.requires.0 (passed (goal.at.returns-then-until-gt-HORIZON c).Then-is_none) l,
+      c.refused.ensures ∙ past_held c.args.d c.args.s c.requires.0 (passed (goal.at.returns-then-until-gt-HORIZON c).Then-is_none) l,
       rw (submit_past (view c.args.d) c.args.s c.requires.0.holds.sound (passed (goal.at.returns-then-until-gt-HORIZON c).Then-is_none) l) c.requires.1,
     )
 
@@ -117,6 +117,6 @@ pub returns : goal.returns
 unfolding view
 returns c =
     let a = ap accepts (sym (judged (goal.at.returns c).After-submit_refusal-refusal)) ∙ sym c.is_none.ensures ∙ c.if-is_none.false in (
-      c.refused-refused-2.ensures ∙ ap (refused_outcome c.args.d) (judged (goal.at.returns c).After-submit_refusal-refusal) ∙ tests_held c.args.d c.args.s c.requires.0 a,
+      c.refused-2.ensures ∙ ap (refused_outcome c.args.d) (judged (goal.at.returns c).After-submit_refusal-refusal) ∙ tests_held c.args.d c.args.s c.requires.0 a,
       rw (submit_checked (view c.args.d) c.args.s c.requires.0.holds.sound a) c.requires.1,
     )

@@ -8,5 +8,5 @@ use Rattle.longest.proofs.edge.Goals as goal
 pub returns-then-i-count : goal.returns-then-i-count
 returns-then-i-count c = sym (edge_in _ _ _ c.if-i-count.true)
 
-pub returns : goal.returns
-returns c = sym (edge_out _ _ _ (omega (arith, c.if-i-count.false)))
+pub returns-else-i-count : goal.returns-else-i-count
+returns-else-i-count c = sym (edge_out _ _ _ (omega (arith, c.if-i-count.false)))

@@ -1,6 +1,7 @@
 -- `longest::longer` meets its contract.
 -- Assumes nothing.
 use native.Mathlib.Omega.{arith}
+use mathlib.Core.Path.{◌∙◌}
 use Rattle.longest.specs.Scan.{longer_late, longer_max}
 use Rattle.longest.proofs.longer.Goals as goal
 
@@ -9,12 +10,7 @@ returns-then-by-since c =
     let a = c.args in
     longer_late a.longest a.since a.end a.by (omega (arith, c.if-by-since.true))
 
-pub returns-then-end-since : goal.returns-then-end-since
-returns-then-end-since c =
-    let a = c.args in
-    omega (arith, longer_max a.longest a.since a.end a.by (omega (arith, c.if-by-since.false)), c.if-end-since.true)
-
 pub returns : goal.returns
 returns c =
     let a = c.args in
-    omega (arith, longer_max a.longest a.since a.end a.by (omega (arith, c.if-by-since.false)), c.if-end-since.false)
+    c.max.ensures ∙ longer_max a.longest a.since a.end a.by (omega (arith, c.if-by-since.false))

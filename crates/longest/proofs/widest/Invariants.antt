@@ -1,11 +1,7 @@
 -- `longest::widest` meets its contract: the points passed have been scanned.
 -- Assumes nothing.
-use Prim.Native.Nat.{◌-◌, ◌≤◌}
 use Rattle.longest.specs.Scan.{Scans, Scanned}
 use Rattle.longest.proofs.widest.Given as goal
 
 abbrev pub invariant-loop-i : goal.invariant-loop-i
-invariant-loop-i l = (l.i ≤ l.count) × ((s : Scans l.minutes l.free l.count l.nodes l.by) → Scanned s l.since l.longest l.i)
-
-abbrev pub decreases-loop-i : goal.decreases-loop-i
-decreases-loop-i l = l.count - l.i
+invariant-loop-i l = (s : Scans l.minutes l.free l.count l.nodes l.by) → Scanned s l.since l.longest l.i

@@ -8,17 +8,17 @@ use Rattle.scheduler.specs.declared.Scheduler.{Scheduler}
 use Rattle.scheduler.specs.Table.{with_jobs}
 use Rattle.scheduler.specs.Model.{view}
 use Rattle.conservative_index.specs.BuiltIndex.{built_none}
-use Rattle.migration.specs.HeldSlots.{holders_few}
+use Rattle.migration.specs.HeldSlots.{fits, holders_few}
 use Rattle.migration.specs.Replanning.{replanning_begins, replanning_ends, kept_turn, searches, span_low, lays, planned_turn, changed_scheduler}
 use Rattle.migration.proofs.migrate.Goals.{else-is_waiting, then-is_waiting}
 use Rattle.migration.proofs.migrate.Goals as goal
 
-pub tabulate_holders-count-requires : goal.tabulate_holders-count-requires
-tabulate_holders-count-requires c = (c.requires, refl, refl)
+pub tabulate_slots-count-requires : goal.tabulate_slots-count-requires
+tabulate_slots-count-requires c = rw (c.promise_settings-settings.ensures, c.held_slots.ensures) (fits c.args.d c.requires, refl, refl)
 
 pub build-requires : goal.build-requires
 build-requires c =
-    let t = c.tabulate_holders-count.ensures in
+    let t = rw (c.promise_settings-settings.ensures, c.held_slots.ensures) at c.tabulate_slots-count.ensures in
     (built_none refl refl, t.free_long, holders_few c.args.d c.requires t, omega arith)
 
 pub loop-i-init : goal.loop-i-init
@@ -27,7 +27,7 @@ loop-i-init c =
     record {
       settings-are = c.promise_settings-settings.ensures;
       scheduler_is = refl;
-      turn = replanning_begins c.requires.holds (ap (λ (e : Scheduler). e.jobs) c.requires.stored) c.tabulate_holders-count.ensures c.build.ensures;
+      turn = replanning_begins c.requires.holds (ap (λ (e : Scheduler). e.jobs) c.requires.stored) (rw (c.promise_settings-settings.ensures, c.held_slots.ensures) at c.tabulate_slots-count.ensures) c.build.ensures;
     }
 
 pub search-found-requires : goal.search-found-requires
