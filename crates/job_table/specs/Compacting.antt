@@ -2,11 +2,13 @@
 -- unused.
 -- Assumes nothing.
 use Rattle.std.specs.Prelude.{ℕ, suc, ◌+◌, ◌-◌, ◌≤◌, ◌<◌, ◌≡◌, true, false, not, get_or, set}
-use Rattle.std.proofs.Common.{arith, add-one, sym, ◌∙◌, length-append, length-drop, take-append-drop, length-take-le, get_or-drop, get_or-append-add, drop-cons}
+use Rattle.std.proofs.Common.{arith, add-one, sym, ◌∙◌, length-append, length-drop, take-append-drop, take_all, length-take-le, get_or-drop, get_or-append-add, drop-cons}
 use Rattle.std.proofs.Math.Path.{ap}
 use mathlib.Core.List.{List, [], ◌∷◌, ◌++◌, map, map-append, append_assoc, append-nil}
 use Rattle.std.proofs.Math.ListN.{length, take, drop, replicate}
 use Rattle.std.proofs.lemmas.List.{replicate-append-replicate, set_at}
+use lib.Seq.{paste}
+use lib.ListN.{length-replicate}
 use Rattle.std.proofs.Math.Seq.{drop-append_seam, drop-append-add, take-append_seam}
 use Rattle.lists.specs.Loops.{keep_take_yes, keep_take_no}
 use Rattle.lists.specs.Pads.{pad, pad_push, pad_keep, keep_pad, map_pad, length_pad}
@@ -207,6 +209,22 @@ clears_first from d len l = record {
       (sym (ap (λ (js : List Job). js ++ drop from d.jobs) (pad_whole (take from d.jobs) from (length-take-le from d.jobs (omega arith)))
       ∙ take-append-drop from d.jobs));
 }
+
+-- all of them at once
+pub clears_at_once : (from i : ℕ) (d : Scheduler) → length d.jobs ≡ 64 → from ≤ i → i ≤ 64
+    → Clears from d (with_jobs d (paste d.jobs from (replicate (i - from) unused) (i - from))) i
+unfolding pad
+clears_at_once from i d len l m =
+    let front : length (take from d.jobs) ≡ from = length-take-le from d.jobs (omega arith) in
+    let to : from + (i - from) ≡ i = omega arith in
+    let rest : length (replicate (i - from) unused) ≤ i - from = omega (arith, length-replicate (i - from) unused) in
+    record {
+      above = l;
+      low = m;
+      scheduler_is =
+          ap (with_jobs d)
+          (rw (take_all (i - from) (replicate (i - from) unused) rest, to, front, append_assoc (take from d.jobs) (replicate (i - from) unused) (drop i d.jobs)));
+    }
 
 module _ {from : ℕ} {d e : Scheduler} {i : ℕ} (v : Clears from d e i) (len : length d.jobs ≡ 64) where
   abbrev front : List Job

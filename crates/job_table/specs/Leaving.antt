@@ -2,11 +2,12 @@
 -- ascend. At a tick those do whose runs end or whose nodes are released.
 -- Assumes nothing.
 use Rattle.std.specs.Prelude.{ℕ, zero, suc, ◌+◌, ◌-◌, ◌≤◌, ◌<◌, ◌≡◌, refl, Bool, true, false, not, cond, ◌&&◌, ◌⊎◌, eqb, ltb, set, take, drop, replicate}
-use Rattle.std.proofs.Common.{arith, sym, subst, ◌∙◌, inl, inr, take-append-drop, drop_of_length-le, take-suc, take_all, length-take-le, get_or-append-add, get_or-drop}
+use Rattle.std.proofs.Common.{arith, sym, subst, ◌∙◌, inl, inr, take-append-drop, drop_of_length-le, take-suc, take_all, length-take-le, length-drop, get_or-append-add, get_or-drop}
 use Rattle.std.proofs.Math.Numerals.{add-one}
 use Rattle.std.proofs.Math.Path.{ap}
 use Rattle.std.proofs.Math.Option.{Option, none, some}
 use mathlib.Core.List.{List, [], ◌∷◌, ◌++◌, map, append_assoc, append-nil}
+use Rattle.std.specs.List.{copy_within}
 use Rattle.std.proofs.Math.ListN.{length, get_or, get_or-append}
 use Rattle.std.proofs.lemmas.List.{replicate-append-replicate}
 use borrow.Author.Tests.{eqb-true, eqb-false, eq-eqb, ne_eqb, lt-ltb, le-ltb, ltb-true, ltb-false, not-true, not-false}
@@ -80,6 +81,28 @@ cut_step n i xs l h =
     let len = length-take-le (i + 1) xs (omega arith) in
     ap (cut n) (ap (λ (k : ℕ). take k xs) (add-one (i + 1)) ∙ take-suc xs (i + 1) unused h)
     ∙ cut_append n (take (i + 1) xs) (get_or xs (i + 1) unused ∷ []) (omega arith)
+
+cut_is : (n : ℕ) (xs : List Job) → n < length xs → cut n xs ≡ take n xs ++ drop (suc n) xs
+cut_is n [] h = absurd (omega arith)
+cut_is zero (x ∷ xs) h = refl
+cut_is (suc n) (x ∷ xs) h = ap (λ (l : List Job). x ∷ l) (cut_is n xs (omega arith))
+
+-- all slots after it are moved up at once
+pub moved_up : (d : Scheduler) (n : ℕ) → length d.jobs ≡ 64 → n < 64
+    → with_jobs d (set (copy_within d.jobs (n + 1) (length d.jobs) n) 63 unused) ≡ without_slot d n
+moved_up d n len h = ap (with_jobs d) (ap (λ (l : List Job). set l 63 unused) moved ∙ overwrite (cut n xs) xs unused 63 (omega (arith, cut_length n xs (omega arith))) (omega arith) ∙ last)
+  where
+    xs : List Job
+    xs = d.jobs
+
+    moved : copy_within xs (n + 1) (length xs) n ≡ cut n xs ++ drop 63 xs
+    moved =
+        let all : length (drop (n + 1) xs) ≤ length xs - (n + 1) = omega (arith, length-drop (n + 1) xs) in
+        let to : n + (length xs - (n + 1)) ≡ 63 = omega arith in
+        rw (take_all (length xs - (n + 1)) (drop (n + 1) xs) all, to, cut_is n xs (omega arith), add-one n, append_assoc (take n xs) (drop (suc n) xs) (drop 63 xs))
+
+    last : (cut n xs ++ (unused ∷ [])) ++ drop (63 + 1) xs ≡ cut n xs ++ (unused ∷ [])
+    last = let end : length xs ≤ 63 + 1 = omega arith in rw (drop_of_length-le xs end) (append-nil (cut n xs ++ (unused ∷ [])))
 
 -- whether the one picked leaves at once
 abbrev goes : Departure → Settings → Bool
@@ -315,7 +338,7 @@ module _ (d : Scheduler) (h : Departure) (t : ℕ) (v : Holds Sound d) where
   unfolding store
   place = ap (position (departs_as h t)) (slots_are d v) ∙ position_pad slots unused (departs_as h t) (picks_unused (select.Departing h t)) (view d).jobs
 
-  leaves_none : position (departs_as h t) d.jobs ≡ none → left (not_there_of h) false d ≡ part (departing (view d) h t)
+  pub leaves_none : position (departs_as h t) d.jobs ≡ none → left (not_there_of h) false d ≡ part (departing (view d) h t)
   unfolding depart_refusal verdict
   leaves_none e = rw (any_none (departs_as h t) 0 (view d).jobs (sym place ∙ e), not_there h) (ap (left (not_there_of h) false) v.stored)
 
@@ -325,7 +348,7 @@ module _ (d : Scheduler) (h : Departure) (t : ℕ) (v : Holds Sound d) where
         let z : i ≡ 0 + i = omega arith in
         alone d.settings d.clock h t 1 0 i (view d).jobs v.holds.asc (sym place ∙ e ∙ ap some z)
 
-    inside : i < length (view d).jobs
+    pub inside : i < length (view d).jobs
     inside = let s = position_says unused (departs_as h t) (view d).jobs 0 i (sym place ∙ e) in omega (arith, s.at_is, s.inside)
 
     abbrev with : List Job → Scheduler
@@ -357,7 +380,7 @@ module _ (d : Scheduler) (h : Departure) (t : ℕ) (v : Holds Sound d) where
     early_is : any (departs_early d.clock h t) (view d).jobs ≡ soon?
     early_is = alone_here.soon ∙ ap (too_early d.clock h) (sym same_slot)
 
-    leaves_early : soon? ≡ true → left refusal.BeforeLeast false d ≡ part (departing (view d) h t)
+    pub leaves_early : soon? ≡ true → left refusal.BeforeLeast false d ≡ part (departing (view d) h t)
     unfolding depart_refusal verdict view store
     leaves_early y =
         rw (any_some (departs_as h t) 0 i (view d).jobs (sym place ∙ e), early_is ∙ y) (ap (left refusal.BeforeLeast false) v.stored)

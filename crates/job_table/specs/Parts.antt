@@ -1,7 +1,9 @@
 -- The part that a call does on the table, whatever the kind: what it gives, and the refusals by numbers.
 -- Assumes nothing.
-use Rattle.std.specs.Prelude.{ℕ, suc, ◌≡◌, refl, Bool, true, false, cond, List, [], ltb, get_or}
+use Rattle.std.specs.Prelude.{ℕ, suc, ◌≡◌, refl, Bool, true, false, cond, List, [], min, ltb, get_or}
+use Rattle.std.proofs.Common.{arith}
 use Rattle.std.proofs.Math.Option.{Option, none, some}
+use borrow.Author.Tests.{ltb-true, ltb-false}
 use Rattle.lists.specs.Tests.{case, true_false}
 use Rattle.scheduler.specs.declared.Settings.{Settings}
 use Rattle.scheduler.specs.declared.Job.{Job}
@@ -72,6 +74,10 @@ module _ (m : Model) (r : Refusal) (o : Own) where
 abbrev pub part : Own → Part
 part o = record { refusal = o.refusal; ticket = o.ticket; ended = tickets o.ended; withdrawn = o.withdrawn; scheduler = store o.model }
 
+-- a refused part, with the scheduler as it was
+abbrev pub refused_part : Scheduler → Refusal → Part
+refused_part d r = record { refusal = r; ticket = 0; ended = tickets []; withdrawn = 0; scheduler = d }
+
 abbrev pub handed : Part → List ℕ → Own
 handed p ts = record { refusal = p.refusal; ticket = p.ticket; ended = ts; withdrawn = p.withdrawn; model = view p.scheduler }
 
@@ -117,6 +123,9 @@ past_horizon clock = cond (ltb horizon clock) refusal.PastHorizon refusal.None
 
 abbrev pub capped_clock : ℕ → ℕ
 capped_clock clock = cond (ltb horizon clock) horizon clock
+
+pub capped_min : (clock : ℕ) → min clock horizon ≡ capped_clock clock
+capped_min clock = case (ltb horizon clock) (λ e. rw e (omega (arith, ltb-true horizon clock e))) (λ e. rw e (omega (arith, ltb-false horizon clock e)))
 
 -- what a tick does to a job: its run ends, or its nodes are free again
 abbrev pub due_by : Settings → ℕ → Job → Due

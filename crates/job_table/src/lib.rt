@@ -3,17 +3,16 @@
 // numbers.
 #![tactic(auto)]
 
-ghost use Rattle.std.specs.Prelude.{◌≡◌, length, take, ◌≤◌};
+ghost use Rattle.std.specs.Prelude.{◌≡◌, true, length, position};
 ghost use Rattle.lists.specs.Lists.{keep};
-ghost use Rattle.scheduler.specs.Limits.{slots};
-ghost use Rattle.scheduler.specs.Jobs.{is_waiting};
+ghost use Rattle.scheduler.specs.Jobs.{is_waiting, departs_as};
 ghost use Rattle.scheduler.specs.Refusals.{not_there_of};
 ghost use Rattle.scheduler.specs.Table.{live_of, of_tenant};
 ghost use Rattle.scheduler.specs.Model.{view};
 ghost use Rattle.jobs.specs.Soundness.{Sound};
 ghost use Rattle.jobs.specs.Premise.{Holds};
 ghost use Rattle.jobs.specs.Slots.{Low, Orderly};
-ghost use Rattle.job_table.specs.Parts.{refusal_by, ends_if, cleans_if, withdrawn_if, past_horizon, capped_clock, part, departing, ticking, due_by};
+ghost use Rattle.job_table.specs.Parts.{refusal_by, cleans_if, withdrawn_by, past_horizon, part, refused_part, departing, ticking, due_by};
 ghost use Rattle.job_table.specs.Submitting.{Tells};
 
 use scheduler::{Departure, Job, Refusal, Scheduler, Settings, State, Submission, Tenant, Tickets};
@@ -37,55 +36,24 @@ pub fn first_unused(d: Scheduler) -> usize
     requires { Holds Sound d }
     ensures { result ≡ length (view d).jobs }
 {
-    let mut low: usize = 0;
-    let mut high = Scheduler::LIVE;
-    while low < high {
-        let middle = (low + high) / 2;
-        let j = d.jobs[middle];
-        if j.is_live() {
-            low = middle + 1;
-        } else {
-            high = middle;
-        }
-    }
-    low
+    d.jobs.partition_point(|j| j.is_live())
 }
 
-// How many jobs wait. (The loop does not go over all 64 slots: the compiler would unroll a loop of fixed length, and then move schedulers field by
+// How many jobs wait. (Only the live slots are gone over: the compiler would unroll a loop of fixed length, and then move schedulers field by
 // field.)
 pub fn waiting(d: Scheduler) -> usize
     requires { Holds Sound d }
     ensures { result ≡ length (keep is_waiting (view d).jobs) }
 {
-    let end = first_unused(d);
-    let mut n: usize = 0;
-    let mut i: usize = 0;
-    while i < end {
-        let j = d.jobs[i];
-        if j.is_waiting() {
-            n += 1;
-        }
-        i += 1;
-    }
-    n
+    let live = first_unused(d);
+    d.jobs[..live].iter().filter(|j| j.is_waiting()).count()
 }
 
-// How many of the first jobs are this tenant's.
-fn of_tenant(d: Scheduler, live: usize, tenant: Tenant) -> usize
-    requires { live ≤ slots }
-    ensures { result ≡ length (keep (of_tenant tenant) (take live d.jobs)) }
+// How many of these jobs are this tenant's.
+fn of_tenant(jobs: &[Job], tenant: Tenant) -> usize
+    ensures { result ≡ length (keep (of_tenant tenant) jobs.now) }
 {
-    let mut n: usize = 0;
-    let mut i: usize = 0;
-    while i < live {
-        let j = d.jobs[i];
-        let whose = j.tenant;
-        if whose.is(tenant) {
-            n += 1;
-        }
-        i += 1;
-    }
-    n
+    jobs.iter().filter(|j| j.tenant == tenant).count()
 }
 
 // The tenant's live jobs, by which a lack of places is judged. They need not be counted if all live jobs together are fewer than its places.
@@ -96,10 +64,11 @@ pub fn live_of(d: Scheduler, live: usize, tenant: Tenant, places: u32) -> usize
     if (live as u32) < places {
         return 0;
     }
-    of_tenant(d, live, tenant)
+    of_tenant(&d.jobs[..live], tenant)
 }
 
 // Why a submission is refused, whatever the kind, in this order: 14, 1, 2, 19, 15, 5. `live` is the number of its tenant's live jobs.
+#[tactic(auto, unfolding(crate::specs::Parts::refusal_by, scheduler::specs::Answers::verdict))]
 pub fn submit_refusal(s: Submission, settings: Settings, live: usize, next: u32) -> Refusal
     ensures { result ≡ refusal_by settings live next s }
 {
@@ -143,40 +112,41 @@ fn not_there(how: Departure) -> Refusal
     }
 }
 
-// Whether the run of the job found ends.
-fn ends_if(how: Departure, found: bool) -> bool
-    ensures { result ≡ ends_if how found }
+// Whether a job that leaves so is in cleanup after that.
+fn cleans(how: Departure, settings: Settings) -> bool
+    ensures { result ≡ cleans_if how true settings }
 {
-    if found {
-        return match how {
-            Departure::Complete => true,
-            Departure::Cancel => false,
-        };
-    }
-    false
+    how == Departure::Complete && 0 < settings.cleanup()
 }
 
-// Whether the job found is in cleanup after that.
-fn cleans_if(how: Departure, found: bool, settings: Settings) -> bool
-    ensures { result ≡ cleans_if how found settings }
+// The ticket if the job that leaves so is withdrawn, or 0.
+fn withdrawn_by(how: Departure, ticket: u32) -> u32
+    ensures { result ≡ withdrawn_by how ticket }
 {
-    if ends_if(how, found) {
-        return 0 < settings.cleanup();
+    match how {
+        Departure::Complete => 0,
+        Departure::Cancel => ticket,
     }
-    false
 }
 
-// The ticket of the job found if it is withdrawn, or 0.
-fn withdrawn_if(how: Departure, found: bool, ticket: u32) -> u32
-    ensures { result ≡ withdrawn_if how found ticket }
+// The slot of the job that can leave so and has this ticket.
+pub fn slot_of(jobs: &[Job], how: Departure, ticket: u32) -> Option<usize>
+    ensures { result ≡ position (departs_as how ticket) jobs.now }
 {
-    if found {
-        return match how {
-            Departure::Complete => 0,
-            Departure::Cancel => ticket,
-        };
+    jobs.iter().position(|j| j.departs(how, ticket))
+}
+
+// The scheduler as it was, with the reason.
+fn refused(d: Scheduler, refusal: Refusal) -> Part
+    ensures { result ≡ refused_part d refusal }
+{
+    Part {
+        refusal,
+        ticket: 0,
+        ended: Tickets::none(),
+        withdrawn: 0,
+        scheduler: d,
     }
-    0
 }
 
 // An early completion or a withdrawal. The job leaves its slot, and those after it move up; or it stays there in cleanup.
@@ -184,62 +154,27 @@ pub fn leave(d: Scheduler, how: Departure, ticket: u32) -> Part
     requires { Holds Sound d }
     ensures { result ≡ part (departing (view d) how ticket) }
 {
-    let none = Job::unused();
+    // 7 or 11, then 20.
+    let Some(i) = slot_of(&d.jobs, how, ticket) else {
+        return refused(d, not_there(how));
+    };
+    if d.jobs[i].is_early(how, d.clock) {
+        return refused(d, Refusal::BeforeLeast);
+    }
     let mut e = d;
-    let mut i: usize = 0;
-    while i < Scheduler::LIVE {
-        let j = e.jobs[i];
-        if j.departs(how, ticket) {
-            break;
-        }
-        i += 1;
+    if cleans(how, d.settings) {
+        e.jobs[i] = d.jobs[i].cleaning(d.clock);
+    } else {
+        e.jobs.copy_within(i + 1.., i);
+        e.jobs[LAST] = Job::unused();
     }
-    // 7 or 11, then 20. (In a function of its own the search would copy the scheduler.)
-    let mut refusal = not_there(how);
-    if i < Scheduler::LIVE {
-        let j = e.jobs[i];
-        if j.is_early(how, e.clock) {
-            refusal = Refusal::BeforeLeast;
-            i = Scheduler::LIVE;
-        } else {
-            refusal = Refusal::None;
-        }
-    }
-    let found = i < Scheduler::LIVE;
-    let mut leaves = found;
-    if cleans_if(how, found, e.settings) {
-        let j = e.jobs[i];
-        e.jobs[i] = j.cleaning(e.clock);
-        leaves = false;
-        i = Scheduler::LIVE;
-    }
-    while i < LAST {
-        let next = i + 1;
-        let j = e.jobs[next];
-        e.jobs[i] = j;
-        i = next;
-    }
-    if leaves {
-        e.jobs[LAST] = none;
-    }
-    let ended = Tickets::one_if(ends_if(how, found), ticket);
     Part {
-        refusal: refusal,
+        refusal: Refusal::None,
         ticket: 0,
-        ended: ended,
-        withdrawn: withdrawn_if(how, found, ticket),
+        ended: Tickets::one_if(how == Departure::Complete, ticket),
+        withdrawn: withdrawn_by(how, ticket),
         scheduler: e,
     }
-}
-
-// This minute, or the last.
-fn capped(clock: u32) -> u32
-    ensures { result ≡ capped_clock clock }
-{
-    if Scheduler::HORIZON < clock {
-        return Scheduler::HORIZON;
-    }
-    clock
 }
 
 // What a tick does to a job.
@@ -255,25 +190,13 @@ fn due_at(job: Job, settings: Settings, minute: u32) -> Due
     requires { Low job × Orderly settings job }
     ensures { result ≡ due_by settings minute job }
 {
-    let s = job.state;
-    match s {
-        State::Unused => Due::Stays,
-        State::Waiting => Due::Stays,
-        State::Running => {
-            if minute < job.start + job.estimate as u32 {
-                return Due::Stays;
-            }
-            if job.ends_at(settings, minute) {
-                return Due::Ends;
-            }
-            Due::Stays
+    match job.state {
+        State::Running
+            if job.start + job.estimate as u32 <= minute && job.ends_at(settings, minute) => {
+            Due::Ends
         }
-        State::Cleanup => {
-            if job.released_at(settings, minute) {
-                return Due::Leaves;
-            }
-            Due::Stays
-        }
+        State::Cleanup if job.released_at(settings, minute) => Due::Leaves,
+        _ => Due::Stays,
     }
 }
 
@@ -283,23 +206,18 @@ pub fn expire(d: Scheduler) -> Part
     requires { Holds Sound d }
     ensures { result ≡ part (ticking (view d)) }
 {
-    let none = Job::unused();
     let settings = d.settings;
     let cleared = 0 < settings.cleanup();
+    let live = first_unused(d);
+    let clock = d.clock + 1;
     let mut e = d;
-    let clock = e.clock + 1;
-    e.clock = capped(clock);
+    e.clock = clock.min(Scheduler::HORIZON);
     let mut list = [0u32; 64];
-    let mut kept: usize = 0;
-    let mut gone: usize = 0;
-    let mut i: usize = 0;
-    while i < Scheduler::LIVE {
+    let mut kept = 0;
+    let mut gone = 0;
+    for i in 0..live {
         let j = e.jobs[i];
-        if !j.is_live() {
-            break;
-        }
-        let what = due_at(j, settings, clock);
-        match what {
+        match due_at(j, settings, clock) {
             Due::Ends => {
                 list[gone] = j.ticket;
                 gone += 1;
@@ -311,25 +229,16 @@ pub fn expire(d: Scheduler) -> Part
             Due::Leaves => {}
             Due::Stays => {
                 // Read again, so that compiled code moves it whole.
-                let stays = e.jobs[i];
-                e.jobs[kept] = stays;
+                e.jobs[kept] = e.jobs[i];
                 kept += 1;
             }
         }
-        i += 1;
     }
-    while kept < i {
-        e.jobs[kept] = none;
-        kept += 1;
-    }
-    let ended = Tickets {
-        count: gone,
-        list: list,
-    };
+    e.jobs[kept..live].fill(Job::unused());
     Part {
         refusal: past_horizon(clock),
         ticket: 0,
-        ended: ended,
+        ended: Tickets { count: gone, list },
         withdrawn: 0,
         scheduler: e,
     }

@@ -9,3 +9,4 @@ pub mod FirstLaws
 pub mod CopyLoop
 pub mod Every
 pub mod EveryLoop
+pub mod Chains

@@ -13,13 +13,13 @@ ghost use Rattle.scheduler.specs.Answers.{code, accepts, refused_answer, refused
 ghost use Rattle.scheduler.specs.Opening.{opening_refusal, opened};
 
 // Which rules the scheduler follows: conservative backfilling ("Promise Desk") or EASY backfilling ("Loose Desk").
-#[derive(Clone, Copy)]
+#[derive(Clone, Copy, PartialEq, Eq)]
 pub enum Kind {
     Conservative,
     Easy,
 }
 
-#[derive(Clone, Copy)]
+#[derive(Clone, Copy, PartialEq, Eq)]
 pub enum State {
     Unused,
     Waiting,
@@ -90,7 +90,7 @@ pub struct Limits {
 }
 
 // Why a call is refused; `code` gives the documents' number. (4, "64 stacks live", has gone with the quotas.)
-#[derive(Clone, Copy)]
+#[derive(Clone, Copy, PartialEq, Eq)]
 pub enum Refusal {
     None,
     NodesOutOfRange,
@@ -197,7 +197,7 @@ pub struct Amendment {
 }
 
 // How a job leaves on request: one that runs is over early, one that waits is withdrawn.
-#[derive(Clone, Copy)]
+#[derive(Clone, Copy, PartialEq, Eq)]
 pub enum Departure {
     Complete,
     Cancel,
@@ -223,20 +223,14 @@ pub enum Select {
 pub fn outside_range(x: u32, low: u32, high: u32) -> bool
     ensures { result ≡ outside low high x }
 {
-    if x < low {
-        return true;
-    }
-    high < x
+    !(low..=high).contains(&x)
 }
 
 // Whether one is 0, or they do not sum to 64. (They may be any numbers, so that no sum of both is computed.)
 pub fn quotas_out_of_range(a: u32, b: u32) -> bool
     ensures { result ≡ misdivided a b }
 {
-    if outside_range(a, 1, 63) {
-        return true;
-    }
-    b != 64 - a
+    outside_range(a, 1, 63) || b != 64 - a
 }
 
 impl Refusal {
@@ -272,30 +266,25 @@ impl Refusal {
     pub fn is_none(self) -> bool
         ensures { result ≡ accepts self }
     {
-        self.code() == 0
+        self == Refusal::None
     }
 }
 
 impl Tickets {
     // The one ticket, or none.
+    #[tactic(auto, unfolding(crate::specs::Table::tickets, lists::specs::Pads::pad))]
     pub fn one_if(given: bool, ticket: u32) -> Tickets
         ensures { result ≡ tickets (one_if given ticket) }
     {
-        let none = [0u32; 64];
         if given {
-            let mut one = none;
-            one[0] = ticket;
-            return Tickets {
-                count: 1,
-                list: one,
-            };
+            let mut list = [0u32; 64];
+            list[0] = ticket;
+            return Tickets { count: 1, list };
         }
-        Tickets {
-            count: 0,
-            list: none,
-        }
+        Tickets::none()
     }
 
+    #[tactic(auto, unfolding(crate::specs::Table::tickets, lists::specs::Pads::pad))]
     pub fn none() -> Tickets
         ensures { result ≡ no_tickets }
     {
@@ -310,14 +299,13 @@ impl Answer {
     pub fn refused(refusal: Refusal) -> Answer
         ensures { result ≡ refused_answer refusal }
     {
-        let none = Tickets::none();
         Answer {
-            refusal: refusal,
+            refusal,
             ticket: 0,
             promise: 0,
             reads: 0,
-            ended: none,
-            started: none,
+            ended: Tickets::none(),
+            started: Tickets::none(),
             head: 0,
             forecast: 0,
         }
@@ -329,13 +317,11 @@ impl Tenant {
     pub fn of_letter(letter: u32) -> Tenant
         ensures { result ≡ tenant_of letter }
     {
-        if letter == 65 {
-            return Tenant::A;
+        match letter {
+            65 => Tenant::A,
+            66 => Tenant::B,
+            _ => Tenant::Nobody,
         }
-        if letter == 66 {
-            return Tenant::B;
-        }
-        Tenant::Nobody
     }
 
     // Its letter; nobody's is 0.
@@ -352,27 +338,7 @@ impl Tenant {
     pub fn is_known(self) -> bool
         ensures { result ≡ known self }
     {
-        match self {
-            Tenant::Nobody => false,
-            Tenant::A => true,
-            Tenant::B => true,
-        }
-    }
-
-    fn number(self) -> u32
-        ensures { result ≡ number self }
-    {
-        match self {
-            Tenant::Nobody => 0,
-            Tenant::A => 1,
-            Tenant::B => 2,
-        }
-    }
-
-    pub fn is(self, other: Tenant) -> bool
-        ensures { result ≡ same_tenant self other }
-    {
-        self.number() == other.number()
+        self != Tenant::Nobody
     }
 }
 
@@ -401,20 +367,16 @@ impl Job {
         requires { (order.nodes ≤ max_nodes) × (order.estimate ≤ longest_estimate) × (order.least ≤ order.estimate) }
         ensures { result ≡ fresh ticket order state start promise }
     {
-        let tenant = order.tenant;
         Job {
-            ticket: ticket,
+            ticket,
             nodes: order.nodes as u16,
             estimate: order.estimate as u16,
-            state: state,
-            tenant: tenant,
+            state,
+            tenant: order.tenant,
             least: order.least as u16,
-            rank: 0,
-            start: start,
-            promise: promise,
-            end: 0,
-            submitted: 0,
-            forecast: 0,
+            start,
+            promise,
+            ..Job::unused()
         }
     }
 
@@ -422,21 +384,10 @@ impl Job {
     pub fn entered(self, minute: u32, rank: u32) -> Job
         ensures { result ≡ entered minute rank self }
     {
-        let state = self.state;
-        let tenant = self.tenant;
         Job {
-            ticket: self.ticket,
-            nodes: self.nodes,
-            estimate: self.estimate,
-            state: state,
-            tenant: tenant,
-            least: self.least,
-            rank: rank,
-            start: self.start,
-            promise: self.promise,
-            end: self.end,
             submitted: minute,
-            forecast: self.forecast,
+            rank,
+            ..self
         }
     }
 
@@ -444,21 +395,9 @@ impl Job {
     pub fn foretold(self, minute: u32) -> Job
         ensures { result ≡ foretold minute self }
     {
-        let state = self.state;
-        let tenant = self.tenant;
         Job {
-            ticket: self.ticket,
-            nodes: self.nodes,
-            estimate: self.estimate,
-            state: state,
-            tenant: tenant,
-            least: self.least,
-            rank: self.rank,
-            start: self.start,
-            promise: self.promise,
-            end: self.end,
-            submitted: self.submitted,
             forecast: minute,
+            ..self
         }
     }
 
@@ -466,20 +405,11 @@ impl Job {
     pub fn at(self, state: State, start: u32) -> Job
         ensures { result ≡ job_at state start self }
     {
-        let tenant = self.tenant;
         Job {
-            ticket: self.ticket,
-            nodes: self.nodes,
-            estimate: self.estimate,
-            state: state,
-            tenant: tenant,
-            least: self.least,
-            rank: self.rank,
-            start: start,
-            promise: self.promise,
+            state,
+            start,
             end: 0,
-            submitted: self.submitted,
-            forecast: self.forecast,
+            ..self
         }
     }
 
@@ -487,147 +417,78 @@ impl Job {
     pub fn cleaning(self, end: u32) -> Job
         ensures { result ≡ cleaning end self }
     {
-        let tenant = self.tenant;
         Job {
-            ticket: self.ticket,
-            nodes: self.nodes,
-            estimate: self.estimate,
             state: State::Cleanup,
-            tenant: tenant,
-            least: self.least,
-            rank: self.rank,
-            start: self.start,
-            promise: self.promise,
-            end: end,
-            submitted: self.submitted,
-            forecast: self.forecast,
+            end,
+            ..self
         }
     }
 
     pub fn is_live(self) -> bool
         ensures { result ≡ picks Select.Live self }
     {
-        let s = self.state;
-        match s {
-            State::Unused => false,
-            State::Waiting => true,
-            State::Running => true,
-            State::Cleanup => true,
-        }
+        self.state != State::Unused
     }
 
     pub fn is_waiting(self) -> bool
         ensures { result ≡ picks Select.Waiting self }
     {
-        let s = self.state;
-        match s {
-            State::Unused => false,
-            State::Waiting => true,
-            State::Running => false,
-            State::Cleanup => false,
-        }
+        self.state == State::Waiting
     }
 
     pub fn is_running(self) -> bool
         ensures { result ≡ is_running self }
     {
-        let s = self.state;
-        match s {
-            State::Unused => false,
-            State::Waiting => false,
-            State::Running => true,
-            State::Cleanup => false,
-        }
+        self.state == State::Running
     }
 
     pub fn is_cleaning(self) -> bool
         ensures { result ≡ is_cleaning self }
     {
-        let s = self.state;
-        match s {
-            State::Unused => false,
-            State::Waiting => false,
-            State::Running => false,
-            State::Cleanup => true,
-        }
+        self.state == State::Cleanup
     }
 
     // Whether it runs or is in cleanup: its nodes are taken.
     pub fn is_holding(self) -> bool
         ensures { result ≡ is_holding self }
     {
-        let s = self.state;
-        match s {
-            State::Unused => false,
-            State::Waiting => false,
-            State::Running => true,
-            State::Cleanup => true,
-        }
+        matches!(self.state, State::Running | State::Cleanup)
     }
 
     // Whether it can leave so and has this ticket.
     pub fn departs(self, how: Departure, ticket: u32) -> bool
         ensures { result ≡ picks (Select.Departing how ticket) self }
     {
-        if self.ticket == ticket {
-            return match how {
+        self.ticket == ticket
+            && match how {
                 Departure::Complete => self.is_running(),
                 Departure::Cancel => self.is_waiting(),
-            };
-        }
-        false
+            }
     }
 
     // Whether it would be over before its least. (A difference, so that no sum can leave its range.)
     pub fn is_early(self, how: Departure, minute: u32) -> bool
         ensures { result ≡ too_early minute how self }
     {
-        match how {
-            Departure::Complete => {
-                let start = self.start;
-                if minute < start {
-                    return true;
-                }
-                minute - start < self.least as u32
-            }
-            Departure::Cancel => false,
-        }
+        how == Departure::Complete
+            && (minute < self.start || minute - self.start < self.least as u32)
     }
 
     // Whether it runs and its run ends in this minute. (A difference, so that no sum can leave its range.)
+    #[tactic(auto, using(crate::specs::Times::end_is, lists::specs::Tests::eqb_sub))]
     pub fn ends_at(self, settings: Settings, minute: u32) -> bool
         ensures { result ≡ picks (Select.EndingAt settings minute) self }
     {
-        let s = self.state;
-        match s {
-            State::Unused => false,
-            State::Waiting => false,
-            State::Running => {
-                if minute < self.start {
-                    return false;
-                }
-                minute - self.start == settings.run_time(self.estimate as u32)
-            }
-            State::Cleanup => false,
-        }
+        self.is_running()
+            && minute.checked_sub(self.start) == Some(settings.run_time(self.estimate as u32))
     }
 
     // Whether its run has ended and its nodes are free again from this minute on.
+    #[tactic(auto, using(crate::specs::Times::until_cleaning, lists::specs::Tests::eqb_sub))]
     pub fn released_at(self, settings: Settings, minute: u32) -> bool
         ensures { result ≡ released_at settings minute self }
     {
-        let s = self.state;
-        match s {
-            State::Unused => false,
-            State::Waiting => false,
-            State::Running => false,
-            State::Cleanup => {
-                if minute < self.end {
-                    return false;
-                }
-                minute - self.end == settings.cleanup()
-            }
-        }
+        self.is_cleaning() && minute.checked_sub(self.end) == Some(settings.cleanup())
     }
 }
 
@@ -644,26 +505,23 @@ impl Settings {
     }
 
     // For how many minutes nodes stay taken after a run. (An opening refuses more than the longest.)
+    #[tactic(auto, unfolding(crate::specs::Settings::cleanup))]
     pub fn cleanup(self) -> u32
         ensures { result ≡ cleanup self }
     {
-        if self.cleanup <= Scheduler::LONGEST_CLEANUP {
-            return self.cleanup;
-        }
-        Scheduler::LONGEST_CLEANUP
+        self.cleanup.min(Scheduler::LONGEST_CLEANUP)
     }
 
     // The longest estimate that a submission may have. (An opening refuses more than the longest of all.)
+    #[tactic(auto, unfolding(crate::specs::Settings::longest))]
     pub fn longest(self) -> u32
         ensures { result ≡ longest self }
     {
-        if self.longest <= Scheduler::LONGEST_ESTIMATE {
-            return self.longest;
-        }
-        Scheduler::LONGEST_ESTIMATE
+        self.longest.min(Scheduler::LONGEST_ESTIMATE)
     }
 
     // For how many minutes a job of this estimate runs.
+    #[tactic(auto, unfolding(crate::specs::Settings::run_time))]
     pub fn run_time(self, estimate: u32) -> u32
         ensures { result ≡ run_time self estimate }
     {
@@ -671,6 +529,7 @@ impl Settings {
     }
 
     // For how many minutes it holds its nodes.
+    #[tactic(auto, using(crate::specs::Times::hold_is))]
     pub fn hold_time(self, estimate: u32) -> u32
         ensures { result ≡ hold_time self estimate }
     {
@@ -678,6 +537,7 @@ impl Settings {
     }
 
     // The longest of these: the unit of the bound.
+    #[tactic(auto, unfolding(crate::specs::Settings::unit))]
     pub fn unit(self) -> u32
         ensures { result ≡ unit self }
     {
@@ -692,12 +552,7 @@ impl Settings {
         if minutes < cleanup {
             return 0;
         }
-        let most = walltime::longest_within(minutes - cleanup);
-        let longest = self.longest();
-        if most <= longest {
-            return most;
-        }
-        longest
+        walltime::longest_within(minutes - cleanup).min(self.longest())
     }
 
     // What a refused opening hands back.
@@ -705,7 +560,7 @@ impl Settings {
         ensures { result ≡ refused_settings kind }
     {
         Settings {
-            kind: kind,
+            kind,
             nodes: 1,
             cleanup: 0,
             quota_a: 63,
@@ -717,6 +572,7 @@ impl Settings {
 
 impl Opening {
     // Why it is refused, in this order: 16, 1, 3, 12, 13.
+    #[tactic(auto, unfolding(crate::specs::Opening::opening_refusal, crate::specs::Answers::verdict))]
     fn refusal(self) -> Refusal
         ensures { result ≡ opening_refusal self }
     {
@@ -777,34 +633,29 @@ impl Scheduler {
         }
     }
 
+    #[tactic(auto, unfolding(crate::specs::Model::store, lists::specs::Pads::pad))]
     pub fn empty(settings: Settings, clock: u32, next: u32) -> Scheduler
         ensures { result ≡ store (empty settings clock next) }
     {
-        let j = Job::unused();
         Scheduler {
-            settings: settings,
-            clock: clock,
-            next: next,
-            jobs: [j; 64],
+            settings,
+            clock,
+            next,
+            jobs: [Job::unused(); 64],
         }
     }
 
+    #[tactic(auto, unfolding(crate::specs::Opening::opening, crate::specs::Opening::opened))]
     pub fn open(o: Opening) -> Opened
         ensures { result ≡ opened o }
     {
         let refusal = o.refusal();
-        let settings = o.settings;
-        if refusal.is_none() {
-            return Opened {
-                refusal: refusal,
-                scheduler: Scheduler::empty(settings, o.minute, o.ticket),
-            };
-        }
-        let kind = settings.kind;
-        Opened {
-            refusal: refusal,
-            scheduler: Scheduler::empty(Settings::of_refused(kind), 0, 1),
-        }
+        let scheduler = if refusal.is_none() {
+            Scheduler::empty(o.settings, o.minute, o.ticket)
+        } else {
+            Scheduler::empty(Settings::of_refused(o.settings.kind), 0, 1)
+        };
+        Opened { refusal, scheduler }
     }
 
     // The outcome of a refused call: its reason, and the scheduler as it was.

@@ -1,13 +1,13 @@
 -- `easy::admit` meets its contract. The search for the first unused slot closes in on the number of live jobs; those counted are the
 -- tenant's of the slots passed.
 -- Assumes nothing.
-use Prim.Native.Nat.{ℕ, ◌+◌, ◌<◌}
+use Prim.Native.Nat.{ℕ, ◌+◌, ◌≤◌, ◌<◌}
 use native.Mathlib.Omega.{arith}
 use native.Mathlib.Numerals.{add-one}
 use mathlib.Core.Path.{◌≡◌, refl, sym, ap, ◌∙◌}
-use mathlib.Core.Bool.{true}
+use mathlib.Core.Bool.{Bool, true, false}
 use mathlib.Core.List.{List}
-use lib.ListN.{length, take, length-append}
+use lib.ListN.{length, get_or, take, length-append}
 use Rattle.lists.specs.Lists.{keep}
 use Rattle.lists.specs.Loops.{keep_take_yes, keep_take_no}
 use Rattle.scheduler.specs.Limits.{slots}
@@ -20,6 +20,12 @@ use Rattle.scheduler.specs.Model.{view}
 use Rattle.scheduler.specs.Answers.{accepts}
 use Rattle.easy_rules.specs.Easy.{rank, submit_refusal}
 use Rattle.jobs.specs.Soundness.{Fit}
+use Rattle.std.proofs.Common.{length-take, get_or-take}
+use Rattle.scheduler.specs.contracts.Tenant.{the_type}
+use Rattle.scheduler.specs.declared.Tenant.{Tenant}
+use Rattle.scheduler.specs.declared.Tenant.TheVariants.{Nobody, A, B}
+use Rattle.scheduler.specs.Tenants.{same_tenant}
+use denote.Enum.Bare.{sameb}
 use Rattle.jobs.specs.Slots.{slots_all, first_live, live_low, past_live}
 use Rattle.job_table.specs.Submitting.{Tells, counted, uncounted}
 use Rattle.easy.specs.HeldModel.{valid_sound}
@@ -27,8 +33,31 @@ use Rattle.easy.specs.Admission.{judged_early, judged_latest, fits, room, admitt
 use Rattle.scheduler.specs.declared.Scheduler.{Scheduler}
 use Rattle.jobs.specs.Premise.{Holds}
 use Rattle.easy_laws.specs.Validity.{Valid}
-use Rattle.easy.proofs.admit.Goals.{After-submit_refusal-why, Joined-quota-low, Then-is_none, then-quota-low+else-loop-i-test, else-quota-low, then-e-gt-EARLY, else-e-gt-EARLY, then-is, else-is, then-is_waiting, else-is_waiting, then-is_none+else-loop-k-test, else-is_none}
+use Rattle.easy.proofs.admit.Goals.{After-submit_refusal-why, Joined-quota-low, Then-is_none, then-quota-low+else-loop-j-test, else-quota-low, then-e-gt-EARLY, else-e-gt-EARLY, then-eq, else-eq, then-is_waiting, else-is_waiting, then-is_none+else-loop-ahead-test, else-is_none}
 use Rattle.easy.proofs.admit.Goals as goal
+
+-- the derived test of tenants
+tenants_same : (s t : Tenant) → sameb the_type s t ≡ same_tenant s t
+tenants_same Nobody Nobody = refl
+tenants_same Nobody A = refl
+tenants_same Nobody B = refl
+tenants_same A Nobody = refl
+tenants_same A A = refl
+tenants_same A B = refl
+tenants_same B Nobody = refl
+tenants_same B A = refl
+tenants_same B B = refl
+
+-- one job more of the first n
+module _ (p : Job → Bool) (js : List Job) (n : ℕ) (few : n ≤ length js) (i : ℕ) (h : i < length (take n js)) where
+  inside : i < n
+  inside = omega (arith, length-take n js)
+
+  counts : p (get_or (take n js) i unused) ≡ true → length (keep p (take (i + 1) js)) ≡ length (keep p (take i js)) + 1
+  counts e = let l = inside in rw (keep_take_yes unused p js i (omega arith) (rw get_or-take at e), length-append)
+
+  skips : p (get_or (take n js) i unused) ≡ false → length (keep p (take (i + 1) js)) ≡ length (keep p (take i js))
+  skips e = let l = inside in rw (keep_take_no unused p js i (omega arith) (rw get_or-take at e))
 
 -- what is counted tells whether its places are all taken
 told : (c : Joined-quota-low)
@@ -36,9 +65,10 @@ told : (c : Joined-quota-low)
 told c =
     let slot : c.loop-low.low ≡ length (view c.args.d).jobs = omega arith in
     elim c.if-quota-low.branch [
-      | then-quota-low+else-loop-i-test w ↦
-          let i : w.loop-i.i ≡ c.loop-low.low = omega (arith, w.loop-i.invariant.0, w.loop-i-test.false) in
-          rw (w.live-is, w.loop-i.invariant.3) (counted c.args.d (valid_sound c.args.d c.requires) c.args.s.tenant (quota c.args.d.settings c.args.s.tenant) w.loop-i.i (i ∙ slot))
+      | then-quota-low+else-loop-j-test w ↦
+          let few = slots_all c.args.d (valid_sound c.args.d c.requires) in
+          let i : w.loop-j.j-index ≡ length (view c.args.d).jobs = omega (arith, w.loop-j-test.false, w.loop-j.auto.j-index-end, length-take c.loop-low.low c.args.d.jobs) in
+          rw (w.live-is, w.loop-j.invariant.1) (counted c.args.d (valid_sound c.args.d c.requires) c.args.s.tenant (quota c.args.d.settings c.args.s.tenant) w.loop-j.j-index i)
       | else-quota-low w ↦
           rw w.live-is (uncounted c.args.d (valid_sound c.args.d c.requires) c.args.s.tenant (quota c.args.d.settings c.args.s.tenant) c.loop-low.low slot (omega (arith, c.quota.ensures, w.if-quota-low.false)))
     ]
@@ -89,51 +119,31 @@ loop-low-preserved c =
     (omega arith, omega arith, omega arith)
 
 -- ## The tenant's live jobs
-pub loop-i-init : goal.loop-i-init
-loop-i-init c = (omega arith, omega (arith, c.loop-low.invariant), omega arith, refl)
-
-pub loop-i-preserved : goal.loop-i-preserved
-loop-i-preserved c =
-    let l = c.loop-i in
+pub loop-j-preserved : goal.loop-j-preserved
+loop-j-preserved c =
+    let l = c.loop-j in
     let js = c.args.d.jobs in
     let p = of_tenant c.args.s.tenant in
-    let v = l.invariant in
-    let h : l.i < length js = omega (arith, v.1, slots_all c.args.d (valid_sound c.args.d c.requires)) in
-    let e = c.is.ensures in
-    elim c.if-is.branch [
-      | then-is w ↦ rw w.live-is (
-        omega arith,
-        omega (arith, v.1),
-        omega (arith, v.2),
-        rw (keep_take_yes unused p js l.i h (sym e ∙ w.if-is.true), length-append) (ap (λ (n : ℕ). n + 1) v.3),
-      )
-      | else-is w ↦ rw w.live-is (omega arith, omega (arith, v.1), omega (arith, v.2), rw (keep_take_no unused p js l.i h (sym e ∙ w.if-is.false)) v.3)
+    let few : c.loop-low.low ≤ length js = omega (arith, slots_all c.args.d (valid_sound c.args.d c.requires)) in
+    let e = sym (c.eq.ensures ∙ tenants_same _ _) in
+    elim c.if-eq.branch [
+      | then-eq w ↦ rw w.live-is (omega arith, omega (arith, counts p js c.loop-low.low few l.j-index c.loop-j-test.true (e ∙ w.if-eq.true)))
+      | else-eq w ↦ rw w.live-is (omega arith, omega (arith, skips p js c.loop-low.low few l.j-index c.loop-j-test.true (e ∙ w.if-eq.false)))
     ]
 
 pub latest_end-latest-requires : goal.latest_end-latest-requires
 latest_end-latest-requires c = valid_sound c.args.d c.requires
 
 -- ## Its rank
-pub loop-k-init : goal.loop-k-init
-loop-k-init c =
-    let j = judged (goal.at.loop-k-init c).After-submit_refusal-why (told (goal.at.loop-k-init c).Joined-quota-low) in
-    (omega arith, omega (arith, within (goal.at.loop-k-init c).Then-is_none j), omega arith, refl)
-
-pub loop-k-preserved : goal.loop-k-preserved
-loop-k-preserved c =
-    let l = c.loop-k in
+pub loop-ahead-preserved : goal.loop-ahead-preserved
+loop-ahead-preserved c =
+    let l = c.loop-ahead in
     let js = c.args.d.jobs in
-    let v = l.invariant in
-    let h : l.k < length js = omega (arith, v.1, slots_all c.args.d (valid_sound c.args.d c.requires)) in
-    let e = c.is_waiting.ensures in
+    let few : c.loop-low.low ≤ length js = omega (arith, slots_all c.args.d (valid_sound c.args.d c.requires)) in
+    let e = sym c.is_waiting.ensures in
     elim c.if-is_waiting.branch [
-      | then-is_waiting w ↦ rw w.rank-is (
-        omega arith,
-        omega (arith, v.1),
-        omega (arith, v.2),
-        rw (keep_take_yes unused is_waiting js l.k h (sym e ∙ w.if-is_waiting.true), length-append) (ap (λ (n : ℕ). n + 1) v.3),
-      )
-      | else-is_waiting w ↦ rw w.rank-is (omega arith, omega (arith, v.1), omega (arith, v.2), rw (keep_take_no unused is_waiting js l.k h (sym e ∙ w.if-is_waiting.false)) v.3)
+      | then-is_waiting w ↦ rw w.rank-is (omega arith, omega (arith, counts is_waiting js c.loop-low.low few l.ahead-index c.loop-ahead-test.true (e ∙ w.if-is_waiting.true)))
+      | else-is_waiting w ↦ rw w.rank-is (omega arith, omega (arith, skips is_waiting js c.loop-low.low few l.ahead-index c.loop-ahead-test.true (e ∙ w.if-is_waiting.false)))
     ]
 
 pub fresh-job-requires : goal.fresh-job-requires
@@ -165,11 +175,12 @@ returns c =
     let j = judged (goal.at.returns c).After-submit_refusal-why (told (goal.at.returns c).Joined-quota-low) in
     let slot : c.loop-low.low ≡ length (view c.args.d).jobs = omega arith in
     elim c.if-is_none.branch [
-      | then-is_none+else-loop-k-test w ↦
-          let k : w.loop-k.k ≡ c.loop-low.low = omega (arith, w.loop-k.invariant.0, w.loop-k-test.false) in
-          let counts = ranked c.args.d c.requires w.loop-k.k w.loop-k.rank (k ∙ slot) w.loop-k.invariant.3 in
-          rw (w.e-is, w.ticket-is, w.entered.ensures, w.fresh-job.ensures, counts, c.none-none.ensures)
+      | then-is_none+else-loop-ahead-test w ↦
+          let few = slots_all c.args.d (valid_sound c.args.d c.requires) in
+          let k : w.loop-ahead.ahead-index ≡ length (view c.args.d).jobs = omega (arith, w.loop-ahead-test.false, w.loop-ahead.auto.ahead-index-end, length-take c.loop-low.low c.args.d.jobs) in
+          let counts = ranked c.args.d c.requires w.loop-ahead.ahead-index w.loop-ahead.rank k w.loop-ahead.invariant.1 in
+          rw (w.e-is, w.ticket-is, w.entered.ensures, w.fresh-job.ensures, counts, c.none.ensures)
           (admitted c.args.d c.args.s c.requires why j (sym c.is_none.ensures ∙ w.if-is_none.true) _ slot)
       | else-is_none w ↦
-          rw (w.e-is, w.ticket-is, c.none-none.ensures) (turned_away c.args.d c.args.s c.requires why j (sym c.is_none.ensures ∙ w.if-is_none.false))
+          rw (w.e-is, w.ticket-is, c.none.ensures) (turned_away c.args.d c.args.s c.requires why j (sym c.is_none.ensures ∙ w.if-is_none.false))
     ]

@@ -2,7 +2,6 @@
 -- Assumes nothing.
 use mathlib.Core.Path.{◌≡◌}
 use mathlib.Core.Bool.{Bool}
-use Prim.Native.Nat.{◌-◌, ◌≤◌}
 use lib.ListN.{drop}
 use Rattle.scheduler.specs.declared.Job.{Job}
 use Rattle.scheduler.specs.declared.Scheduler.{Scheduler}
@@ -14,8 +13,5 @@ use Rattle.record_acceptance.proofs.all_pass.Given as goal
 abbrev pub p : Scheduler → Job → Bool
 p d = passes d.settings d.clock d.next
 
-abbrev pub invariant-loop-i : goal.invariant-loop-i
-invariant-loop-i l = (l.i ≤ 64) × (goes_on_of (p l.d) l.last (drop l.i l.d.jobs) ≡ goes_on_of (p l.d) 0 l.d.jobs)
-
-abbrev pub decreases-loop-i : goal.decreases-loop-i
-decreases-loop-i l = 64 - l.i
+abbrev pub invariant-loop-j : goal.invariant-loop-j
+invariant-loop-j l = goes_on_of (p l.fn.d) l.last (drop l.j-index l.fn.d.jobs) ≡ goes_on_of (p l.fn.d) 0 l.fn.d.jobs
