@@ -74,9 +74,9 @@ module _ (m : Model) (r : Refusal) (o : Own) where
 abbrev pub part : Own → Part
 part o = record { refusal = o.refusal; ticket = o.ticket; ended = tickets o.ended; withdrawn = o.withdrawn; scheduler = store o.model }
 
--- a refused part, with the scheduler as it was
-abbrev pub refused_part : Scheduler → Refusal → Part
-refused_part d r = record { refusal = r; ticket = 0; ended = tickets []; withdrawn = 0; scheduler = d }
+-- a part that gives no tickets
+abbrev pub bare_part : Refusal → Scheduler → Part
+bare_part r d = record { refusal = r; ticket = 0; ended = tickets []; withdrawn = 0; scheduler = d }
 
 abbrev pub handed : Part → List ℕ → Own
 handed p ts = record { refusal = p.refusal; ticket = p.ticket; ended = ts; withdrawn = p.withdrawn; model = view p.scheduler }

@@ -12,7 +12,7 @@ ghost use Rattle.scheduler.specs.Model.{view};
 ghost use Rattle.jobs.specs.Soundness.{Sound};
 ghost use Rattle.jobs.specs.Premise.{Holds};
 ghost use Rattle.jobs.specs.Slots.{Low, Orderly};
-ghost use Rattle.job_table.specs.Parts.{refusal_by, cleans_if, withdrawn_by, past_horizon, part, refused_part, departing, ticking, due_by};
+ghost use Rattle.job_table.specs.Parts.{refusal_by, cleans_if, withdrawn_by, past_horizon, part, bare_part, departing, ticking, due_by};
 ghost use Rattle.job_table.specs.Submitting.{Tells};
 
 use scheduler::{Departure, Job, Refusal, Scheduler, Settings, State, Submission, Tenant, Tickets};
@@ -29,6 +29,21 @@ pub struct Part {
     pub ended: Tickets,
     pub withdrawn: u32,
     pub scheduler: Scheduler,
+}
+
+impl Part {
+    // A part that gives no tickets.
+    pub fn bare(refusal: Refusal, scheduler: Scheduler) -> Part
+        ensures { result ≡ bare_part refusal scheduler }
+    {
+        Part {
+            refusal,
+            ticket: 0,
+            ended: Tickets::none(),
+            withdrawn: 0,
+            scheduler,
+        }
+    }
 }
 
 // The first unused slot, found by halving; it is also the number of live jobs.
@@ -136,19 +151,6 @@ pub fn slot_of(jobs: &[Job], how: Departure, ticket: u32) -> Option<usize>
     jobs.iter().position(|j| j.departs(how, ticket))
 }
 
-// The scheduler as it was, with the reason.
-fn refused(d: Scheduler, refusal: Refusal) -> Part
-    ensures { result ≡ refused_part d refusal }
-{
-    Part {
-        refusal,
-        ticket: 0,
-        ended: Tickets::none(),
-        withdrawn: 0,
-        scheduler: d,
-    }
-}
-
 // An early completion or a withdrawal. The job leaves its slot, and those after it move up; or it stays there in cleanup.
 pub fn leave(d: Scheduler, how: Departure, ticket: u32) -> Part
     requires { Holds Sound d }
@@ -156,10 +158,10 @@ pub fn leave(d: Scheduler, how: Departure, ticket: u32) -> Part
 {
     // 7 or 11, then 20.
     let Some(i) = slot_of(&d.jobs, how, ticket) else {
-        return refused(d, not_there(how));
+        return Part::bare(not_there(how), d);
     };
     if d.jobs[i].is_early(how, d.clock) {
-        return refused(d, Refusal::BeforeLeast);
+        return Part::bare(Refusal::BeforeLeast, d);
     }
     let mut e = d;
     if cleans(how, d.settings) {

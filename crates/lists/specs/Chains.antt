@@ -31,3 +31,9 @@ module _ {A : Type 0} (p : A → Bool) where
       from : (k : ℕ) (xs : List A) → option_of (std_list.position_from p k xs) ≡ position_from p k xs
       from k [] = refl
       from k (x ∷ xs) = case (p x) (λ e. rw e) (λ e. rw (e, from (k + 1) xs))
+
+  pub position_some : (xs : List A) (i : ℕ) → std.position p xs ≡ std.Some i → position p xs ≡ some i
+  position_some xs i e = sym (position_is xs) ∙ ap option_of e
+
+  pub position_none : (xs : List A) → std.position p xs ≡ std.None → position p xs ≡ none
+  position_none xs e = sym (position_is xs) ∙ ap option_of e

@@ -1,16 +1,18 @@
--- `amending::kept_promise` meets its contract.
--- Assumes nothing.
-use Rattle.amending.specs.Named.{slot_some, slot_none, promise_none, promise_one}
+use mathlib.Core.Path.{sym, ◌∙◌}
+use Rattle.lists.specs.Chains.{position_some, position_none}
+use Rattle.scheduler.specs.Amending.{names}
+use Rattle.amending.specs.Named.{promise_none, promise_one}
 use Rattle.amending.proofs.kept_promise.Goals as goal
 
-pub returns-then-slot-lt-LIVE : goal.returns-then-slot-lt-LIVE
-returns-then-slot-lt-LIVE c =
+pub returns-in-Some : goal.returns-in-Some
+returns-in-Some c =
     let d = c.args.d in
     let a = c.args.a in
-    promise_one d a c.requires c.slot_of-slot.result (slot_some d a c.requires _ c.slot_of-slot.ensures c.if-slot-lt-LIVE.true)
+    let i = c.in-Some.slot in
+    promise_one d a c.requires i (position_some (names a) d.jobs i (sym c.slot_of.ensures ∙ c.in-Some.is))
 
-pub returns : goal.returns
-returns c =
+pub returns-in-None : goal.returns-in-None
+returns-in-None c =
     let d = c.args.d in
     let a = c.args.a in
-    promise_none d a c.requires (slot_none d a c.requires _ c.slot_of-slot.ensures c.if-slot-lt-LIVE.false)
+    promise_none d a c.requires (position_none (names a) d.jobs (sym c.slot_of.ensures ∙ c.in-None.is))

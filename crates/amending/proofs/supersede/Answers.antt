@@ -1,38 +1,32 @@
--- `amending::supersede` meets its contract.
--- Assumes nothing.
-use mathlib.Core.Path.{◌≡◌, sym, ◌∙◌}
-use mathlib.Core.Bool.{Bool}
-use mathlib.Core.Option.{some}
-use Rattle.scheduler.specs.Answers.{accepts}
-use Rattle.amending.specs.Named.{spot, slot_some, slot_none, supersedes_none, fits, supersedes_one, supersedes_not}
-use Rattle.amending.proofs.supersede.Goals.{After-is_none, Then-slot-lt-LIVE}
+use mathlib.Core.Path.{sym, ◌∙◌}
+use Rattle.lists.specs.Chains.{position_some, position_none}
+use Rattle.scheduler.specs.Amending.{names}
+use Rattle.amending.specs.Named.{supersedes_none, fits, supersedes_one, supersedes_not}
+use Rattle.amending.proofs.supersede.Goals.{then-is_none, else-is_none}
 use Rattle.amending.proofs.supersede.Goals as goal
 
--- the slot is that of the job named
-found : (c : Then-slot-lt-LIVE)
-    → spot c.args.d c.args.a c.requires ≡ some c.slot_of-slot.result
-found c =
-    slot_some c.args.d c.args.a c.requires _ c.slot_of-slot.ensures c.if-slot-lt-LIVE.true
-
--- whether it is refused
-judged : (v : After-is_none) (b : Bool) → v.is_none.result ≡ b → accepts v.in_place_refusal-refusal.result ≡ b
-judged v b r = sym v.is_none.ensures ∙ r
+pub returns-in_default : goal.returns-in_default
+returns-in_default c =
+    let d = c.args.d in
+    let a = c.args.a in
+    c.bare.ensures ∙ supersedes_none d a c.requires (position_none (names a) d.jobs (sym c.slot_of.ensures ∙ c.in_default.is))
 
 pub superseded-requires : goal.superseded-requires
 superseded-requires c =
-    fits c.args.d c.args.a c.requires _ (found (goal.at.superseded-requires c).Then-slot-lt-LIVE) _ c.in_place_refusal-refusal.ensures (judged (goal.at.superseded-requires c).After-is_none _ c.if-is_none.true)
+    let d = c.args.d in
+    let a = c.args.a in
+    let i = c.in-Some.slot in
+    let e = position_some (names a) d.jobs i (sym c.slot_of.ensures ∙ c.in-Some.is) in
+    fits d a c.requires i e _ c.in_place_refusal-refusal.ensures (sym c.is_none.ensures ∙ c.if-is_none.true)
 
-pub returns-then-is_none : goal.returns-then-is_none
-returns-then-is_none c =
-    rw (c.none-none.ensures, c.superseded.ensures)
-    (supersedes_one c.args.d c.args.a c.requires _ (found (goal.at.returns-then-is_none c).Then-slot-lt-LIVE) _ c.in_place_refusal-refusal.ensures (judged (goal.at.returns-then-is_none c).After-is_none _ c.if-is_none.true))
-
-pub returns-else-is_none : goal.returns-else-is_none
-returns-else-is_none c =
-    rw c.none-none.ensures
-    (supersedes_not c.args.d c.args.a c.requires _ (found (goal.at.returns-else-is_none c).Then-slot-lt-LIVE) _ c.in_place_refusal-refusal.ensures (judged (goal.at.returns-else-is_none c).After-is_none _ c.if-is_none.false))
-
-pub returns-else-slot-lt-LIVE : goal.returns-else-slot-lt-LIVE
-returns-else-slot-lt-LIVE c =
-    rw c.none-none.ensures
-    (supersedes_none c.args.d c.args.a c.requires (slot_none c.args.d c.args.a c.requires _ c.slot_of-slot.ensures c.if-slot-lt-LIVE.false))
+pub returns : goal.returns
+returns c =
+    let d = c.args.d in
+    let a = c.args.a in
+    let i = c.in-Some.slot in
+    let r = c.in_place_refusal-refusal in
+    let e = position_some (names a) d.jobs i (sym c.slot_of.ensures ∙ c.in-Some.is) in
+    elim c.if-is_none.branch [
+      | then-is_none w ↦ rw (c.bare-2.ensures, w.e-is, w.superseded.ensures) (supersedes_one d a c.requires i e r.result r.ensures (sym c.is_none.ensures ∙ w.if-is_none.true))
+      | else-is_none w ↦ rw (c.bare-2.ensures, w.e-is) (supersedes_not d a c.requires i e r.result r.ensures (sym c.is_none.ensures ∙ w.if-is_none.false))
+    ]

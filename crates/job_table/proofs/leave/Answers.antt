@@ -2,11 +2,11 @@
 -- Assumes nothing.
 use native.Mathlib.Omega.{arith}
 use Prim.Native.Nat.{◌<◌}
-use mathlib.Core.Path.{◌≡◌, refl, sym, ap, ◌∙◌}
+use mathlib.Core.Path.{◌≡◌, refl, sym, ◌∙◌}
 use mathlib.Core.Option.{none, some}
 use borrow.Author.Rules.{rules}
 use Rattle.lists.specs.Loops.{position}
-use Rattle.lists.specs.Chains.{option_of, position_is}
+use Rattle.lists.specs.Chains.{position_some, position_none}
 use Rattle.scheduler.specs.declared.Refusal.TheVariants as refusal
 use Rattle.scheduler.specs.Jobs.{departs_as}
 use Rattle.scheduler.proofs.Lengths.{whole}
@@ -19,15 +19,15 @@ pub returns-in_default : goal.returns-in_default
 returns-in_default c =
     let a = c.args in
     let p = departs_as a.how a.ticket in
-    let e : position p a.d.jobs ≡ none = sym (position_is p a.d.jobs) ∙ ap option_of (sym c.slot_of.ensures ∙ c.in_default.is) in
-    rw (c.refused.ensures, c.not_there.ensures) (leaves_none a.d a.how a.ticket c.requires e)
+    let e : position p a.d.jobs ≡ none = position_none p a.d.jobs (sym c.slot_of.ensures ∙ c.in_default.is) in
+    rw (c.bare.ensures, c.not_there.ensures) (leaves_none a.d a.how a.ticket c.requires e)
 
 pub returns-then-is_early : goal.returns-then-is_early
 returns-then-is_early c =
     let a = c.args in
     let p = departs_as a.how a.ticket in
-    let e : position p a.d.jobs ≡ some c.in-Some.i = sym (position_is p a.d.jobs) ∙ ap option_of (sym c.slot_of.ensures ∙ c.in-Some.is) in
-    rw c.refused-then-is_early.ensures (leaves_early a.d a.how a.ticket c.requires c.in-Some.i e (sym c.is_early.ensures ∙ c.if-is_early.true))
+    let e : position p a.d.jobs ≡ some c.in-Some.i = position_some p a.d.jobs c.in-Some.i (sym c.slot_of.ensures ∙ c.in-Some.is) in
+    rw c.bare-then-is_early.ensures (leaves_early a.d a.how a.ticket c.requires c.in-Some.i e (sym c.is_early.ensures ∙ c.if-is_early.true))
 
 pub returns : goal.returns
 returns c =
@@ -35,7 +35,7 @@ returns c =
     let d = a.d in
     let i = c.in-Some.i in
     let p = departs_as a.how a.ticket in
-    let e : position p a.d.jobs ≡ some i = sym (position_is p a.d.jobs) ∙ ap option_of (sym c.slot_of.ensures ∙ c.in-Some.is) in
+    let e : position p a.d.jobs ≡ some i = position_some p a.d.jobs c.in-Some.i (sym c.slot_of.ensures ∙ c.in-Some.is) in
     let late = sym c.is_early.ensures ∙ c.if-is_early.false in
     let ran : c.eq.result ≡ ends? a.how = search rules in
     let low : i < 64 = omega (arith, inside d a.how a.ticket c.requires i e, c.requires.holds.few) in

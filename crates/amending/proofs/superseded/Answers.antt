@@ -1,7 +1,0 @@
--- `amending::superseded` meets its contract: field by field it is the definition's.
--- Assumes nothing.
-use mathlib.Core.Path.{refl}
-use Rattle.amending.proofs.superseded.Goals as goal
-
-pub returns : goal.returns
-returns c = refl
