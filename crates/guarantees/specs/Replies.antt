@@ -1,5 +1,5 @@
 -- An answer of the code loses nothing: for every call on a valid model, the answer says the call's reply. Places past a count say nothing, and a
--- head of 0 means none, since no ticket is 0. (`Call-fits` in TicketCounts.antt says that the lists have room for all tickets.)
+-- head of 0 means none, since no ticket is 0. (`call_fits` in TicketCounts.antt says that the lists have room for all tickets.)
 -- Assumes nothing.
 use Rattle.std.specs.Prelude.{◌≡◌, refl, List, ℕ, ◌≤◌}
 use Rattle.std.proofs.Math.Option.{Option, none, some}
