@@ -1,7 +1,6 @@
 -- `restoring::judge` meets its contract, by how the lines were read.
 -- Assumes nothing.
-use Rattle.std.specs.Prelude.{Err}
-use mathlib.Core.Path.{sym, ap, ◌∙◌}
+use mathlib.Core.Path.{sym, ◌∙◌}
 use Rattle.restoring.proofs.judge.Goals as goal
 
 pub returns-then-accepted : goal.returns-then-accepted
@@ -14,9 +13,9 @@ returns-else-accepted c =
 pub returns-in-Err-Unacceptable : goal.returns-in-Err-Unacceptable
 returns-in-Err-Unacceptable c =
     let arm = c.in-Err-Unacceptable in
-    rw (arm.is ∙ ap Err arm.field-0-is) c.refused-in-Err-Unacceptable.ensures
+    rw (arm.is, rw arm.is at arm.field-0-is) c.refused-in-Err-Unacceptable.ensures
 
 pub returns-in-Err-Malformed : goal.returns-in-Err-Malformed
 returns-in-Err-Malformed c =
     let arm = c.in-Err-Malformed in
-    rw (arm.is ∙ ap Err arm.field-0-is) c.refused-in-Err-Malformed.ensures
+    rw (arm.is, rw arm.is at arm.field-0-is) c.refused-in-Err-Malformed.ensures
