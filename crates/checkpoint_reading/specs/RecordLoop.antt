@@ -1,6 +1,6 @@
 -- The loop over the lines of a text: the records read so far stand in the slots, or what was read cannot be accepted.
 -- Assumes nothing.
-use Rattle.std.specs.Prelude.{◌≡◌, refl, Bool, true, false, List, [], ◌∷◌, ◌++◌, ◌⊎◌, ℕ, ◌+◌, ◌-◌, ◌≤◌, ◌<◌, length, set, take, drop}
+use Rattle.std.specs.Prelude.{◌≡◌, refl, Result, Ok, Err, Bool, true, false, List, [], ◌∷◌, ◌++◌, ◌⊎◌, ℕ, ◌+◌, ◌-◌, ◌≤◌, ◌<◌, length, set, take, drop}
 use Rattle.std.proofs.Common.{sym, ap, subst, ◌∙◌, inl, inr, arith, length-append, length-set}
 use Rattle.std.proofs.Math.Option.{Option, none, some}
 use Rattle.lists.specs.Lists.{In, here, in_left, in_right}
@@ -18,10 +18,8 @@ use Rattle.checkpoint_rules.specs.Texts.{job_in, job_of}
 use Rattle.desk_lines.specs.DeskLine.{closed_only}
 use Rattle.text.specs.declared.Line.{Line}
 use Rattle.text.specs.Lines.{line_at}
-use Rattle.checkpoint_reading.specs.declared.Given.{Given}
-use Rattle.checkpoint_reading.specs.declared.Given.TheVariants as given
-use Rattle.checkpoint_reading.specs.declared.Lines.{Lines}
-use Rattle.checkpoint_reading.specs.declared.Lines.TheVariants as lines
+use Rattle.checkpoint_reading.specs.declared.Fault.{Fault}
+use Rattle.checkpoint_reading.specs.declared.Fault.TheVariants as fault
 use Rattle.checkpoint_reading.specs.Meaning.{beyond, given_by}
 use Rattle.checkpoint_reading.specs.Records.{beyond_rejected, many_rejected, records_from, ReadTo, read_none, read_more, read_fails, read_all}
 
@@ -60,29 +58,29 @@ inv_none text from d l u = record {
 
 -- ## What a line gives
 
-given_record : (o : Option Job) (j : Job) → given.Record j ≡ given_by o → o ≡ some j
+given_record : (o : Option Job) (j : Job) → Ok j ≡ given_by o → o ≡ some j
 given_record none j e = absurd (let z : ◌≡◌ {A = ℕ} 0 1 = cc in omega arith)
 given_record (some k) j e =
     case (beyond k.nodes k.estimate k.least)
-    (λ b. absurd (let w : given.Record j ≡ given.Beyond = rw b at e in let z : ◌≡◌ {A = ℕ} 0 1 = cc in omega arith))
-    (λ b. let w : given.Record j ≡ given.Record k = rw b at e in let z : j ≡ k = cc in ap some (sym z))
+    (λ b. absurd (let w : Ok j ≡ (Err fault.Unacceptable) = rw b at e in let z : ◌≡◌ {A = ℕ} 0 1 = cc in omega arith))
+    (λ b. let w : Ok j ≡ Ok k = rw b at e in let z : j ≡ k = cc in ap some (sym z))
 
-given_beyond : (o : Option Job) → given.Beyond ≡ given_by o → (j : Job) × (o ≡ some j) × (beyond j.nodes j.estimate j.least ≡ true)
+given_beyond : (o : Option Job) → Err fault.Unacceptable ≡ given_by o → (j : Job) × (o ≡ some j) × (beyond j.nodes j.estimate j.least ≡ true)
 given_beyond none e = absurd (let z : ◌≡◌ {A = ℕ} 0 1 = cc in omega arith)
 given_beyond (some k) e =
     case (beyond k.nodes k.estimate k.least)
     (λ b. (k, refl, b))
-    (λ b. absurd (let w : given.Beyond ≡ given.Record k = rw b at e in let z : ◌≡◌ {A = ℕ} 0 1 = cc in omega arith))
+    (λ b. absurd (let w : Err fault.Unacceptable ≡ Ok k = rw b at e in let z : ◌≡◌ {A = ℕ} 0 1 = cc in omega arith))
 
-given_malformed : (o : Option Job) → given.Malformed ≡ given_by o → o ≡ none
+given_malformed : (o : Option Job) → Err fault.Malformed ≡ given_by o → o ≡ none
 given_malformed none e = refl
 given_malformed (some k) e =
     case (beyond k.nodes k.estimate k.least)
-    (λ b. absurd (let w : given.Malformed ≡ given.Beyond = rw b at e in let z : ◌≡◌ {A = ℕ} 0 1 = cc in omega arith))
-    (λ b. absurd (let w : given.Malformed ≡ given.Record k = rw b at e in let z : ◌≡◌ {A = ℕ} 0 1 = cc in omega arith))
+    (λ b. absurd (let w : Err fault.Malformed ≡ (Err fault.Unacceptable) = rw b at e in let z : ◌≡◌ {A = ℕ} 0 1 = cc in omega arith))
+    (λ b. absurd (let w : Err fault.Malformed ≡ Ok k = rw b at e in let z : ◌≡◌ {A = ℕ} 0 1 = cc in omega arith))
 
 module _ (text : List ℕ) (at : ℕ) {l : Line} (e : l ≡ line_at text at) where
-  pub line_said : {g : Given} → l.closed ≡ true → g ≡ given_by (job_in (take (l.end - at) (drop at text))) → g ≡ given_by (job_of (line_of text at))
+  pub line_said : {g : Result Job Fault} → l.closed ≡ true → g ≡ given_by (job_in (take (l.end - at) (drop at text))) → g ≡ given_by (job_of (line_of text at))
   line_said {g} c q =
       q ∙ ap (λ (x : Line). given_by (job_in (take (x.end - at) (drop at text)))) e
       ∙ ap (λ (b : Bool). given_by (closed_only b (job_in (line_of text at).bytes))) (sym (ap (λ (x : Line). x.closed) (sym e) ∙ c))
@@ -134,19 +132,19 @@ module _ {text : List ℕ} {from : ℕ} {d e' : Scheduler} {count : ℕ} {bad : 
   next_beyond j q b = bad_now j q (inl (j, in_right v.jobs (here refl), b))
 
   module _ {x : Line} (e : x ≡ line_at text at) (c : x.closed ≡ true) where
-    pub step_record : {j : Job} → given.Record j ≡ given_by (job_in (take (x.end - at) (drop at text))) → count < 64
+    pub step_record : {j : Job} → Ok j ≡ given_by (job_in (take (x.end - at) (drop at text))) → count < 64
         → Inv text from d (with_jobs e' (set e'.jobs count j)) (count + 1) bad (x.end + 1)
     step_record {j} q k = subst (Inv text from d (with_jobs e' (set e'.jobs count j)) (count + 1) bad) (past_said text at e c) (next_record j (given_record (job_of (line_of text at)) j (line_said text at e c q)) k)
 
-    pub step_full : {j : Job} → given.Record j ≡ given_by (job_in (take (x.end - at) (drop at text))) → 64 ≤ count → Inv text from d e' count true (x.end + 1)
+    pub step_full : {j : Job} → Ok j ≡ given_by (job_in (take (x.end - at) (drop at text))) → 64 ≤ count → Inv text from d e' count true (x.end + 1)
     step_full {j} q k = subst (Inv text from d e' count true) (past_said text at e c) (next_full j (given_record (job_of (line_of text at)) j (line_said text at e c q)) k)
 
-    pub step_beyond : given.Beyond ≡ given_by (job_in (take (x.end - at) (drop at text))) → Inv text from d e' count true (x.end + 1)
+    pub step_beyond : Err fault.Unacceptable ≡ given_by (job_in (take (x.end - at) (drop at text))) → Inv text from d e' count true (x.end + 1)
     step_beyond q =
         let r = given_beyond (job_of (line_of text at)) (line_said text at e c q) in
         subst (Inv text from d e' count true) (past_said text at e c) (next_beyond r.0 r.1 r.2)
 
-    pub step_fails : given.Malformed ≡ given_by (job_in (take (x.end - at) (drop at text))) → records_from text from ≡ none
+    pub step_fails : Err fault.Malformed ≡ given_by (job_in (take (x.end - at) (drop at text))) → records_from text from ≡ none
     step_fails q = read_fails text from at v.jobs v.read l (given_malformed (job_of (line_of text at)) (line_said text at e c q))
 
   pub next_fails : job_of (line_of text at) ≡ none → records_from text from ≡ none
@@ -167,7 +165,7 @@ module _ {text : List ℕ} {from : ℕ} {d e : Scheduler} {count at : ℕ} (l : 
       go (spoilt b) = (v.jobs, read_all text from at v.jobs v.read l, b)
 
 -- what a reader of all records says
-abbrev pub Told : List ℕ → (from : ℕ) → Scheduler → Lines → Scheduler → Type 0
-Told text from d lines.Kept e = (js : List Job) × (records_from text from ≡ some js) × (e ≡ with_jobs d (pad 64 unused js)) × (length js ≤ 64)
-Told text from d lines.Bad e = (js : List Job) × (records_from text from ≡ some js) × Bad js
-Told text from d lines.Malformed e = records_from text from ≡ none
+abbrev pub Told : List ℕ → (from : ℕ) → Scheduler → Result Scheduler Fault → Type 0
+Told text from d (Ok e) = (js : List Job) × (records_from text from ≡ some js) × (e ≡ with_jobs d (pad 64 unused js)) × (length js ≤ 64)
+Told text from d (Err fault.Unacceptable) = (js : List Job) × (records_from text from ≡ some js) × Bad js
+Told text from d (Err fault.Malformed) = records_from text from ≡ none

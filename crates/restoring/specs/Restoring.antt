@@ -1,6 +1,6 @@
 -- What a reading hands back, as a value of the code.
 -- Assumes nothing.
-use Rattle.std.specs.Prelude.{◌≡◌, cond, ℕ, ◌+◌, ◌-◌, ◌<◌, ltb, length, take, drop}
+use Rattle.std.specs.Prelude.{◌≡◌, Result, Ok, Err, cond, ℕ, ◌+◌, ◌-◌, ◌<◌, ltb, length, take, drop}
 use Rattle.std.proofs.Math.Path.{sym, ap}
 use Rattle.std.proofs.Common.{◌∙◌, ltb-true, ltb-false}
 use Rattle.std.proofs.Math.Bool.{true, false}
@@ -30,9 +30,8 @@ use Rattle.checkpoint_rules.specs.Texts.{Restored, not_restored, restored_from, 
 use Rattle.checkpoint_laws.specs.Restored.{only_some, jobs_live}
 use Rattle.checkpoint_reading.specs.Records.{records_from}
 use Rattle.checkpoint_reading.specs.RecordLoop.{Told, bad_rejected}
-use Rattle.checkpoint_reading.specs.declared.Lines.{Lines}
-use Rattle.checkpoint_reading.specs.declared.Lines.TheVariants as lines
-use Rattle.checkpoint_reading.specs.declared.Records.{Records}
+use Rattle.checkpoint_reading.specs.declared.Fault.{Fault}
+use Rattle.checkpoint_reading.specs.declared.Fault.TheVariants as fault
 
 abbrev pub handed_back : Restored → Opened
 handed_back r = record { refusal = r.refusal; scheduler = store r.model }
@@ -42,13 +41,13 @@ abbrev pub restoring : List ℕ → Opened
 restoring t = handed_back (restored t)
 
 -- what lines give that were read so
-abbrev pub judged : Lines → Scheduler → Opened
-judged lines.Kept d = cond (accepted (view d)) (record { refusal = refusal.None; scheduler = d }) (handed_back (not_restored refusal.TextRejected))
-judged lines.Bad d = handed_back (not_restored refusal.TextRejected)
-judged lines.Malformed d = handed_back (not_restored refusal.TextMalformed)
+abbrev pub judged : Result Scheduler Fault → Opened
+judged (Ok d) = cond (accepted (view d)) (record { refusal = refusal.None; scheduler = d }) (handed_back (not_restored refusal.TextRejected))
+judged (Err fault.Unacceptable) = handed_back (not_restored refusal.TextRejected)
+judged (Err fault.Malformed) = handed_back (not_restored refusal.TextMalformed)
 
-abbrev pub Judged : Records → Opened → Type 0
-Judged r o = o ≡ judged r.lines r.scheduler
+abbrev pub Judged : Result Scheduler Fault → Opened → Type 0
+Judged r o = o ≡ judged r
 
 -- ## What was read, judged
 
@@ -70,19 +69,19 @@ module _ (text : List ℕ) (from : ℕ) (o : Opening) where
       let s : e ≡ store (model_with o js) = q ∙ ap (λ (x : Scheduler). with_jobs x (pad 64 unused js)) p in
       (s, ap view s ∙ view_store (model_with o js) (only_some (jobs_live (lines_of (drop from text))) r))
 
-  taken_or_not : (m : Model) (e : Scheduler) → e ≡ store m → view e ≡ m → judged lines.Kept e ≡ handed_back (restored_from (some m))
+  taken_or_not : (m : Model) (e : Scheduler) → e ≡ store m → view e ≡ m → judged (Ok e) ≡ handed_back (restored_from (some m))
   taken_or_not m e s v =
       case (accepted m)
       (λ a. rw (v, a) (ap (λ (x : Scheduler). record { refusal = refusal.None; scheduler = x }) s))
       (λ a. rw (v, a))
 
-  pub judged_is : (l : Lines) (d e : Scheduler) → d ≡ store (empty o.settings o.minute o.ticket) → Told text from d l e
-      → judged l e ≡ handed_back (restored_from given)
-  judged_is lines.Kept d e p (js, r, q, few) =
+  pub judged_is : (r : Result Scheduler Fault) (d : Scheduler) → d ≡ store (empty o.settings o.minute o.ticket) → Told text from d r
+      → judged r ≡ handed_back (restored_from given)
+  judged_is (Ok e) d p (js, r, q, few) =
       let h = held js d e r p q in
       rw r (taken_or_not (model_with o js) e h.0 h.1)
-  judged_is lines.Bad d e p (js, r, b) = rw (r, bad_rejected (model_with o js) b)
-  judged_is lines.Malformed d e p r = rw r
+  judged_is (Err fault.Unacceptable) d p (js, r, b) = rw (r, bad_rejected (model_with o js) b)
+  judged_is (Err fault.Malformed) d p r = rw r
 
 -- ## The first line
 

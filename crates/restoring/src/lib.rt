@@ -8,7 +8,7 @@ ghost use Rattle.script_reading.specs.Meaning.{opens};
 ghost use Rattle.checkpoint_reading.specs.Records.{records_from};
 ghost use Rattle.restoring.specs.Restoring.{handed_back, restoring, Judged};
 
-use checkpoint_reading::{Lines, Records};
+use checkpoint_reading::Fault;
 use scheduler::{Kind, Opened, Opening, Refusal, Scheduler, Settings};
 
 // What a refused reading hands back: why it is refused, and an empty scheduler of the conservative kind, as a refused opening does.
@@ -22,13 +22,11 @@ fn refused(why: Refusal) -> Opened
 }
 
 // What the records give, once all lines are read.
-fn judge(records: Records) -> Opened
-    ensures { Judged records result }
+fn judge(read: Result<Scheduler, Fault>) -> Opened
+    ensures { Judged read result }
 {
-    let lines = records.lines;
-    match lines {
-        Lines::Kept => {
-            let d = records.scheduler;
+    match read {
+        Ok(d) => {
             if acceptance::accepted(d) {
                 return Opened {
                     refusal: Refusal::None,
@@ -37,8 +35,8 @@ fn judge(records: Records) -> Opened
             }
             refused(Refusal::TextRejected)
         }
-        Lines::Bad => refused(Refusal::TextRejected),
-        Lines::Malformed => refused(Refusal::TextMalformed),
+        Err(Fault::Unacceptable) => refused(Refusal::TextRejected),
+        Err(Fault::Malformed) => refused(Refusal::TextMalformed),
     }
 }
 
@@ -49,8 +47,7 @@ fn restore_after(first: Option<Opening>, text: &[u8], from: usize) -> Opened
 {
     match first {
         Some(o) => {
-            let settings = o.settings;
-            let d = Scheduler::empty(settings, o.minute, o.ticket);
+            let d = Scheduler::empty(o.settings, o.minute, o.ticket);
             judge(checkpoint_reading::read_records(text, from, d))
         }
         None => refused(Refusal::TextMalformed),

@@ -7,14 +7,14 @@ use Rattle.checkpoint_rules.specs.Texts.{state_of, job_in}
 use Rattle.checkpoint_reading.specs.Meaning.{state_from, given_by, record_said}
 use Rattle.checkpoint_reading.proofs.read_job.Goals as goal
 
-pub returns-then-count-ne12 : goal.returns-then-count-ne12
+pub returns-then-field_count-ne12 : goal.returns-then-field_count-ne12
 unfolding job_in
-returns-then-count-ne12 c = rw (ne_eqb _ 12 (λ z. c.if-count-ne12.true (c.field_count-count.ensures ∙ z)))
+returns-then-field_count-ne12 c = rw (ne_eqb _ 12 (λ z. c.if-field_count-ne12.true (c.field_count.ensures ∙ z)))
 
 pub returns : goal.returns
 returns c =
-    c.record.ensures
+    c.«record».ensures
     ∙ ap given_by (record_said c.args.line.now c.field_numbers-first.ensures
-    (c.read_state-state.ensures ∙ ap (λ x. state_from (state_of x)) c.field-word.ensures)
-    c.field_numbers-times.ensures (c.capital-house.ensures ∙ ap capital_of c.field-letter.ensures) c.field_numbers-kept.ensures
-    (sym c.field_count-count.ensures ∙ c.if-count-ne12.false))
+    (c.read_state-state.ensures ∙ ap (λ x. state_from (state_of x)) c.field.ensures)
+    c.field_numbers-times.ensures (c.capital-house.ensures ∙ ap capital_of c.field-2.ensures) c.field_numbers-kept.ensures
+    (sym c.field_count.ensures ∙ c.if-field_count-ne12.false))

@@ -9,8 +9,7 @@ read_records-requires c = (c.requires, empty_slots _ _ _ _ c.empty-d.ensures)
 
 pub returns-in-Some : goal.returns-in-Some
 returns-in-Some c =
-    let x = c.read_records.result in
-    rw c.in-Some.is (c.judge.ensures ∙ judged_is c.args.text.now c.args.from _ x.lines _ x.scheduler c.empty-d.ensures c.read_records.ensures)
+    rw c.in-Some.is (c.judge.ensures ∙ judged_is c.args.text.now c.args.from _ _ _ c.empty-d.ensures c.read_records.ensures)
 
 pub returns-in-None : goal.returns-in-None
 returns-in-None c = rw c.in-None.is c.refused.ensures
