@@ -2,3 +2,4 @@ pub mod CallColumns
 pub mod BegunColumns
 pub mod CallsByKind
 pub mod DueColumns
+pub mod Held

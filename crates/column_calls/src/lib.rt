@@ -12,10 +12,13 @@ ghost use Rattle.job_columns.specs.Columns.{Column, Whole};
 ghost use Rattle.job_columns.specs.JobColumns.{due_of};
 ghost use Rattle.guarantees.specs.Rules as rules;
 ghost use Rattle.guarantees.specs.Premise.{Premise};
-ghost use Rattle.column_calls.specs.CallColumns.{KindColumns, Unwritten, Lent, Gives};
+ghost use Rattle.column_calls.specs.Held.{KindIn, UnwrittenIn, LentIn, GivesIn};
 ghost use Rattle.column_calls.specs.DueColumns.{BeforeDue, AllQuiet};
 
 use column_parts::Told;
+use conservative_columns::{Profile, Promised};
+use easy_columns::{Occupancy, Queue};
+use job_columns::Columns;
 use scheduler::{Kind, Request, Scheduler, Settings};
 
 // How many jobs are live, how many points the profile has, how many jobs hold nodes, and the nodes that are free.
@@ -27,52 +30,59 @@ pub struct Counts {
     pub spare: u32,
 }
 
+// The lists that are kept from call to call: the columns of both kinds, and what either kind keeps besides.
+#[derive(Drop)]
+pub struct Lists {
+    pub columns: Columns,
+    pub promised: Promised,
+    pub profile: Profile,
+    pub queue: Queue,
+    pub occupancy: Occupancy,
+}
+
 // The columns of a scheduler.
-pub fn begin(
-    d: Scheduler,
-    tickets: &mut [u32; 64],
-    nodes: &mut [u32; 64],
-    states: &mut [u32; 64],
-    dues: &mut [u32; 64],
-    starts: &mut [u32; 64],
-    tenants: &mut [u32; 64],
-    estimates: &mut [u32; 64],
-    leasts: &mut [u32; 64],
-    holds: &mut [u32; 64],
-    promises: &mut [u32; 64],
-    asked: &mut [u32; 64],
-    submitted: &mut [u32; 64],
-    ranks: &mut [u32; 64],
-    forecasts: &mut [u32; 64],
-    held: &mut [u32; 64],
-    ends: &mut [u32; 64],
-    holders: &mut [u32; 64],
-    minutes: &mut [u32; 131],
-    free: &mut [u32; 131],
-    low: &mut [u32; 9],
-    high: &mut [u32; 9],
-) -> Counts
-    requires { Premise d × Unwritten tickets.old nodes.old states.old dues.old starts.old tenants.old estimates.old leasts.old holds.old promises.old asked.old submitted.old ranks.old forecasts.old held.old ends.old holders.old minutes.old free.old low.old high.old }
-    ensures { KindColumns (view d) tickets.new nodes.new states.new dues.new starts.new tenants.new estimates.new leasts.new holds.new promises.new asked.new submitted.new ranks.new forecasts.new held.new ends.new holders.new minutes.new free.new low.new high.new result.live result.count result.holding result.spare }
+pub fn begin(d: Scheduler, lists: &mut Lists) -> Counts
+    requires { Premise d × UnwrittenIn lists.old }
+    ensures { KindIn (view d) lists.new result }
 {
     let settings = d.settings;
     let live = job_columns::spread(
-        d, tickets, nodes, states, dues, starts, tenants, estimates, leasts, promises, submitted,
-        ranks, forecasts,
+        d,
+        &mut lists.columns,
+        &mut lists.promised.promises,
+        &mut lists.queue.submitted,
+        &mut lists.queue.ranks,
+        &mut lists.queue.forecasts,
     );
     match settings.kind {
         Kind::Conservative => {
-            conservative_columns::begin(estimates, live, holds, settings);
+            conservative_columns::begin(
+                &lists.columns.estimates,
+                live,
+                &mut lists.promised.holds,
+                settings,
+            );
+            let profile = &mut lists.profile;
             Counts {
                 live,
-                count: kept_calls::begin(d, minutes, free, low, high),
+                count: kept_calls::begin(
+                    d,
+                    &mut profile.minutes,
+                    &mut profile.free,
+                    &mut profile.low,
+                    &mut profile.high,
+                ),
                 holding: 0,
                 spare: 0,
             }
         }
         Kind::Easy => {
             let taken = easy_columns::begin(
-                tickets, nodes, states, dues, asked, held, ends, holders, live, settings,
+                &lists.columns,
+                &mut lists.queue.asked,
+                &mut lists.occupancy,
+                live,
+                settings,
             );
             Counts {
                 live,
@@ -86,75 +96,54 @@ pub fn begin(
 
 // The call that the request asks for, by the kind's rules.
 pub fn call(
-    tickets: &mut [u32; 64],
-    nodes: &mut [u32; 64],
-    states: &mut [u32; 64],
-    dues: &mut [u32; 64],
-    starts: &mut [u32; 64],
-    tenants: &mut [u32; 64],
-    estimates: &mut [u32; 64],
-    leasts: &mut [u32; 64],
-    holds: &mut [u32; 64],
-    promises: &mut [u32; 64],
-    asked: &mut [u32; 64],
-    submitted: &mut [u32; 64],
-    ranks: &mut [u32; 64],
-    forecasts: &mut [u32; 64],
-    held: &mut [u32; 64],
-    ends: &mut [u32; 64],
-    holders: &mut [u32; 64],
-    minutes: &mut [u32; 131],
-    free: &mut [u32; 131],
-    low: &mut [u32; 9],
-    high: &mut [u32; 9],
+    lists: &mut Lists,
     ended: &mut [u32; 64],
     gone: &mut [u32; 64],
     started: &mut [u32; 64],
     settings: Settings,
     clock: u32,
     next: u32,
-    live: usize,
-    count: usize,
-    holding: usize,
-    spare: u32,
+    counts: Counts,
     request: Request,
 ) -> Told
-    requires { Lent settings clock next tickets.old nodes.old states.old dues.old starts.old tenants.old estimates.old leasts.old holds.old promises.old asked.old submitted.old ranks.old forecasts.old held.old ends.old holders.old minutes.old free.old low.old high.old live count holding spare × Whole ended.old × Whole gone.old × Whole started.old }
-    ensures { (k : Lent settings clock next tickets.old nodes.old states.old dues.old starts.old tenants.old estimates.old leasts.old holds.old promises.old asked.old submitted.old ranks.old forecasts.old held.old ends.old holders.old minutes.old free.old low.old high.old live count holding spare)
-        → Gives (rules.call (view k.scheduler) (calls.asked request)) result ended.new started.new tickets.new nodes.new states.new dues.new starts.new tenants.new estimates.new leasts.new holds.new promises.new asked.new submitted.new ranks.new forecasts.new held.new ends.new holders.new minutes.new free.new low.new high.new
-        × Whole gone.new }
+    requires { LentIn settings clock next lists.old counts × Whole ended.old × Whole gone.old × Whole started.old }
+    ensures { (k : LentIn settings clock next lists.old counts)
+        → GivesIn (rules.call (view k.scheduler) (calls.asked request)) result ended.new started.new lists.new × Whole gone.new }
 {
+    let columns = &mut lists.columns;
+    let promised = &mut lists.promised;
+    let profile = &mut lists.profile;
+    let queue = &mut lists.queue;
+    let occupancy = &mut lists.occupancy;
+    let live = counts.live;
+    let count = counts.count;
+    let holding = counts.holding;
+    let spare = counts.spare;
     match settings.kind {
         Kind::Conservative => match request {
             Request::Submit(s) => conservative_columns::submit(
-                tickets, nodes, states, dues, starts, tenants, estimates, leasts, holds, promises,
-                minutes, free, low, high, count, started, settings, clock, next, live, s,
+                columns, promised, profile, count, started, settings, clock, next, live, s,
             ),
             Request::Depart(how, ticket) => conservative_columns::depart(
-                tickets, nodes, states, dues, starts, tenants, estimates, leasts, holds, promises,
-                minutes, free, low, high, count, ended, gone, started, settings, clock, next, live,
-                how, ticket,
+                columns, promised, profile, count, ended, gone, started, settings, clock, next,
+                live, how, ticket,
             ),
             Request::Tick => conservative_columns::tick(
-                tickets, nodes, states, dues, starts, tenants, estimates, leasts, holds, promises,
-                minutes, free, low, high, count, ended, gone, started, settings, clock, next, live,
+                columns, promised, profile, count, ended, gone, started, settings, clock, next,
+                live,
             ),
         },
         Kind::Easy => match request {
             Request::Submit(s) => easy_columns::submit(
-                tickets, nodes, states, dues, starts, tenants, estimates, leasts, asked, submitted,
-                ranks, forecasts, held, ends, holders, started, live, holding, spare, clock, next,
-                settings, s,
+                columns, queue, occupancy, started, live, holding, spare, clock, next, settings, s,
             ),
             Request::Depart(how, ticket) => easy_columns::depart(
-                tickets, nodes, states, dues, starts, tenants, estimates, leasts, asked, submitted,
-                ranks, forecasts, held, ends, holders, ended, gone, started, live, holding, spare,
-                clock, next, settings, how, ticket,
+                columns, queue, occupancy, ended, gone, started, live, holding, spare, clock, next,
+                settings, how, ticket,
             ),
             Request::Tick => easy_columns::tick(
-                tickets, nodes, states, dues, starts, tenants, estimates, leasts, asked, submitted,
-                ranks, forecasts, held, ends, holders, ended, gone, started, live, holding, spare,
-                clock, next, settings,
+                columns, queue, occupancy, ended, gone, started, live, holding, spare, clock, next,
+                settings,
             ),
         },
     }
@@ -175,10 +164,10 @@ pub fn before_due(due: u32, clock: u32, last: u32) -> u32
 }
 
 // The minute up to which nothing is due for any live job.
-pub fn quiet_until(dues: &[u32; 64], live: usize, clock: u32, last: u32) -> u32
+pub fn quiet_until(columns: &Columns, live: usize, clock: u32, last: u32) -> u32
     requires { (live ≤ slots) × (clock ≤ last) }
     ensures { (clock ≤ result) × (result ≤ last)
-        × ((S : Settings) (js : List Job) → Column (due_of S) js dues.now → length js ≡ live → AllQuiet S js clock result) }
+        × ((S : Settings) (js : List Job) → Column (due_of S) js columns.now.dues → length js ≡ live → AllQuiet S js clock result) }
 {
-    before_due(job_columns::next_due(dues, live), clock, last)
+    before_due(columns.next_due(live), clock, last)
 }

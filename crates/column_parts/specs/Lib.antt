@@ -5,3 +5,4 @@ pub mod Sweep
 pub mod Departures
 pub mod LeavingColumns
 pub mod SweptColumns
+pub mod Held

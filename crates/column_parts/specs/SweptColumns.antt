@@ -213,10 +213,10 @@ module _ {m : Model} (v : Sound m) {ended gone tickets nodes states dues starts 
         ended_more = rw ticket_there (listed_more ended d.ended next.ticket w.ended_whole w.ended_low)
 
         -- and it is in cleanup
-        pub sweeping_cleans : {states' dues' : List ℕ} → 0 < cleanup S
-            → JobColumns S (set (swept S now s js i) d.at (cleaning now (get_or (swept S now s js i) d.at unused))) tickets nodes states' dues' starts tenants
-            estimates leasts d.live
-            → Sweeping m (set ended d.ended (get_or tickets d.at 0)) gone tickets nodes states' dues' starts tenants estimates leasts
+        pub sweeping_cleans : {tickets' nodes' states' dues' starts' tenants' estimates' leasts' : List ℕ} → 0 < cleanup S
+            → JobColumns S (set (swept S now s js i) d.at (cleaning now (get_or (swept S now s js i) d.at unused))) tickets' nodes' states' dues' starts'
+            tenants' estimates' leasts' d.live
+            → Sweeping m (set ended d.ended (get_or tickets d.at 0)) gone tickets' nodes' states' dues' starts' tenants' estimates' leasts'
             (record { at = d.at + 1; live = d.live; ended = d.ended + 1; gone = d.gone; starting = d.starting })
         sweeping_cleans p c =
             let stays : leaves S s next ≡ false = tick_cleans S now next over (lt-ltb 0 (cleanup S) p) in

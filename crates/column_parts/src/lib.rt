@@ -14,13 +14,14 @@ ghost use Rattle.job_table.specs.Parts.{ends?, withdrawn_by};
 ghost use Rattle.job_table.specs.Submitting.{Tells};
 ghost use Rattle.job_columns.specs.Columns.{Column, Whole};
 ghost use Rattle.job_columns.specs.Removal.{remove_at};
-ghost use Rattle.job_columns.specs.JobColumns.{tenant_of, JobColumns};
-ghost use Rattle.column_parts.specs.ColumnParts.{SoundColumns, Leaves, MinuteColumns, Expires};
+ghost use Rattle.job_columns.specs.JobColumns.{tenant_of};
+ghost use Rattle.job_columns.specs.Held.{ColumnsOf};
 ghost use Rattle.column_parts.specs.Departures.{leaves_from, early_by, refusal_at, cleans_by};
 ghost use Rattle.column_parts.specs.LeavingColumns.{refused_left, Leavable};
-ghost use Rattle.column_parts.specs.SweptColumns.{DueColumns, Sweeping};
+ghost use Rattle.column_parts.specs.Held.{SoundIn, LeavesIn, MinuteIn, ExpiresIn, DueIn, SweepingIn};
 ghost use Rattle.column_parts.specs.ToldReply.{refused_told};
 
+use job_columns::Columns;
 use scheduler::{Departure, Refusal, Settings, Tenant};
 
 // What a call answers in numbers, with the clock, the next ticket and the counts of the lists after it: live jobs, points of the profile, jobs
@@ -85,14 +86,14 @@ impl Told {
 }
 
 // The tenant's live jobs, by which its lack of places is judged: none need be counted where all live jobs are fewer than its places.
-pub fn live_of(tenants: &[u32; 64], live: usize, tenant: Tenant, places: u32) -> usize
+pub fn live_of(columns: &Columns, live: usize, tenant: Tenant, places: u32) -> usize
     requires { live ≤ slots }
-    ensures { (js : List Job) → Column tenant_of js tenants.now → length js ≡ live → Tells places (live_of tenant js) result }
+    ensures { (js : List Job) → Column tenant_of js columns.now.tenants → length js ≡ live → Tells places (live_of tenant js) result }
 {
     if (live as u32) < places {
         return 0;
     }
-    job_columns::of_tenant(tenants, live, tenant)
+    columns.of_tenant(live, tenant)
 }
 
 // What a departure has done: why it is refused, how many jobs are live then, how many tickets stand in the list of those ended, and the one
@@ -150,30 +151,12 @@ fn depart_refusal(how: Departure, state: u32, start: u32, least: u32, clock: u32
 }
 
 // The job in this place leaves the columns, and its place is listed.
-fn take_out(
-    tickets: &mut [u32; 64],
-    nodes: &mut [u32; 64],
-    states: &mut [u32; 64],
-    dues: &mut [u32; 64],
-    starts: &mut [u32; 64],
-    tenants: &mut [u32; 64],
-    estimates: &mut [u32; 64],
-    leasts: &mut [u32; 64],
-    gone: &mut [u32; 64],
-    count: usize,
-    live: usize,
-    at: usize,
-)
+fn take_out(columns: &mut Columns, gone: &mut [u32; 64], count: usize, live: usize, at: usize)
     requires { (at < live) × (live ≤ slots) × (count < slots) }
-    ensures columns { (S : Settings) (js : List Job) → JobColumns S js tickets.old nodes.old states.old dues.old
-        starts.old tenants.old estimates.old leasts.old live
-        → JobColumns S (remove_at at js) tickets.new nodes.new states.new dues.new starts.new
-        tenants.new estimates.new leasts.new (live - 1) }
+    ensures left { (S : Settings) (js : List Job) → ColumnsOf S js columns.old live → ColumnsOf S (remove_at at js) columns.new (live - 1) }
     ensures listed { gone.new ≡ set gone.old count at }
 {
-    job_columns::remove(
-        tickets, nodes, states, dues, starts, tenants, estimates, leasts, live, at,
-    );
+    columns.remove(live, at);
     gone[count] = at as u32;
 }
 
@@ -209,8 +192,7 @@ fn withdrawn(how: Departure, ticket: u32) -> u32
 
 // The run of the job in this place is over, and it is in cleanup.
 fn stay(
-    states: &mut [u32; 64],
-    dues: &mut [u32; 64],
+    columns: &mut Columns,
     ended: &mut [u32; 64],
     live: usize,
     at: usize,
@@ -219,14 +201,12 @@ fn stay(
     cleanup: u32,
 ) -> Left
     requires { (at < live) × (live ≤ slots) × (clock ≤ horizon) × (cleanup ≤ longest_cleanup) × Whole ended.old }
-    ensures { (S : Settings) (h : Departure) (gone tickets nodes starts tenants estimates leasts : List ℕ)
-        (k : SoundColumns S clock tickets nodes states.old dues.old starts tenants estimates leasts live)
+    ensures { (S : Settings) (h : Departure) (gone : List ℕ) (k : SoundIn S clock columns.old live)
         → Leavable k.model h ticket at → cleanup ≡ cleanupOf S → cleans_by h cleanup ≡ true → Whole gone
-        → Leaves k.model h ticket live result ended.new gone tickets nodes states.new dues.new starts tenants estimates
-        leasts }
+        → LeavesIn k.model h ticket live result ended.new gone columns.new }
 {
     ended[0] = ticket;
-    job_columns::clean(states, dues, at, clock, cleanup);
+    columns.clean(at, clock, cleanup);
     Left {
         refusal: Refusal::None,
         live,
@@ -237,14 +217,7 @@ fn stay(
 
 // The job in this place leaves it, and those after it move up. (One call of `take_out` for both ways: with two, compiled code calls `shift`.)
 fn go(
-    tickets: &mut [u32; 64],
-    nodes: &mut [u32; 64],
-    states: &mut [u32; 64],
-    dues: &mut [u32; 64],
-    starts: &mut [u32; 64],
-    tenants: &mut [u32; 64],
-    estimates: &mut [u32; 64],
-    leasts: &mut [u32; 64],
+    columns: &mut Columns,
     ended: &mut [u32; 64],
     gone: &mut [u32; 64],
     live: usize,
@@ -253,16 +226,12 @@ fn go(
     ticket: u32,
 ) -> Left
     requires { (at < live) × (live ≤ slots) × Whole ended.old × Whole gone.old }
-    ensures { (S : Settings) (clock : ℕ) (k : SoundColumns S clock tickets.old nodes.old states.old dues.old
-        starts.old tenants.old estimates.old leasts.old live)
+    ensures { (S : Settings) (clock : ℕ) (k : SoundIn S clock columns.old live)
         → Leavable k.model how ticket at → cleans_by how (cleanupOf S) ≡ false
-        → Leaves k.model how ticket live result ended.new gone.new tickets.new nodes.new states.new
-        dues.new starts.new tenants.new estimates.new leasts.new }
+        → LeavesIn k.model how ticket live result ended.new gone.new columns.new }
 {
     ended[0] = ticket;
-    take_out(
-        tickets, nodes, states, dues, starts, tenants, estimates, leasts, gone, 0, live, at,
-    );
+    take_out(columns, gone, 0, live, at);
     Left {
         refusal: Refusal::None,
         live: live - 1,
@@ -284,14 +253,7 @@ fn refused(why: Refusal, live: usize) -> Left
 
 // An early completion or a withdrawal: the job leaves its place, and those after it move up; or it stays there in cleanup.
 pub fn leave(
-    tickets: &mut [u32; 64],
-    nodes: &mut [u32; 64],
-    states: &mut [u32; 64],
-    dues: &mut [u32; 64],
-    starts: &mut [u32; 64],
-    tenants: &mut [u32; 64],
-    estimates: &mut [u32; 64],
-    leasts: &mut [u32; 64],
+    columns: &mut Columns,
     ended: &mut [u32; 64],
     gone: &mut [u32; 64],
     live: usize,
@@ -300,29 +262,28 @@ pub fn leave(
     clock: u32,
     settings: Settings,
 ) -> Left
-    requires { SoundColumns settings clock tickets.old nodes.old states.old dues.old starts.old tenants.old estimates.old
-        leasts.old live × Whole ended.old × Whole gone.old }
-    ensures { (k : SoundColumns settings clock tickets.old nodes.old states.old dues.old
-        starts.old tenants.old estimates.old leasts.old live)
-        → Leaves k.model how ticket live result ended.new gone.new tickets.new nodes.new states.new
-        dues.new starts.new tenants.new estimates.new leasts.new }
+    requires { SoundIn settings clock columns.old live × Whole ended.old × Whole gone.old }
+    ensures { (k : SoundIn settings clock columns.old live) → LeavesIn k.model how ticket live result ended.new gone.new columns.new }
 {
-    let at = job_columns::find(tickets, live, ticket);
+    let at = columns.find(live, ticket);
     if live <= at {
         return refused(not_there(how), live);
     }
-    let why = depart_refusal(how, states[at], starts[at], leasts[at], clock);
+    let why = depart_refusal(
+        how,
+        columns.states[at],
+        columns.starts[at],
+        columns.leasts[at],
+        clock,
+    );
     if !why.is_none() {
         return refused(why, live);
     }
     let cleanup = settings.cleanup();
     if cleans(how, cleanup) {
-        return stay(states, dues, ended, live, at, ticket, clock, cleanup);
+        return stay(columns, ended, live, at, ticket, clock, cleanup);
     }
-    go(
-        tickets, nodes, states, dues, starts, tenants, estimates, leasts, ended, gone, live, at,
-        how, ticket,
-    )
+    go(columns, ended, gone, live, at, how, ticket)
 }
 
 // What a minute has done: how many jobs are live then, how many tickets stand in the list of those ended, and how many waiting jobs are to start.
@@ -346,33 +307,23 @@ struct Swept {
 // What is due happens to the job in this place: it is to start; its run ends, so that it leaves or is in cleanup; or its nodes are free, so
 // that it leaves.
 fn pass(
-    tickets: &mut [u32; 64],
-    nodes: &mut [u32; 64],
-    states: &mut [u32; 64],
-    dues: &mut [u32; 64],
-    starts: &mut [u32; 64],
-    tenants: &mut [u32; 64],
-    estimates: &mut [u32; 64],
-    leasts: &mut [u32; 64],
+    columns: &mut Columns,
     ended: &mut [u32; 64],
     gone: &mut [u32; 64],
     before: Swept,
     minute: u32,
     cleanup: u32,
 ) -> Swept
-    requires { DueColumns minute cleanup ended.old gone.old tickets.old nodes.old states.old dues.old starts.old tenants.old
-        estimates.old leasts.old before }
-    ensures swept { (k : DueColumns minute cleanup ended.old gone.old tickets.old nodes.old states.old
-        dues.old starts.old tenants.old estimates.old leasts.old before)
-        → Sweeping k.model ended.new gone.new tickets.new nodes.new states.new
-        dues.new starts.new tenants.new estimates.new leasts.new result }
+    requires { DueIn minute cleanup ended.old gone.old columns.old before }
+    ensures swept { (k : DueIn minute cleanup ended.old gone.old columns.old before)
+        → SweepingIn k.model ended.new gone.new columns.new result }
     ensures nearer { (result.live - result.at < before.live - before.at) × (result.at ≤ result.live) × (result.live ≤ before.live) }
 {
     let at = before.at;
     let live = before.live;
     let over = before.ended;
     let left = before.gone;
-    let state = states[at];
+    let state = columns.states[at];
     if state == 1 {
         return Swept {
             at: at + 1,
@@ -381,27 +332,23 @@ fn pass(
         };
     }
     if state == 3 {
-        take_out(
-            tickets, nodes, states, dues, starts, tenants, estimates, leasts, gone, left, live, at,
-        );
+        take_out(columns, gone, left, live, at);
         return Swept {
             live: live - 1,
             gone: left + 1,
             ..before
         };
     }
-    ended[over] = tickets[at];
+    ended[over] = columns.tickets[at];
     if 0 < cleanup {
-        job_columns::clean(states, dues, at, minute, cleanup);
+        columns.clean(at, minute, cleanup);
         return Swept {
             at: at + 1,
             ended: over + 1,
             ..before
         };
     }
-    take_out(
-        tickets, nodes, states, dues, starts, tenants, estimates, leasts, gone, left, live, at,
-    );
+    take_out(columns, gone, left, live, at);
     Swept {
         live: live - 1,
         ended: over + 1,
@@ -412,41 +359,27 @@ fn pass(
 
 // In this minute runs end, and nodes are free again.
 pub fn expire(
-    tickets: &mut [u32; 64],
-    nodes: &mut [u32; 64],
-    states: &mut [u32; 64],
-    dues: &mut [u32; 64],
-    starts: &mut [u32; 64],
-    tenants: &mut [u32; 64],
-    estimates: &mut [u32; 64],
-    leasts: &mut [u32; 64],
+    columns: &mut Columns,
     ended: &mut [u32; 64],
     gone: &mut [u32; 64],
     live: usize,
     minute: u32,
     cleanup: u32,
 ) -> Expired
-    requires { MinuteColumns minute cleanup tickets.old nodes.old states.old dues.old starts.old tenants.old estimates.old
-        leasts.old live × Whole ended.old × Whole gone.old }
-    ensures { (k : MinuteColumns minute cleanup tickets.old nodes.old states.old dues.old
-        starts.old tenants.old estimates.old leasts.old live)
-        → Expires k.model live result ended.new gone.new tickets.new nodes.new states.new
-        dues.new starts.new tenants.new estimates.new leasts.new }
+    requires { MinuteIn minute cleanup columns.old live × Whole ended.old × Whole gone.old }
+    ensures { (k : MinuteIn minute cleanup columns.old live) → ExpiresIn k.model live result ended.new gone.new columns.new }
 {
     let mut done = Swept {
-        at: job_columns::first_due(dues, 0, live, minute),
+        at: columns.first_due(0, live, minute),
         live,
         ended: 0,
         gone: 0,
         starting: 0,
     };
     while done.at < done.live {
-        let next = pass(
-            tickets, nodes, states, dues, starts, tenants, estimates, leasts, ended, gone, done,
-            minute, cleanup,
-        );
+        let next = pass(columns, ended, gone, done, minute, cleanup);
         done = Swept {
-            at: job_columns::first_due(dues, next.at, next.live, minute),
+            at: columns.first_due(next.at, next.live, minute),
             ..next
         };
     }

@@ -6,3 +6,4 @@ pub mod Submit
 pub mod MovingUp
 pub mod Depart
 pub mod Tick
+pub mod Held

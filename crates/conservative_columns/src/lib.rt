@@ -9,20 +9,38 @@ ghost use Rattle.scheduler.specs.Limits.{slots, horizon, longest_hold, longest_c
 ghost use Rattle.scheduler.specs.Jobs.{unused};
 ghost use Rattle.job_columns.specs.Removal.{Places};
 ghost use Rattle.job_columns.specs.Columns.{Column, Blank, Whole, estimate_of};
-ghost use Rattle.job_columns.specs.JobColumns.{hold_of, JobColumns};
+ghost use Rattle.job_columns.specs.JobColumns.{hold_of};
+ghost use Rattle.job_columns.specs.Held.{Retimed};
 ghost use Rattle.column_parts.specs.ColumnParts.{Listing};
 ghost use Rattle.history.specs.Calls as calls;
-ghost use Rattle.conservative_rules.specs.Conservative.{state_at, begun, placed, call};
+ghost use Rattle.conservative_rules.specs.Conservative.{state_at, begun, call};
 ghost use Rattle.conservative_kept.specs.Depart.{freed_by};
-ghost use Rattle.conservative_columns.specs.ConservativeColumns.{KeptColumns, Answered, Shifted};
-ghost use Rattle.conservative_columns.specs.Submit.{Admits};
-ghost use Rattle.conservative_columns.specs.Passes.{Placeable, Passing, Passed};
+ghost use Rattle.conservative_columns.specs.ConservativeColumns.{Shifted};
+ghost use Rattle.conservative_columns.specs.Held.{KeptIn, AdmitsIn, AnsweredIn, PlacesIn, PassingIn, MovesUpIn, StartingIn};
+ghost use Rattle.conservative_columns.specs.Passes.{Passed};
 ghost use Rattle.conservative_columns.specs.Started.{Compared};
-ghost use Rattle.conservative_columns.specs.MovingUp.{MovesUp, MovedTo};
-ghost use Rattle.conservative_columns.specs.Due.{Starting, AllStarted};
+ghost use Rattle.conservative_columns.specs.MovingUp.{MovedTo};
+ghost use Rattle.conservative_columns.specs.Due.{AllStarted};
 
 use column_parts::Told;
+use job_columns::Columns;
 use scheduler::{Departure, Job, Refusal, Scheduler, Settings, State, Submission};
+
+// What this kind keeps of each job besides: for how long it holds its nodes, and by when it was promised to start.
+#[derive(Drop)]
+pub struct Promised {
+    pub holds: [u32; 64],
+    pub promises: [u32; 64],
+}
+
+// The points of the profile, and their index: the minutes from which so many nodes are free, and the fewest and the most of each sixteen points.
+#[derive(Drop)]
+pub struct Profile {
+    pub minutes: [u32; 131],
+    pub free: [u32; 131],
+    pub low: [u32; 9],
+    pub high: [u32; 9],
+}
 
 // For how long each job holds its nodes.
 pub fn begin(estimates: &[u32; 64], live: usize, holds: &mut [u32; 64], settings: Settings)
@@ -59,20 +77,9 @@ fn list_if_now(started: &mut [u32; 64], start: u32, clock: u32, ticket: u32) -> 
 
 // A submission is taken in at the start that was found for it: that start is its promise.
 fn admit(
-    tickets: &mut [u32; 64],
-    nodes: &mut [u32; 64],
-    states: &mut [u32; 64],
-    dues: &mut [u32; 64],
-    starts: &mut [u32; 64],
-    tenants: &mut [u32; 64],
-    estimates: &mut [u32; 64],
-    leasts: &mut [u32; 64],
-    holds: &mut [u32; 64],
-    promises: &mut [u32; 64],
-    minutes: &mut [u32; 131],
-    free: &mut [u32; 131],
-    low: &mut [u32; 9],
-    high: &mut [u32; 9],
+    columns: &mut Columns,
+    promised: &mut Promised,
+    profile: &mut Profile,
     count: usize,
     started: &mut [u32; 64],
     settings: Settings,
@@ -83,23 +90,28 @@ fn admit(
     start: u32,
     hold: u32,
 ) -> Told
-    requires { Admits settings clock next tickets.old nodes.old states.old dues.old starts.old tenants.old estimates.old leasts.old holds.old promises.old minutes.old free.old low.old high.old live count s start hold × Whole started.old }
-    ensures { (q : Admits settings clock next tickets.old nodes.old states.old dues.old starts.old tenants.old estimates.old leasts.old holds.old promises.old minutes.old free.old low.old high.old live count s start hold) (ended : List ℕ) → Whole ended
-        → Answered (call q.kept.model (calls.submit s)) result ended started.new tickets.new nodes.new states.new dues.new starts.new tenants.new estimates.new leasts.new holds.new promises.new minutes.new free.new low.new high.new }
+    requires { AdmitsIn settings clock next columns.old promised.old profile.old live count s start hold × Whole started.old }
+    ensures { (q : AdmitsIn settings clock next columns.old promised.old profile.old live count s start hold) (ended : List ℕ) → Whole ended
+        → AnsweredIn (call q.kept.model (calls.submit s)) result ended started.new columns.new promised.new profile.new }
 {
     let x = spans::Span {
         from: start,
         until: start + hold,
         nodes: s.nodes,
     };
-    let n = conservative_index::take_in(minutes, free, count, low, high, x);
+    let n = conservative_index::take_in(
+        &mut profile.minutes,
+        &mut profile.free,
+        count,
+        &mut profile.low,
+        &mut profile.high,
+        x,
+    );
     let state = state_at(start, clock);
     let job = Job::fresh(next, s, state, start, start);
-    job_columns::append(
-        tickets, nodes, states, dues, starts, tenants, estimates, leasts, live, job, settings,
-    );
-    holds[live] = hold;
-    promises[live] = start;
+    columns.append(live, job, settings);
+    promised.holds[live] = hold;
+    promised.promises[live] = start;
     let begun = list_if_now(started, start, clock, next);
     Told {
         ticket: next,
@@ -115,20 +127,9 @@ fn admit(
 
 // A submission: its start is sought through the index, and its span is taken in.
 pub fn submit(
-    tickets: &mut [u32; 64],
-    nodes: &mut [u32; 64],
-    states: &mut [u32; 64],
-    dues: &mut [u32; 64],
-    starts: &mut [u32; 64],
-    tenants: &mut [u32; 64],
-    estimates: &mut [u32; 64],
-    leasts: &mut [u32; 64],
-    holds: &mut [u32; 64],
-    promises: &mut [u32; 64],
-    minutes: &mut [u32; 131],
-    free: &mut [u32; 131],
-    low: &mut [u32; 9],
-    high: &mut [u32; 9],
+    columns: &mut Columns,
+    promised: &mut Promised,
+    profile: &mut Profile,
     count: usize,
     started: &mut [u32; 64],
     settings: Settings,
@@ -137,82 +138,68 @@ pub fn submit(
     live: usize,
     s: Submission,
 ) -> Told
-    requires { KeptColumns settings clock next tickets.old nodes.old states.old dues.old starts.old tenants.old estimates.old leasts.old holds.old promises.old minutes.old free.old low.old high.old live count × Whole started.old }
-    ensures { (k : KeptColumns settings clock next tickets.old nodes.old states.old dues.old starts.old tenants.old estimates.old leasts.old holds.old promises.old minutes.old free.old low.old high.old live count) (ended : List ℕ) → Whole ended
-        → Answered (call k.model (calls.submit s)) result ended started.new tickets.new nodes.new states.new dues.new starts.new tenants.new estimates.new leasts.new holds.new promises.new minutes.new free.new low.new high.new }
+    requires { KeptIn settings clock next columns.old promised.old profile.old live count × Whole started.old }
+    ensures { (k : KeptIn settings clock next columns.old promised.old profile.old live count) (ended : List ℕ) → Whole ended
+        → AnsweredIn (call k.model (calls.submit s)) result ended started.new columns.new promised.new profile.new }
 {
     let tenant = s.tenant;
-    let own = column_parts::live_of(tenants, live, tenant, settings.quota(tenant));
+    let own = column_parts::live_of(columns, live, tenant, settings.quota(tenant));
     let why = job_table::submit_refusal(s, settings, own, next);
     if !why.is_none() {
         return Told::refused(why, clock, next, live, count, 0, 0);
     }
     let hold = settings.hold_time(s.estimate);
-    let found = conservative_index::search(minutes, free, count, low, high, s.nodes, hold);
+    let found = conservative_index::search(
+        &profile.minutes,
+        &profile.free,
+        count,
+        &profile.low,
+        &profile.high,
+        s.nodes,
+        hold,
+    );
     let start = found.minute;
     if Scheduler::HORIZON < start + hold {
         return Told::refused(Refusal::PastHorizon, clock, next, live, count, 0, 0);
     }
     admit(
-        tickets, nodes, states, dues, starts, tenants, estimates, leasts, holds, promises, minutes,
-        free, low, high, count, started, settings, clock, next, live, s, start, hold,
+        columns, promised, profile, count, started, settings, clock, next, live, s, start, hold,
     )
 }
 
 // The jobs that left the columns of both kinds leave those of this kind too: so many were live, and so many are left.
-fn shift_own(
-    holds: &mut [u32; 64],
-    promises: &mut [u32; 64],
-    live: usize,
-    gone: &[u32; 64],
-    left: usize,
-)
+fn shift_own(promised: &mut Promised, live: usize, gone: &[u32; 64], left: usize)
     requires { (live ≤ slots) × (left ≤ live) × Whole gone.now × Places live (take (live - left) gone.now) }
-    ensures { Shifted gone.now live left holds.old holds.new
-        × Shifted gone.now live left promises.old promises.new }
+    ensures { Shifted gone.now live left promised.old.holds promised.new.holds
+        × Shifted gone.now live left promised.old.promises promised.new.promises }
 {
     let count = live - left;
-    job_columns::shift_all(holds, live, gone, count);
-    job_columns::shift_all(promises, live, gone, count);
+    job_columns::shift_all(&mut promised.holds, live, gone, count);
+    job_columns::shift_all(&mut promised.promises, live, gone, count);
 }
 
 // A waiting job comes from one start to another: it runs if that is now.
-fn place(
-    states: &mut [u32; 64],
-    dues: &mut [u32; 64],
-    starts: &mut [u32; 64],
-    at: usize,
-    from: u32,
-    to: u32,
-    run: u32,
-    clock: u32,
-)
+fn place(columns: &mut Columns, at: usize, from: u32, to: u32, run: u32, clock: u32)
     requires { (at < slots) × (to ≤ horizon) × (run ≤ longest_hold) }
-    ensures { (S : Settings) (js : List Job) (tickets nodes tenants estimates leasts : List ℕ) (live : ℕ)
-        → JobColumns S js tickets nodes states.old dues.old starts.old tenants estimates leasts live
-        → at < live → Placeable S js at from to run clock
-        → JobColumns S (set js at (placed clock to (get_or js at unused))) tickets nodes states.new dues.new
-        starts.new tenants estimates leasts live }
+    ensures placed { PlacesIn at from to run clock columns.old columns.new }
+    ensures retimed { Retimed columns.old columns.new }
 {
     if to == from {
         return;
     }
     if to == clock {
-        job_columns::begin(states, dues, starts, at, clock, run);
+        columns.begin(at, clock, run);
         return;
     }
-    dues[at] = to;
-    starts[at] = to;
+    columns.dues[at] = to;
+    columns.starts[at] = to;
 }
 
 // Each waiting job, in ticket order, is taken out of the plan and put in again, the others staying at their places, and again from the first
 // on until a whole pass moves nobody. That is so once as many turns in a row as there are jobs have moved nobody.
 fn passes(
-    nodes: &[u32; 64],
-    states: &mut [u32; 64],
+    columns: &mut Columns,
     holds: &[u32; 64],
-    dues: &mut [u32; 64],
-    starts: &mut [u32; 64],
     live: usize,
     minutes: &mut [u32; 131],
     free: &mut [u32; 131],
@@ -220,31 +207,22 @@ fn passes(
     clock: u32,
     cleanup: u32,
 ) -> usize
-    requires { Passing nodes.now states.old holds.now dues.old starts.old minutes.old free.old live count clock cleanup }
-    ensures { (q : Passing nodes.now states.old holds.now dues.old starts.old
-        minutes.old free.old live count clock cleanup)
-        → Passed q states.new dues.new starts.new result minutes.new free.new }
+    requires { PassingIn columns.old holds.now minutes.old free.old live count clock cleanup }
+    ensures passed { (q : PassingIn columns.old holds.now minutes.old free.old live count clock cleanup)
+        → Passed q columns.new.states columns.new.dues columns.new.starts result minutes.new free.new }
+    ensures retimed { Retimed columns.old columns.new }
 {
     let mut n = count;
     let mut at: usize = 0;
     let mut turns: usize = 0;
     while turns < live {
         turns += 1;
-        if states[at] == 1 {
-            let start = starts[at];
+        if columns.states[at] == 1 {
+            let start = columns.starts[at];
             let hold = holds[at];
-            let t = conservative_plan::take_turn(minutes, free, n, nodes[at], start, hold);
+            let t = conservative_plan::take_turn(minutes, free, n, columns.nodes[at], start, hold);
             n = t.count;
-            place(
-                states,
-                dues,
-                starts,
-                at,
-                start,
-                t.start,
-                hold - cleanup,
-                clock,
-            );
+            place(columns, at, start, t.start, hold - cleanup, clock);
             turns = conservative_plan::calm(turns, start, t.start);
         }
         at = conservative_plan::slot_after(at, live);
@@ -253,21 +231,15 @@ fn passes(
 }
 
 // The tickets of the jobs that waited before and run now are listed.
-fn note_started(
-    tickets: &[u32; 64],
-    was: &[u32; 64],
-    states: &[u32; 64],
-    live: usize,
-    started: &mut [u32; 64],
-) -> usize
+fn note_started(columns: &Columns, was: &[u32; 64], live: usize, started: &mut [u32; 64]) -> usize
     requires { (live ≤ slots) × Whole started.old }
-    ensures { (js ks : List Job) → Compared js ks tickets.now was.now states.now live
+    ensures { (js ks : List Job) → Compared js ks columns.now.tickets was.now columns.now.states live
         → Listing (begun js ks) started.new result }
 {
     let mut n: usize = 0;
     for i in 0..live {
-        if states[i] == 2 && was[i] == 1 {
-            started[n] = tickets[i];
+        if columns.states[i] == 2 && was[i] == 1 {
+            started[n] = columns.tickets[i];
             n += 1;
         }
     }
@@ -283,16 +255,9 @@ struct MovedUp {
 
 // Whoever waits moves up: the span that a job gives back is taken out of the points, the passes go over them, and the index is built anew.
 fn move_up(
-    tickets: &[u32; 64],
-    nodes: &[u32; 64],
-    states: &mut [u32; 64],
-    dues: &mut [u32; 64],
-    starts: &mut [u32; 64],
+    columns: &mut Columns,
     holds: &[u32; 64],
-    minutes: &mut [u32; 131],
-    free: &mut [u32; 131],
-    low: &mut [u32; 9],
-    high: &mut [u32; 9],
+    profile: &mut Profile,
     count: usize,
     started: &mut [u32; 64],
     live: usize,
@@ -300,17 +265,26 @@ fn move_up(
     clock: u32,
     cleanup: u32,
 ) -> MovedUp
-    requires { MovesUp tickets.now nodes.now states.old dues.old starts.old holds.now minutes.old free.old low.old high.old live count x clock cleanup × Whole started.old }
-    ensures { (q : MovesUp tickets.now nodes.now states.old dues.old starts.old holds.now minutes.old free.old low.old high.old live count x clock cleanup)
-        → MovedTo q result states.new dues.new starts.new started.new minutes.new free.new low.new high.new }
+    requires { MovesUpIn columns.old holds.now profile.old live count x clock cleanup × Whole started.old }
+    ensures moved { (q : MovesUpIn columns.old holds.now profile.old live count x clock cleanup)
+        → MovedTo q result columns.new.states columns.new.dues columns.new.starts started.new
+        profile.new.minutes profile.new.free profile.new.low profile.new.high }
+    ensures retimed { Retimed columns.old columns.new }
 {
-    let was = *states;
-    let out = conservative_table::lift(minutes, free, 0, count, x);
+    let was = columns.states;
+    let out = conservative_table::lift(&mut profile.minutes, &mut profile.free, 0, count, x);
     let n = passes(
-        nodes, states, holds, dues, starts, live, minutes, free, out.count, clock, cleanup,
+        columns,
+        holds,
+        live,
+        &mut profile.minutes,
+        &mut profile.free,
+        out.count,
+        clock,
+        cleanup,
     );
-    conservative_index::build(free, n, low, high, 0);
-    let begun = note_started(tickets, &was, states, live, started);
+    conservative_index::build(&profile.free, n, &mut profile.low, &mut profile.high, 0);
+    let begun = note_started(columns, &was, live, started);
     MovedUp {
         count: n,
         started: begun,
@@ -319,8 +293,7 @@ fn move_up(
 
 // What the job in this place gives back where it departs: nothing where there is none.
 fn freed(
-    nodes: &[u32; 64],
-    starts: &[u32; 64],
+    columns: &Columns,
     holds: &[u32; 64],
     live: usize,
     at: usize,
@@ -328,8 +301,8 @@ fn freed(
     clock: u32,
     cleanup: u32,
 ) -> spans::Span
-    requires { (live ≤ slots) × (clock ≤ horizon) × (cleanup ≤ longest_cleanup) × (at < live → (get_or starts.now at 0 ≤ horizon) × (get_or holds.now at 0 ≤ longest_hold)) }
-    ensures { at < live → result ≡ freed_by how (get_or nodes.now at 0) (get_or starts.now at 0) (get_or holds.now at 0) clock cleanup }
+    requires { (live ≤ slots) × (clock ≤ horizon) × (cleanup ≤ longest_cleanup) × (at < live → (get_or columns.now.starts at 0 ≤ horizon) × (get_or holds.now at 0 ≤ longest_hold)) }
+    ensures { at < live → result ≡ freed_by how (get_or columns.now.nodes at 0) (get_or columns.now.starts at 0) (get_or holds.now at 0) clock cleanup }
 {
     if live <= at {
         return spans::Span {
@@ -338,25 +311,21 @@ fn freed(
             nodes: 0,
         };
     }
-    conservative_kept::given_back(how, nodes[at], starts[at], holds[at], clock, cleanup)
+    conservative_kept::given_back(
+        how,
+        columns.nodes[at],
+        columns.starts[at],
+        holds[at],
+        clock,
+        cleanup,
+    )
 }
 
 // A job leaves: what it gives back is taken out of the points, and whoever waits moves up.
 pub fn depart(
-    tickets: &mut [u32; 64],
-    nodes: &mut [u32; 64],
-    states: &mut [u32; 64],
-    dues: &mut [u32; 64],
-    starts: &mut [u32; 64],
-    tenants: &mut [u32; 64],
-    estimates: &mut [u32; 64],
-    leasts: &mut [u32; 64],
-    holds: &mut [u32; 64],
-    promises: &mut [u32; 64],
-    minutes: &mut [u32; 131],
-    free: &mut [u32; 131],
-    low: &mut [u32; 9],
-    high: &mut [u32; 9],
+    columns: &mut Columns,
+    promised: &mut Promised,
+    profile: &mut Profile,
     count: usize,
     ended: &mut [u32; 64],
     gone: &mut [u32; 64],
@@ -368,26 +337,30 @@ pub fn depart(
     how: Departure,
     ticket: u32,
 ) -> Told
-    requires { KeptColumns settings clock next tickets.old nodes.old states.old dues.old starts.old tenants.old estimates.old leasts.old holds.old promises.old minutes.old free.old low.old high.old live count × Whole ended.old × Whole gone.old × Whole started.old }
-    ensures { (k : KeptColumns settings clock next tickets.old nodes.old states.old dues.old starts.old tenants.old estimates.old leasts.old holds.old promises.old minutes.old free.old low.old high.old live count)
-        → Answered (call k.model (calls.depart how ticket)) result ended.new started.new tickets.new nodes.new states.new dues.new starts.new tenants.new estimates.new leasts.new holds.new promises.new minutes.new free.new low.new high.new
+    requires { KeptIn settings clock next columns.old promised.old profile.old live count × Whole ended.old × Whole gone.old × Whole started.old }
+    ensures { (k : KeptIn settings clock next columns.old promised.old profile.old live count)
+        → AnsweredIn (call k.model (calls.depart how ticket)) result ended.new started.new columns.new promised.new profile.new
         × Whole gone.new }
 {
     let cleanup = settings.cleanup();
-    let at = job_columns::find(tickets, live, ticket);
-    let x = freed(nodes, starts, holds, live, at, how, clock, cleanup);
-    let left = column_parts::leave(
-        tickets, nodes, states, dues, starts, tenants, estimates, leasts, ended, gone, live, how,
-        ticket, clock, settings,
-    );
+    let at = columns.find(live, ticket);
+    let x = freed(columns, &promised.holds, live, at, how, clock, cleanup);
+    let left = column_parts::leave(columns, ended, gone, live, how, ticket, clock, settings);
     let why = left.refusal;
     if !why.is_none() {
         return Told::refused(why, clock, next, left.live, count, 0, 0);
     }
-    shift_own(holds, promises, live, gone, left.live);
+    shift_own(promised, live, gone, left.live);
     let up = move_up(
-        tickets, nodes, states, dues, starts, holds, minutes, free, low, high, count, started,
-        left.live, x, clock, cleanup,
+        columns,
+        &promised.holds,
+        profile,
+        count,
+        started,
+        left.live,
+        x,
+        clock,
+        cleanup,
     );
     Told {
         ended: left.ended,
@@ -402,53 +375,40 @@ pub fn depart(
 
 // Those whose planned start is this minute start, and their tickets are listed. None is looked for where none is to start.
 fn start_due(
-    tickets: &[u32; 64],
-    states: &mut [u32; 64],
+    columns: &mut Columns,
     holds: &[u32; 64],
-    dues: &mut [u32; 64],
-    starts: &mut [u32; 64],
     live: usize,
     starting: usize,
     minute: u32,
     cleanup: u32,
     started: &mut [u32; 64],
 ) -> usize
-    requires { Starting tickets.now states.old holds.now dues.old starts.old live starting minute cleanup × Whole started.old }
-    ensures { (q : Starting tickets.now states.old holds.now dues.old starts.old live starting minute cleanup)
-        → AllStarted q result states.new dues.new starts.new started.new }
+    requires { StartingIn columns.old holds.now live starting minute cleanup × Whole started.old }
+    ensures started { (q : StartingIn columns.old holds.now live starting minute cleanup)
+        → AllStarted q result columns.new.states columns.new.dues columns.new.starts started.new }
+    ensures retimed { Retimed columns.old columns.new }
 {
     if starting == 0 {
         return 0;
     }
     let mut n: usize = 0;
-    let mut at = job_columns::first_due(dues, 0, live, minute);
+    let mut at = columns.first_due(0, live, minute);
     while at < live {
-        if states[at] == 1 {
-            started[n] = tickets[at];
+        if columns.states[at] == 1 {
+            started[n] = columns.tickets[at];
             n += 1;
-            job_columns::begin(states, dues, starts, at, minute, holds[at] - cleanup);
+            columns.begin(at, minute, holds[at] - cleanup);
         }
-        at = job_columns::first_due(dues, at + 1, live, minute);
+        at = columns.first_due(at + 1, live, minute);
     }
     n
 }
 
 // A minute passes: runs end, nodes are free again, and those whose planned start it is start. The clock of the profile moves on too.
 pub fn tick(
-    tickets: &mut [u32; 64],
-    nodes: &mut [u32; 64],
-    states: &mut [u32; 64],
-    dues: &mut [u32; 64],
-    starts: &mut [u32; 64],
-    tenants: &mut [u32; 64],
-    estimates: &mut [u32; 64],
-    leasts: &mut [u32; 64],
-    holds: &mut [u32; 64],
-    promises: &mut [u32; 64],
-    minutes: &mut [u32; 131],
-    free: &mut [u32; 131],
-    low: &mut [u32; 9],
-    high: &mut [u32; 9],
+    columns: &mut Columns,
+    promised: &mut Promised,
+    profile: &mut Profile,
     count: usize,
     ended: &mut [u32; 64],
     gone: &mut [u32; 64],
@@ -458,9 +418,9 @@ pub fn tick(
     next: u32,
     live: usize,
 ) -> Told
-    requires { KeptColumns settings clock next tickets.old nodes.old states.old dues.old starts.old tenants.old estimates.old leasts.old holds.old promises.old minutes.old free.old low.old high.old live count × Whole ended.old × Whole gone.old × Whole started.old }
-    ensures { (k : KeptColumns settings clock next tickets.old nodes.old states.old dues.old starts.old tenants.old estimates.old leasts.old holds.old promises.old minutes.old free.old low.old high.old live count)
-        → Answered (call k.model calls.tick) result ended.new started.new tickets.new nodes.new states.new dues.new starts.new tenants.new estimates.new leasts.new holds.new promises.new minutes.new free.new low.new high.new
+    requires { KeptIn settings clock next columns.old promised.old profile.old live count × Whole ended.old × Whole gone.old × Whole started.old }
+    ensures { (k : KeptIn settings clock next columns.old promised.old profile.old live count)
+        → AnsweredIn (call k.model calls.tick) result ended.new started.new columns.new promised.new profile.new
         × Whole gone.new }
 {
     if Scheduler::HORIZON <= clock {
@@ -468,15 +428,25 @@ pub fn tick(
     }
     let minute = clock + 1;
     let cleanup = settings.cleanup();
-    let e = column_parts::expire(
-        tickets, nodes, states, dues, starts, tenants, estimates, leasts, ended, gone, live,
-        minute, cleanup,
-    );
-    shift_own(holds, promises, live, gone, e.live);
+    let e = column_parts::expire(columns, ended, gone, live, minute, cleanup);
+    shift_own(promised, live, gone, e.live);
     let begun = start_due(
-        tickets, states, holds, dues, starts, e.live, e.starting, minute, cleanup, started,
+        columns,
+        &promised.holds,
+        e.live,
+        e.starting,
+        minute,
+        cleanup,
+        started,
     );
-    let n = conservative_index::advance(minutes, free, count, low, high, minute);
+    let n = conservative_index::advance(
+        &mut profile.minutes,
+        &mut profile.free,
+        count,
+        &mut profile.low,
+        &mut profile.high,
+        minute,
+    );
     Told {
         ended: e.ended,
         started: begun,

@@ -11,3 +11,4 @@ pub mod EasyLeave
 pub mod EasyDepart
 pub mod EasyTick
 pub mod EasyBegin
+pub mod Held

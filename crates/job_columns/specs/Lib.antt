@@ -6,3 +6,4 @@ pub mod Searches
 pub mod Encoding
 pub mod ColumnChanges
 pub mod Gathering
+pub mod Held

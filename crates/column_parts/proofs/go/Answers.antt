@@ -16,4 +16,4 @@ returns c =
     let v = k.columns in
     rw (c.withdrawn.ensures, c.ends.ensures, q.listed)
     (leaves_going m k.sound a.ticket a.at l.found v.live_is a.ended.now a.gone.now c.requires.2 c.requires.3 a.how l.allowed
-    (ap (λ (T : Settings). cleans_by a.how (cleanup T)) (sym k.settings_is) ∙ n) (q.columns m.settings m.jobs v))
+    (ap (λ (T : Settings). cleans_by a.how (cleanup T)) (sym k.settings_is) ∙ n) (q.left m.settings m.jobs v))

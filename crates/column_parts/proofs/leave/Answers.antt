@@ -5,7 +5,7 @@ use native.Mathlib.Omega.{arith}
 use mathlib.Core.Path.{sym, ap, ◌∙◌}
 use Rattle.scheduler.specs.declared.Refusal.{Refusal}
 use Rattle.scheduler.specs.Times.{cleanup_le}
-use Rattle.column_parts.specs.ColumnParts.{SoundColumns}
+use Rattle.column_parts.specs.Held.{SoundIn}
 use Rattle.column_parts.specs.Departures.{cleans_by}
 use Rattle.column_parts.specs.LeavingColumns.{refused_left, Leavable, leaves_nowhere, numbers_low, leaves_not, leavable}
 use Rattle.column_parts.proofs.leave.Goals.{Else-not-is_none}
@@ -17,8 +17,7 @@ module _ (n : Else-not-is_none) where
   inside = omega (arith, n.if-live-at.false)
 
   able : let a = n.args in
-      (k : SoundColumns a.settings a.clock a.tickets.now a.nodes.now a.states.now a.dues.now a.starts.now a.tenants.now
-      a.estimates.now a.leasts.now a.live) → Leavable k.model a.how a.ticket n.find-at.result
+      (k : SoundIn a.settings a.clock a.columns.now a.live) → Leavable k.model a.how a.ticket n.find-at.result
   able k =
       let a = n.args in
       leavable k a.how a.ticket n.find-at.result
@@ -64,7 +63,7 @@ pub returns-then-cleans : goal.returns-then-cleans
 returns-then-cleans c =
     let s = c in
     let a = s.args in
-    λ k. c.stay.ensures a.settings a.how _ _ _ _ _ _ _ k (able (goal.at.returns-then-cleans c).Else-not-is_none k) c.cleanup-cleanup.ensures (sym c.cleans.ensures ∙ c.if-cleans.true) s.requires.2
+    λ k. c.stay.ensures a.settings a.how _ k (able (goal.at.returns-then-cleans c).Else-not-is_none k) c.cleanup-cleanup.ensures (sym c.cleans.ensures ∙ c.if-cleans.true) s.requires.2
 
 pub go-requires : goal.go-requires
 go-requires c =

@@ -6,8 +6,8 @@ use Rattle.scheduler.specs.Times.{cleanup_le}
 use Rattle.column_parts.specs.SweptColumns.{due_low, sweeping_starts, sweeping_released, sweeping_cleans, sweeping_goes}
 use Rattle.column_parts.proofs.pass.Goals as goal
 
-pub bounds-states-at : goal.bounds-states-at
-bounds-states-at c = (due_low c.requires).at_low
+pub bounds-columns-at : goal.bounds-columns-at
+bounds-columns-at c = (due_low c.requires).at_low
 
 pub overflow_add-result-then-state-eq1 : goal.overflow_add-result-then-state-eq1
 overflow_add-result-then-state-eq1 c = omega (arith, (due_low c.requires).starting_low)
@@ -28,12 +28,12 @@ pub returns-then-state-eq3 : goal.returns-then-state-eq3
 returns-then-state-eq3 c =
     let q = c.take_out.ensures in record {
       swept = λ k. rw q.listed (sweeping_released k.sound k.sweeping k.more (k.due ∙ k.minute_is) c.if-state-eq3.true
-          (q.columns k.model.settings _ k.sweeping.columns));
+          (q.left k.model.settings _ k.sweeping.columns));
       nearer = (omega (arith, c.requires.more), omega (arith, c.requires.more), omega arith);
     }
 
-pub bounds-tickets-at : goal.bounds-tickets-at
-bounds-tickets-at c = (due_low c.requires).at_low
+pub bounds-columns-at-2 : goal.bounds-columns-at-2
+bounds-columns-at-2 c = (due_low c.requires).at_low
 
 pub bounds-ended-over : goal.bounds-ended-over
 bounds-ended-over c = (due_low c.requires).ended_low
@@ -47,7 +47,7 @@ pub returns-then-cleanup-gt0 : goal.returns-then-cleanup-gt0
 returns-then-cleanup-gt0 c =
     record {
       swept = λ k. sweeping_cleans k.sound k.sweeping k.more (k.due ∙ k.minute_is) c.if-state-eq1.false c.if-state-eq3.false (omega (arith, c.if-cleanup-gt0.true, k.clearing_is))
-          (rw k.minute_is at (c.clean.ensures k.model.settings _ _ _ _ _ _ _ _ k.sweeping.columns k.more k.clearing_is));
+          (rw k.minute_is at (c.clean.ensures k.model.settings _ _ k.sweeping.columns k.more k.clearing_is));
       nearer = (omega (arith, c.requires.more), omega (arith, c.requires.more), omega arith);
     }
 
@@ -60,6 +60,6 @@ pub returns : goal.returns
 returns c =
     let q = c.take_out-2.ensures in record {
       swept = λ k. rw q.listed (sweeping_goes k.sound k.sweeping k.more (k.due ∙ k.minute_is) c.if-state-eq1.false c.if-state-eq3.false
-          (omega (arith, c.if-cleanup-gt0.false, k.clearing_is)) (q.columns k.model.settings _ k.sweeping.columns));
+          (omega (arith, c.if-cleanup-gt0.false, k.clearing_is)) (q.left k.model.settings _ k.sweeping.columns));
       nearer = (omega (arith, c.requires.more), omega (arith, c.requires.more), omega arith);
     }

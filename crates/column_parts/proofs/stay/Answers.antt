@@ -9,9 +9,9 @@ use Rattle.column_parts.proofs.stay.Goals as goal
 pub returns : goal.returns
 returns c =
     let a = c.args in
-    λ S h gone tickets nodes starts tenants estimates leasts k l e y w.
+    λ S h gone k l e y w.
     let m = k.model in
     let v = k.columns in
     let z : a.cleanup ≡ cleanup m.settings = e ∙ ap cleanup k.settings_is in
     leaves_staying m k.sound a.ticket a.at l.found v.live_is a.ended.now gone c.requires.4 w h l.allowed (sym (ap (cleans_by h) z) ∙ y)
-    (rw k.clock_is at (c.clean.ensures m.settings m.jobs tickets nodes starts tenants estimates leasts a.live v c.requires.0 z))
+    (rw k.clock_is at (c.clean.ensures m.settings m.jobs a.live v c.requires.0 z))

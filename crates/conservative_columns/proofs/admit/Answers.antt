@@ -37,17 +37,17 @@ returns c =
 pub overflow_add-x : goal.overflow_add-x
 overflow_add-x c = omega (arith, c.requires.0.within)
 
-pub offset_bounds-holds-live : goal.offset_bounds-holds-live
-offset_bounds-holds-live c = omega (arith, room c)
+pub offset_bounds-promised-live : goal.offset_bounds-promised-live
+offset_bounds-promised-live c = omega (arith, room c)
 
-pub bounds-holds-live : goal.bounds-holds-live
-bounds-holds-live c = room (goal.at.bounds-holds-live c).After-append
+pub bounds-promised-live : goal.bounds-promised-live
+bounds-promised-live c = room (goal.at.bounds-promised-live c).After-append
 
-pub offset_bounds-promises-live : goal.offset_bounds-promises-live
-offset_bounds-promises-live c = omega (arith, room (goal.at.offset_bounds-promises-live c).After-append)
+pub offset_bounds-promised-live-2 : goal.offset_bounds-promised-live-2
+offset_bounds-promised-live-2 c = omega (arith, room (goal.at.offset_bounds-promised-live-2 c).After-append)
 
-pub bounds-promises-live : goal.bounds-promises-live
-bounds-promises-live c = room (goal.at.bounds-promises-live c).After-append
+pub bounds-promised-live-2 : goal.bounds-promised-live-2
+bounds-promised-live-2 c = room (goal.at.bounds-promised-live-2 c).After-append
 
 pub overflow_add-result : goal.overflow_add-result
 overflow_add-result c = omega (arith, admit_ticket c.requires.0)

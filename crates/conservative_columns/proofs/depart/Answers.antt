@@ -8,32 +8,26 @@ use Rattle.scheduler.specs.Times.{cleanup_le}
 use Rattle.scheduler.specs.Jobs.{unused}
 use Rattle.scheduler.specs.Answers.{accepts}
 use Rattle.conservative_kept.specs.Depart.{freed}
-use Rattle.conservative_columns.specs.ConservativeColumns.{KeptColumns, few_live}
+use Rattle.conservative_columns.specs.Held.{KeptIn}
+use Rattle.conservative_columns.specs.ConservativeColumns.{few_live}
 use Rattle.conservative_columns.specs.Depart.{sound_columns, clock_low, back_low, back_is, Leaver, leaver, left_refused, not_refused, gone_are, moves_up}
 use Rattle.conservative_columns.specs.Depart.{departed_answer}
-use Rattle.conservative_columns.proofs.depart.Goals.{Else-not-is_none, Start}
+use Rattle.conservative_columns.proofs.depart.Goals.{Else-not-is_none}
 use Rattle.conservative_columns.proofs.depart.Goals as goal
-
--- the premise, as it is at the entry
-abbrev Kept : Start → Type 0
-Kept s =
-    let a = s.args in
-    KeptColumns a.settings a.clock a.next a.tickets.now a.nodes.now a.states.now a.dues.now a.starts.now a.tenants.now
-    a.estimates.now a.leasts.now a.holds.now a.promises.now a.minutes.now a.free.now a.low.now a.high.now a.live a.count
 
 -- nothing refuses it
 accepted : (c : Else-not-is_none) → accepts c.leave-left.result.refusal ≡ true
 accepted c = sym c.is_none.ensures ∙ c.if-not-is_none.false
 
 -- who leaves
-who : (c : Else-not-is_none) (k : Kept c.before.before.before.before.before.before.before.before.before.before.before.before.before.before.before.before) → Leaver k c.args.how c.args.ticket c.find-at.result
+who : (c : Else-not-is_none) (k : let a = c.args in KeptIn a.settings a.clock a.next a.columns.now a.promised.now a.profile.now a.live a.count) → Leaver k c.args.how c.args.ticket c.find-at.result
 who c k =
     leaver k c.args.how c.args.ticket c.find-at.result
     (c.find-at.ensures k.model.jobs k.columns.core.tickets_are k.valid.sound.asc k.columns.core.live_is)
     (not_refused k c.args.how c.args.ticket (c.leave-left.ensures (sound_columns k)) (accepted c))
 
 -- what it gives back
-back : (c : Else-not-is_none) (k : Kept c.before.before.before.before.before.before.before.before.before.before.before.before.before.before.before.before) → c.freed-x.result ≡ freed k.model.settings k.model.clock c.args.how (get_or k.model.jobs c.find-at.result unused)
+back : (c : Else-not-is_none) (k : let a = c.args in KeptIn a.settings a.clock a.next a.columns.now a.promised.now a.profile.now a.live a.count) → c.freed-x.result ≡ freed k.model.settings k.model.clock c.args.how (get_or k.model.jobs c.find-at.result unused)
 back c k =
     let w = who c k in
     c.freed-x.ensures w.low ∙ back_is k w.low c.args.how c.cleanup-cleanup.result c.cleanup-cleanup.ensures
@@ -82,10 +76,10 @@ pub returns : goal.returns
 returns c =
     λ k.
     let v = c.leave-left.ensures (sound_columns k) in (
-      departed_answer k c.args.how c.args.ticket v (accepted (goal.at.returns c).Else-not-is_none) c.shift_own.ensures.0 c.shift_own.ensures.1 (who (goal.at.returns c).Else-not-is_none k) (back (goal.at.returns c).Else-not-is_none k)
+      rw c.move_up-up.ensures.retimed (departed_answer k c.args.how c.args.ticket v (accepted (goal.at.returns c).Else-not-is_none) c.shift_own.ensures.0 c.shift_own.ensures.1 (who (goal.at.returns c).Else-not-is_none k) (back (goal.at.returns c).Else-not-is_none k)
           c.cleanup-cleanup.ensures
-          (c.move_up-up.ensures
+          (c.move_up-up.ensures.moved
           (moves_up k c.args.how c.args.ticket v (accepted (goal.at.returns c).Else-not-is_none) c.shift_own.ensures.0 c.shift_own.ensures.1 (who (goal.at.returns c).Else-not-is_none k) (back (goal.at.returns c).Else-not-is_none k)
-          c.cleanup-cleanup.ensures)),
+          c.cleanup-cleanup.ensures))),
       v.gone_whole,
     )

@@ -3,7 +3,7 @@
 use native.Mathlib.Omega.{arith}
 use lib.ListN.{length-set}
 use Rattle.conservative_columns.specs.Started.{noted_none, noted_yes, noted_waits, noted_ran, noted_all}
-use Rattle.conservative_columns.proofs.note_started.Goals.{else-states-i-eq2, else-states-i-eq2-via-else-states-i-eq2, else-states-i-eq2-via-then-states-i-eq2+else-was-i-eq1, then-states-i-eq2+then-was-i-eq1}
+use Rattle.conservative_columns.proofs.note_started.Goals.{else-columns-i-eq2, else-columns-i-eq2-via-else-columns-i-eq2, else-columns-i-eq2-via-then-columns-i-eq2+else-was-i-eq1, then-columns-i-eq2+then-was-i-eq1}
 use Rattle.conservative_columns.proofs.note_started.Goals as goal
 
 pub loop-i-init : goal.loop-i-init
@@ -14,20 +14,20 @@ loop-i-preserved c =
     let l = c.loop-i in
     let t = c.loop-i-test.true in
     let p = c.requires.0 in
-    elim c.if-states-i-eq2.branch [
-      | then-states-i-eq2+then-was-i-eq1 w ↦ rw (w.started-is, w.n-is) (
+    elim c.if-columns-i-eq2.branch [
+      | then-columns-i-eq2+then-was-i-eq1 w ↦ rw (w.started-is, w.n-is) (
         omega (arith, t),
         omega (arith, l.invariant.1),
         simp length-set l.invariant.2,
-        λ js ks k. noted_yes k t (omega (arith, l.invariant.1, t, p)) w.if-states-i-eq2.true w.if-was-i-eq1.true (l.invariant.3 js ks k),
+        λ js ks k. noted_yes k t (omega (arith, l.invariant.1, t, p)) w.if-columns-i-eq2.true w.if-was-i-eq1.true (l.invariant.3 js ks k),
       )
-      | else-states-i-eq2 w ↦ rw (w.started-is, w.n-is) (
+      | else-columns-i-eq2 w ↦ rw (w.started-is, w.n-is) (
         omega (arith, t),
         omega (arith, l.invariant.1),
         l.invariant.2,
-        λ js ks k. elim w.else-states-i-eq2.branch [
-          | else-states-i-eq2-via-then-states-i-eq2+else-was-i-eq1 v ↦ noted_ran k t v.if-was-i-eq1.false (l.invariant.3 js ks k)
-          | else-states-i-eq2-via-else-states-i-eq2 v ↦ noted_waits k t v.if-states-i-eq2.false (l.invariant.3 js ks k)
+        λ js ks k. elim w.else-columns-i-eq2.branch [
+          | else-columns-i-eq2-via-then-columns-i-eq2+else-was-i-eq1 v ↦ noted_ran k t v.if-was-i-eq1.false (l.invariant.3 js ks k)
+          | else-columns-i-eq2-via-else-columns-i-eq2 v ↦ noted_waits k t v.if-columns-i-eq2.false (l.invariant.3 js ks k)
         ],
       )
     ]

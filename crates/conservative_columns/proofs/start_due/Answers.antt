@@ -2,10 +2,14 @@
 -- Assumes nothing.
 use Prim.Native.Nat.{◌+◌, ◌<◌}
 use native.Mathlib.Omega.{arith}
+use mathlib.Core.Path.{refl, ap}
+use Rattle.job_columns.specs.declared.Columns.{Columns}
+use Rattle.job_columns.specs.Held.{Retimed, retimed_on}
+use Rattle.conservative_columns.specs.Held.{StartingIn}
 use Rattle.scheduler.specs.Limits.{slots}
-use Rattle.conservative_columns.specs.Due.{Starting, Starts, starts_begin, few_started, starts_next, clears, run_there, run_low, starts_past, starts_now, starts_end, starts_nobody}
-use Rattle.conservative_columns.proofs.start_due.Goals.{In-loop-at, Joined-states-at-eq1}
-use Rattle.conservative_columns.proofs.start_due.Goals.{else-states-at-eq1, then-states-at-eq1}
+use Rattle.conservative_columns.specs.Due.{Starts, starts_begin, few_started, starts_next, clears, run_there, run_low, starts_past, starts_now, starts_end, starts_nobody}
+use Rattle.conservative_columns.proofs.start_due.Goals.{In-loop-at, Joined-columns-at-eq1}
+use Rattle.conservative_columns.proofs.start_due.Goals.{else-columns-at-eq1, then-columns-at-eq1}
 use Rattle.conservative_columns.proofs.start_due.Goals as goal
 
 -- the place that is looked at
@@ -19,17 +23,24 @@ room c =
     omega (arith, low c, few_started q (c.loop-at.invariant.0 q))
 
 -- this place has been looked at too
-one_more : (c : Joined-states-at-eq1) → (q : Starting c.args.tickets.now c.args.states.now c.args.holds.now c.args.dues.now c.args.starts.now c.args.live c.args.starting c.args.minute
-    c.args.cleanup)
-    → Starts q (c.loop-at.at + 1) c.if-states-at-eq1.n c.if-states-at-eq1.states c.if-states-at-eq1.dues c.if-states-at-eq1.starts c.if-states-at-eq1.started
+one_more : (c : Joined-columns-at-eq1) → (q : StartingIn c.args.columns.now c.args.holds.now c.args.live c.args.starting c.args.minute c.args.cleanup)
+    → Starts q (c.loop-at.at + 1) c.if-columns-at-eq1.n c.if-columns-at-eq1.columns.states c.if-columns-at-eq1.columns.dues c.if-columns-at-eq1.columns.starts c.if-columns-at-eq1.started
 one_more c q =
     let l = c.loop-at in
     let v = l.invariant.0 q in
     let t = c.loop-at-test.true in
-    elim c.if-states-at-eq1.branch [
-      | then-states-at-eq1 w ↦ rw (w.states-is, w.dues-is, w.starts-is, w.started-is, w.n-is)
-          (starts_now q v t w.if-states-at-eq1.true (l.invariant.1 t) (w.begin.ensures _ _ _ _ _ _ _ _ v.columns t (run_there q v t)))
-      | else-states-at-eq1 w ↦ rw (w.states-is, w.dues-is, w.starts-is, w.started-is, w.n-is) (starts_past q v t w.if-states-at-eq1.false)
+    elim c.if-columns-at-eq1.branch [
+      | then-columns-at-eq1 w ↦ rw (w.columns-is, w.started-is, w.n-is, ap (λ (x : Columns). x.tickets) l.invariant.2)
+          (starts_now q v t w.if-columns-at-eq1.true (l.invariant.1 t) (w.begin.ensures.begun _ _ _ _ _ _ _ _ v.columns t (run_there q v t)))
+      | else-columns-at-eq1 w ↦ rw (w.columns-is, w.started-is, w.n-is) (starts_past q v t w.if-columns-at-eq1.false)
+    ]
+
+retimed : (c : Joined-columns-at-eq1) → Retimed c.args.columns.now c.if-columns-at-eq1.columns
+retimed c =
+    let e = c.loop-at.invariant.2 in
+    elim c.if-columns-at-eq1.branch [
+      | then-columns-at-eq1 w ↦ rw w.columns-is (retimed_on c.args.columns.now c.loop-at.columns w.begin.new.self e w.begin.ensures.retimed)
+      | else-columns-at-eq1 w ↦ rw w.columns-is e
     ]
 
 pub first_due-at-requires : goal.first_due-at-requires
@@ -38,7 +49,7 @@ first_due-at-requires c = (omega arith, c.requires.0.few)
 pub loop-at-init : goal.loop-at-init
 loop-at-init c =
     let f = c.first_due-at.ensures in
-    (λ q. starts_next q (starts_begin q _ c.requires.1) f, f.here)
+    (λ q. starts_next q (starts_begin q _ c.requires.1) f, f.here, refl)
 
 pub overflow_sub-holds : goal.overflow_sub-holds
 overflow_sub-holds c =
@@ -60,25 +71,19 @@ loop-at-smaller c = omega (arith, c.first_due-at-in-loop-at.ensures.from_to, c.l
 pub loop-at-preserved : goal.loop-at-preserved
 loop-at-preserved c =
     let f = c.first_due-at-in-loop-at.ensures in
-    (λ q. starts_next q (one_more (goal.at.loop-at-preserved c).Joined-states-at-eq1 q) f, f.here)
+    (λ q. starts_next q (one_more (goal.at.loop-at-preserved c).Joined-columns-at-eq1 q) f, f.here, retimed (goal.at.loop-at-preserved c).Joined-columns-at-eq1)
 
 pub returns-then-starting-eq0 : goal.returns-then-starting-eq0
-returns-then-starting-eq0 c = λ q. starts_nobody q c.if-starting-eq0.true _ c.requires.1
+returns-then-starting-eq0 c = record { started = λ q. starts_nobody q c.if-starting-eq0.true _ c.requires.1; retimed = refl }
 
 pub returns : goal.returns
-returns c = λ q. starts_end q (c.loop-at.invariant.0 q) c.loop-at-test.false
+returns c = record { started = λ q. starts_end q (c.loop-at.invariant.0 q) c.loop-at-test.false; retimed = c.loop-at.invariant.2 }
 
-pub offset_bounds-states-at : goal.offset_bounds-states-at
-offset_bounds-states-at c = omega (arith, low c)
+pub offset_bounds-columns-at : goal.offset_bounds-columns-at
+offset_bounds-columns-at c = omega (arith, low c)
 
-pub bounds-states-at : goal.bounds-states-at
-bounds-states-at c = low (goal.at.bounds-states-at c).In-loop-at
-
-pub offset_bounds-tickets-at : goal.offset_bounds-tickets-at
-offset_bounds-tickets-at c = omega (arith, low (goal.at.offset_bounds-tickets-at c).In-loop-at)
-
-pub bounds-tickets-at : goal.bounds-tickets-at
-bounds-tickets-at c = low (goal.at.bounds-tickets-at c).In-loop-at
+pub bounds-columns-at : goal.bounds-columns-at
+bounds-columns-at c = low (goal.at.bounds-columns-at c).In-loop-at
 
 pub offset_bounds-started-n : goal.offset_bounds-started-n
 offset_bounds-started-n c = omega (arith, room (goal.at.offset_bounds-started-n c).In-loop-at)

@@ -10,43 +10,36 @@ use Rattle.scheduler.specs.Answers.{accepts, refuse}
 use Rattle.job_table.specs.Parts.{shared_refusal}
 use Rattle.conservative_rules.specs.Conservative.{planned}
 use Rattle.conservative.specs.Submit.{submit_checked, submit_past, planned_within}
-use Rattle.conservative_columns.specs.ConservativeColumns.{KeptColumns, few_live, refused_answer_lem}
-use Rattle.conservative_columns.specs.Submit.{Admits, judged, sought_from, sought_start}
-use Rattle.conservative_columns.proofs.submit.Goals.{After-hold_time-hold, After-search-found, After-submit_refusal-why, Else-not-is_none, Else-start-hold-gt-HORIZON, Start}
+use Rattle.conservative_columns.specs.Held.{KeptIn, AdmitsIn}
+use Rattle.conservative_columns.specs.ConservativeColumns.{few_live, refused_answer_lem}
+use Rattle.conservative_columns.specs.Submit.{judged, sought_from, sought_start}
+use Rattle.conservative_columns.proofs.submit.Goals.{After-hold_time-hold, After-search-found, After-submit_refusal-why, Else-not-is_none, Else-start-hold-gt-HORIZON}
 use Rattle.conservative_columns.proofs.submit.Goals as goal
 
--- the premise, as it is at the entry
-abbrev Kept : Start → Type 0
-Kept s =
-    let a = s.args in
-    KeptColumns a.settings a.clock a.next a.tickets.now a.nodes.now a.states.now a.dues.now a.starts.now a.tenants.now
-    a.estimates.now a.leasts.now a.holds.now a.promises.now a.minutes.now a.free.now a.low.now a.high.now a.live a.count
-
 -- the tests that both kinds share
-why-is : (c : After-submit_refusal-why) (k : Kept c.before.before.before) → c.submit_refusal-why.result ≡ shared_refusal k.model c.args.s
+why-is : (c : After-submit_refusal-why) (k : let a = c.args in KeptIn a.settings a.clock a.next a.columns.now a.promised.now a.profile.now a.live a.count) → c.submit_refusal-why.result ≡ shared_refusal k.model c.args.s
 why-is c k =
     c.submit_refusal-why.ensures
     ∙ judged k c.args.s c.quota.result c.live_of-own.result c.quota.ensures
     (c.live_of-own.ensures k.model.jobs k.columns.core.tenants_are k.columns.core.live_is)
 
-passed : (c : Else-not-is_none) (k : Kept c.before.before.before.before.before) → accepts (shared_refusal k.model c.args.s) ≡ true
+passed : (c : Else-not-is_none) (k : let a = c.args in KeptIn a.settings a.clock a.next a.columns.now a.promised.now a.profile.now a.live a.count) → accepts (shared_refusal k.model c.args.s) ≡ true
 passed c k =
     ap accepts (sym (why-is c.before.before k)) ∙ sym c.is_none.ensures ∙ c.if-not-is_none.false
 
-hold_is : (c : After-hold_time-hold) (k : Kept c.before.before.before.before.before.before) → c.hold_time-hold.result ≡ hold_time k.model.settings c.args.s.estimate
+hold_is : (c : After-hold_time-hold) (k : let a = c.args in KeptIn a.settings a.clock a.next a.columns.now a.promised.now a.profile.now a.live a.count) → c.hold_time-hold.result ≡ hold_time k.model.settings c.args.s.estimate
 hold_is c k = c.hold_time-hold.ensures ∙ ap (λ (S : Settings). hold_time S c.args.s.estimate) k.settings_is
 
-start_is : (c : After-search-found) (k : Kept c.before.before.before.before.before.before.before) → c.search-found.result.minute ≡ planned k.model c.args.s
-start_is c k =
-    sought_start k c.args.s (passed c.before.before k) c.hold_time-hold.result (hold_is c.before k) c.search-found.ensures
+start_is : (c : After-search-found) (k : let a = c.args in KeptIn a.settings a.clock a.next a.columns.now a.promised.now a.profile.now a.live a.count) → accepts (shared_refusal k.model c.args.s) ≡ true
+    → c.hold_time-hold.result ≡ hold_time k.model.settings c.args.s.estimate → c.search-found.result.minute ≡ planned k.model c.args.s
+start_is c k p h = sought_start k c.args.s p c.hold_time-hold.result h c.search-found.ensures
 
 -- it is taken in
-admits : (c : Else-start-hold-gt-HORIZON) (k : Kept c.before.before.before.before.before.before.before.before) → let a = c.args in
-    Admits a.settings a.clock a.next a.tickets.now a.nodes.now a.states.now a.dues.now a.starts.now a.tenants.now
-    a.estimates.now a.leasts.now a.holds.now a.promises.now a.minutes.now a.free.now a.low.now a.high.now a.live a.count
-    a.s c.search-found.result.minute c.hold_time-hold.result
-admits c k =
-    record { kept = k; shared = passed c.before.before.before k; start_is = start_is c.before k; hold_is = hold_is c.before.before k; within = c.if-start-hold-gt-HORIZON.false }
+admits : (c : Else-start-hold-gt-HORIZON) (k : let a = c.args in KeptIn a.settings a.clock a.next a.columns.now a.promised.now a.profile.now a.live a.count) → accepts (shared_refusal k.model c.args.s) ≡ true
+    → c.hold_time-hold.result ≡ hold_time k.model.settings c.args.s.estimate
+    → let a = c.args in
+    AdmitsIn a.settings a.clock a.next a.columns.now a.promised.now a.profile.now a.live a.count a.s c.search-found.result.minute c.hold_time-hold.result
+admits c k p h = record { kept = k; shared = p; start_is = start_is c.before k p h; hold_is = h; within = c.if-start-hold-gt-HORIZON.false }
 
 -- a test refuses it
 pub returns-then-not-is_none : goal.returns-then-not-is_none
@@ -61,15 +54,18 @@ returns-then-not-is_none c =
 pub search-found-requires : goal.search-found-requires
 search-found-requires c =
     let k = c.requires.0 in
-    sought_from k c.args.s (passed (goal.at.search-found-requires c).Else-not-is_none k) c.hold_time-hold.result (hold_is c k)
+    let at = goal.at.search-found-requires c in
+    sought_from k c.args.s (passed at.Else-not-is_none k) c.hold_time-hold.result (hold_is at.After-hold_time-hold k)
 
 pub overflow_add-start : goal.overflow_add-start
 overflow_add-start c =
     let k = c.requires.0 in
+    let at = goal.at.overflow_add-start c in
+    let h = hold_is at.After-hold_time-hold k in
     omega (
       arith,
-      start_is c k,
-      hold_is (goal.at.overflow_add-start c).After-hold_time-hold k,
+      start_is at.After-search-found k (passed at.Else-not-is_none k) h,
+      h,
       planned_within k.model c.args.s k.valid.sound,
       hold_le k.model.settings c.args.s.estimate,
     )
@@ -77,18 +73,25 @@ overflow_add-start c =
 -- it would end past the last minute
 pub returns-then-start-hold-gt-HORIZON : goal.returns-then-start-hold-gt-HORIZON
 returns-then-start-hold-gt-HORIZON c =
+    let at = goal.at.returns-then-start-hold-gt-HORIZON c in
     λ k ended whole.
+    let p = passed at.Else-not-is_none k in
+    let h = hold_is at.After-hold_time-hold k in
     rw c.refused-then-start-hold-gt-HORIZON.ensures
     (refused_answer_lem k _ _ ended c.args.started.now whole c.requires.1
-    (submit_past k.model c.args.s k.valid.sound (passed (goal.at.returns-then-start-hold-gt-HORIZON c).Else-not-is_none k)
-    (omega (arith, start_is (goal.at.returns-then-start-hold-gt-HORIZON c).After-search-found k, hold_is (goal.at.returns-then-start-hold-gt-HORIZON c).After-hold_time-hold k, c.if-start-hold-gt-HORIZON.true))))
+    (submit_past k.model c.args.s k.valid.sound p (omega (arith, start_is at.After-search-found k p h, h, c.if-start-hold-gt-HORIZON.true))))
 
 pub admit-requires : goal.admit-requires
-admit-requires c = (admits (goal.at.admit-requires c).Else-start-hold-gt-HORIZON c.requires.0, c.requires.1)
+admit-requires c =
+    let k = c.requires.0 in
+    let at = goal.at.admit-requires c in
+    (admits at.Else-start-hold-gt-HORIZON k (passed at.Else-not-is_none k) (hold_is at.After-hold_time-hold k), c.requires.1)
 
 pub returns : goal.returns
 unfolding admits
-returns c = λ k ended whole. c.admit.ensures (admits (goal.at.returns c).Else-start-hold-gt-HORIZON k) ended whole
+returns c =
+    let at = goal.at.returns c in
+    λ k. c.admit.ensures (admits at.Else-start-hold-gt-HORIZON k (passed at.Else-not-is_none k) (hold_is at.After-hold_time-hold k))
 
 pub live_of-own-requires : goal.live_of-own-requires
 live_of-own-requires c = few_live c.requires.0

@@ -44,7 +44,7 @@ returns c =
     let h = c.if-clock-ge-HORIZON.false in
     let q = c.cleanup-cleanup.ensures in
     let v = c.expire-e.ensures (minute_columns_of k h refl q) in (
-      ticked_answer k h refl q v c.shift_own.ensures.0 c.shift_own.ensures.1
-          (c.start_due-begun.ensures (starting k h refl q v c.shift_own.ensures.0 c.shift_own.ensures.1)) c.advance-n.ensures,
+      rw c.start_due-begun.ensures.retimed (ticked_answer k h refl q v c.shift_own.ensures.0 c.shift_own.ensures.1
+          (c.start_due-begun.ensures.started (starting k h refl q v c.shift_own.ensures.0 c.shift_own.ensures.1)) c.advance-n.ensures),
       v.gone_whole,
     )

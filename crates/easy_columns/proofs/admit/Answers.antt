@@ -8,7 +8,8 @@ use Rattle.lists.specs.Lists.{keep}
 use Rattle.scheduler.specs.Limits.{slots}
 use Rattle.scheduler.specs.Jobs.{is_waiting}
 use Rattle.easy_laws.specs.Validity.{latest_end}
-use Rattle.easy_columns.specs.EasySubmit.{Admits, few_wait, latest_is, latest_low, settled_core, admit_refused, admit_room, admit_next, admitted, admit_before, admit_gives}
+use Rattle.easy_columns.specs.Held.{AdmitsIn}
+use Rattle.easy_columns.specs.EasySubmit.{few_wait, latest_is, latest_low, settled_core, admit_refused, admit_room, admit_next, admitted, admit_before, admit_gives}
 use Rattle.easy_columns.proofs.admit.Goals.{After-hold_time, After-unit, After-waiting-waits, Else-latest-gt-HORIZON, Start}
 use Rattle.easy_columns.proofs.admit.Goals as goal
 
@@ -18,10 +19,7 @@ module _ (c : After-waiting-waits) where
   s = c.before
 
   abbrev A : Type 0
-  A = Admits s.args.tickets.now s.args.nodes.now s.args.states.now s.args.dues.now s.args.starts.now s.args.tenants.now
-      s.args.estimates.now s.args.leasts.now s.args.asked.now s.args.submitted.now s.args.ranks.now s.args.forecasts.now
-      s.args.held.now s.args.ends.now s.args.holders.now s.args.started.now s.args.live s.args.holding s.args.spare
-      s.args.clock s.args.next s.args.settings s.args.s
+  A = AdmitsIn s.args.columns.now s.args.queue.now s.args.occupancy.now s.args.started.now s.args.live s.args.holding s.args.spare s.args.clock s.args.next s.args.settings s.args.s
 
   waits : (a : A) → c.waiting-waits.result ≡ length (keep is_waiting a.kept.model.jobs)
   waits a = c.waiting-waits.ensures a.kept.model.jobs a.kept.columns.core.states_are a.kept.columns.core.live_is
@@ -106,6 +104,6 @@ returns c =
     λ a ended e.
     let q = c.enter.ensures a.kept.model.jobs (settled_core a.kept) a.kept.columns.queue in
     let l = c.if-latest-gt-HORIZON.false in
-    admit_gives a (w (goal.at.returns c).After-hold_time).waiting-waits.result (waits (w (goal.at.returns c).After-hold_time) a) _ (latest (goal.at.returns c).After-hold_time a) l q.0 q.1 e
-    (c.finish.ensures (admitted a (w (goal.at.returns c).After-hold_time).waiting-waits.result (waits (w (goal.at.returns c).After-hold_time) a) _ (latest (goal.at.returns c).After-hold_time a) l q.0 q.1) a.kept.model
-    (admit_before a (w (goal.at.returns c).After-hold_time).waiting-waits.result (waits (w (goal.at.returns c).After-hold_time) a) _ (latest (goal.at.returns c).After-hold_time a) l q.0 q.1))
+    rw (c.finish.ensures.retimed, c.finish.ensures.reasked) (admit_gives a (w (goal.at.returns c).After-hold_time).waiting-waits.result (waits (w (goal.at.returns c).After-hold_time) a) _ (latest (goal.at.returns c).After-hold_time a) l q.0 q.1 e
+    (c.finish.ensures.finishes (admitted a (w (goal.at.returns c).After-hold_time).waiting-waits.result (waits (w (goal.at.returns c).After-hold_time) a) _ (latest (goal.at.returns c).After-hold_time a) l q.0 q.1) a.kept.model
+    (admit_before a (w (goal.at.returns c).After-hold_time).waiting-waits.result (waits (w (goal.at.returns c).After-hold_time) a) _ (latest (goal.at.returns c).After-hold_time a) l q.0 q.1)))

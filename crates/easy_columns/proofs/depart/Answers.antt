@@ -39,12 +39,12 @@ finish-requires c =
 pub returns-then-is_none : goal.returns-then-is_none
 returns-then-is_none c =
     λ k. let l = c.leave-left.ensures (sound_columns k) in (
-      depart_gives k l (taken (goal.at.returns-then-is_none c).Then-is_none)
-          (c.finish.ensures
+      rw (c.finish.ensures.retimed, c.finish.ensures.reasked) (depart_gives k l (taken (goal.at.returns-then-is_none c).Then-is_none)
+          (c.finish.ensures.finishes
           (departed k l (taken (goal.at.returns-then-is_none c).Then-is_none)
           (c.close_up.ensures k.model.settings (select.Departing c.args.how c.args.ticket) k.model.jobs k.model.clock
           (gone_are k l (taken (goal.at.returns-then-is_none c).Then-is_none)) k.columns.core.live_is k.columns.queue)
-          (c.give_back-kept.ensures (leaver k l (taken (goal.at.returns-then-is_none c).Then-is_none) _ c.cleanup.ensures)) c.requires.3) k.model (depart_before k l (taken (goal.at.returns-then-is_none c).Then-is_none))),
+          (c.give_back-kept.ensures (leaver k l (taken (goal.at.returns-then-is_none c).Then-is_none) _ c.cleanup.ensures)) c.requires.3) k.model (depart_before k l (taken (goal.at.returns-then-is_none c).Then-is_none)))),
       l.gone_whole,
     )
 

@@ -1,6 +1,8 @@
 -- `easy_columns::settle` meets its contract: the engine settles by slot, the starts are written, and a new head keeps its forecast.
 -- Assumes nothing.
 use native.Mathlib.Omega.{arith}
+use mathlib.Core.Path.{refl, ap}
+use Rattle.job_columns.specs.declared.Columns.{Columns}
 use Rattle.easy_engine.specs.Shadows.{holding_few}
 use Rattle.easy_columns.specs.Finishing.{survey, starting, forecasts_kept, tickets_kept, live_kept, heard, head_told, minute_told, settled_asc, settled_finished}
 use Rattle.easy_columns.proofs.settle.Goals as goal
@@ -25,9 +27,14 @@ overflow_add-result c =
 
 pub returns : goal.returns
 returns c =
-    λ u b q.
-    let a = c.settle_slots-s.ensures (survey u) in
-    let v = c.write_starts.ensures (starting u a _ c.cleanup.ensures) in
-    settled_finished u a v b q _
-    (c.note_head.ensures _ _ (settled_asc u) (live_kept u a v) (tickets_kept u a v) (forecasts_kept u a v) (head_told u a b q)
-    (minute_told u a b q) (heard u a v b)) _ _ _
+    let w = c.write_starts.ensures in
+    record {
+      retimed = w.retimed;
+      reasked = refl;
+      finishes = λ u b q.
+          let a = c.settle_slots-s.ensures (survey u) in
+          let v = w.begun (starting u a _ c.cleanup.ensures) in
+          settled_finished u a v b q _
+          (c.note_head.ensures _ _ (settled_asc u) (live_kept u a v) (rw (ap (λ (x : Columns). x.tickets) w.retimed) (tickets_kept u a v)) (forecasts_kept u a v) (head_told u a b q)
+          (minute_told u a b q) (heard u a v b)) _ _ _;
+    }

@@ -3,7 +3,7 @@
 use native.Mathlib.Omega.{arith}
 use mathlib.Core.Path.{◌≡◌, sym, ◌∙◌}
 use Rattle.job_table.specs.Parts.{shared_refusal}
-use Rattle.easy_columns.specs.EasyCalls.{Kept}
+use Rattle.easy_columns.specs.Held.{KeptIn}
 use Rattle.easy_columns.specs.EasySubmit.{shared_judged, submit_refused, submit_admits}
 use Rattle.easy_columns.proofs.submit.Goals.{After-submit_refusal-why, Start}
 use Rattle.easy_columns.proofs.submit.Goals as goal
@@ -13,10 +13,7 @@ module _ (c : After-submit_refusal-why) where
   s = c.before.before.before
 
   abbrev K : Type 0
-  K = Kept s.args.tickets.now s.args.nodes.now s.args.states.now s.args.dues.now s.args.starts.now s.args.tenants.now
-      s.args.estimates.now s.args.leasts.now s.args.asked.now s.args.submitted.now s.args.ranks.now s.args.forecasts.now
-      s.args.held.now s.args.ends.now s.args.holders.now s.args.live s.args.holding s.args.spare s.args.clock s.args.next
-      s.args.settings
+  K = KeptIn s.args.columns.now s.args.queue.now s.args.occupancy.now s.args.live s.args.holding s.args.spare s.args.clock s.args.next s.args.settings
 
   judged : (k : K) → c.submit_refusal-why.result ≡ shared_refusal k.model s.args.s
   judged k =

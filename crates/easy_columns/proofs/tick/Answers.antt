@@ -40,11 +40,11 @@ pub returns : goal.returns
 returns c =
     let l = c.if-clock-ge-HORIZON.false in
     λ k. let x = c.expire-over.ensures (minute_columns_of k l _ c.cleanup.ensures) in (
-      tick_gives k l x
-          (c.finish.ensures
+      rw (c.finish.ensures.retimed, c.finish.ensures.reasked) (tick_gives k l x
+          (c.finish.ensures.finishes
           (ticked k l x
           (c.close_up.ensures k.model.settings (ending k.model) k.model.jobs (suc k.model.clock) x.gone_are k.columns.core.live_is
           k.columns.queue)
-          (holders_left k l (c.release-kept.ensures (sift k l))) c.requires.3) k.model (tick_before k l x)),
+          (holders_left k l (c.release-kept.ensures (sift k l))) c.requires.3) k.model (tick_before k l x))),
       x.gone_whole,
     )

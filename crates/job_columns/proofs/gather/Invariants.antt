@@ -7,11 +7,11 @@ use Rattle.lists.specs.Pads.{pad}
 use Rattle.scheduler.specs.Limits.{slots}
 use Rattle.scheduler.specs.Jobs.{unused}
 use Rattle.scheduler.specs.Settings.{cleanup as cleanupOf}
-use Rattle.job_columns.specs.Gathering.{SchedulerColumns}
+use Rattle.job_columns.specs.Held.{ColumnsOfScheduler}
 use Rattle.job_columns.proofs.gather.Given as goal
 
 abbrev pub invariant-loop-i : goal.invariant-loop-i
 invariant-loop-i l =
     (l.i ≤ l.live) × (l.live ≤ slots) × (l.cleanup ≡ cleanupOf l.settings)
-    × ((k : SchedulerColumns l.settings l.clock l.next l.tickets l.nodes l.states l.dues l.starts l.tenants l.estimates l.leasts l.promises l.submitted l.ranks l.forecasts l.live)
+    × ((k : ColumnsOfScheduler l.settings l.clock l.next l.columns l.promises l.submitted l.ranks l.forecasts l.live)
     → l.jobs ≡ pad slots unused (take l.i k.model.jobs))

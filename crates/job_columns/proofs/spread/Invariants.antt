@@ -3,10 +3,10 @@
 use Prim.Native.Nat.{◌≤◌}
 use lib.ListN.{length, take}
 use Rattle.scheduler.specs.Model.{view}
-use Rattle.job_columns.specs.JobColumns.{AllColumns}
+use Rattle.job_columns.specs.Held.{FieldsOf}
 use Rattle.job_columns.proofs.spread.Given as goal
 
 abbrev pub invariant-loop-i : goal.invariant-loop-i
 invariant-loop-i l =
-    (l.i ≤ length (view l.d).jobs) × AllColumns l.d.settings (take l.i (view l.d).jobs) l.tickets l.nodes l.states l.dues l.starts l.tenants l.estimates l.leasts l.promises
+    (l.i ≤ length (view l.d).jobs) × FieldsOf l.d.settings (take l.i (view l.d).jobs) l.columns l.promises
     l.submitted l.ranks l.forecasts l.i

@@ -1,8 +1,0 @@
--- `job_columns::append` meets its contract: each column gets the job's number.
--- Assumes nothing.
-use Rattle.job_columns.specs.ColumnChanges.{columns_joined}
-use Rattle.job_columns.proofs.append.Goals as goal
-
-pub returns : goal.returns
-returns c =
-    λ js k. columns_joined k c.args.j _ _ _ c.requires.0 c.state_number.ensures c.due.ensures c.tenant_number.ensures
