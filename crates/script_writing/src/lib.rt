@@ -1,7 +1,7 @@
 // The lines of an answer, written into a page of bytes.
 #![tactic(auto)]
 
-ghost use Rattle.std.specs.Prelude.{◌≡◌, [], ◌∷◌, ◌++◌, ◌+◌, ◌*◌, ◌≤◌, length, take};
+ghost use Rattle.std.specs.Prelude.{◌≡◌, [], ◌∷◌, ◌++◌, ◌+◌, ◌*◌, ◌≤◌, length};
 ghost use Rattle.text.specs.Numbers.{decimal_of};
 ghost use Rattle.scheduler.specs.Answers.{code};
 ghost use Rattle.script_rules.specs.Writing.{row, no_row, rows_of, promise_field};
@@ -28,10 +28,7 @@ pub fn page_len() -> usize
 fn promises(kind: Kind) -> bool
     ensures { result ≡ promises kind }
 {
-    match kind {
-        Kind::Conservative => true,
-        Kind::Easy => false,
-    }
+    matches!(kind, Kind::Conservative)
 }
 
 // Each writer writes at a place, where the page has room for the most that it writes, and gives back the place after what it wrote.
@@ -49,8 +46,7 @@ pub fn put_last(page: &mut [u8], at: usize, v: u32) -> usize
     ensures { Wrote 12 page.old at (and_field (decimal_of v) ++ (10 ∷ [])) page.new result }
 {
     let p = put_field(page, at, v);
-    let end = text::put_byte(page, p, NEWLINE);
-    end
+    text::put_byte(page, p, NEWLINE)
 }
 
 fn put_row(page: &mut [u8], at: usize, word: &[u8], a: u32, b: u32) -> usize
@@ -63,24 +59,15 @@ fn put_row(page: &mut [u8], at: usize, word: &[u8], a: u32, b: u32) -> usize
     put_last(page, q, b)
 }
 
-// A line for each of the first tickets of a list.
-fn put_rows(
-    page: &mut [u8],
-    at: usize,
-    word: &[u8],
-    minute: u32,
-    list: &[u32; 64],
-    count: usize,
-) -> usize
-    requires { (count ≤ 64) × (64 ≤ length list.now) × (at + (length word.now + 23) * count ≤ length page.old) }
-    ensures { Wrote ((length word.now + 23) * count)
-        page.old at (rows_of word.now minute (take count list.now)) page.new result }
+// A line for each ticket.
+fn put_rows(page: &mut [u8], at: usize, word: &[u8], minute: u32, tickets: &[u32]) -> usize
+    requires { at + (length word.now + 23) * length tickets.now ≤ length page.old }
+    ensures { Wrote ((length word.now + 23) * length tickets.now)
+        page.old at (rows_of word.now minute tickets.now) page.new result }
 {
     let mut p = at;
-    let mut i: usize = 0;
-    while i < count {
-        p = put_row(page, p, word, list[i], minute);
-        i += 1;
+    for &ticket in tickets {
+        p = put_row(page, p, word, ticket, minute);
     }
     p
 }
@@ -122,11 +109,11 @@ fn put_taken(page: &mut [u8], at: usize, kind: Kind, minute: u32, a: Answer) -> 
     requires { (a.ended.count ≤ 64) × (a.started.count ≤ 64) × (at + page_bytes ≤ length page.old) }
     ensures { Wrote page_bytes page.old at (taken_text kind minute a) page.new result }
 {
-    let ended = a.ended.count;
-    let started = a.started.count;
+    let ended = &a.ended.list[..a.ended.count];
+    let started = &a.started.list[..a.started.count];
     let p = put_took(page, at, kind, a.ticket, a.promise);
-    let q = put_rows(page, p, b"over", minute, &a.ended.list, ended);
-    let s = put_rows(page, q, b"start", minute, &a.started.list, started);
+    let q = put_rows(page, p, b"over", minute, ended);
+    let s = put_rows(page, q, b"start", minute, started);
     put_head(page, s, a.head, a.forecast)
 }
 
@@ -144,9 +131,8 @@ pub fn put_answer(page: &mut [u8], at: usize, kind: Kind, minute: u32, a: Answer
     requires { (a.ended.count ≤ 64) × (a.started.count ≤ 64) × (at + page_bytes ≤ length page.old) }
     ensures { Wrote page_bytes page.old at (answer_text kind minute a) page.new result }
 {
-    let refusal = a.refusal;
-    if refusal.is_none() {
+    if a.refusal.is_none() {
         return put_taken(page, at, kind, minute, a);
     }
-    put_refusal(page, at, refusal)
+    put_refusal(page, at, a.refusal)
 }

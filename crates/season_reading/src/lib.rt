@@ -6,6 +6,7 @@ ghost use Rattle.desk_lines.specs.DeskLine.{with_kind};
 ghost use Rattle.script_reading.specs.Meaning.{opens, follows, when_read};
 ghost use Rattle.season_rules.specs.Reading.{most_lines, opening_in};
 ghost use Rattle.season_rules.specs.Season.{arrival_refusal};
+ghost use Rattle.season_reading.specs.declared.Listed.TheVariants.{Malformed};
 ghost use Rattle.season_reading.specs.Meaning.{opening_of, Reads};
 ghost use Rattle.season_reading.specs.ArrivalFields.{Lists};
 
@@ -17,6 +18,7 @@ use text::Numbers;
 const MOST_LINES: usize = 4096;
 
 // What stands next in a list: an arrival, a line that lacks the form, or nothing.
+// Kept: three cases of one rank, of which `season_turns` asks one after the other: an `Option` of a `Result` is no plainer.
 #[derive(Clone, Copy)]
 pub enum Listed {
     Is(Arrival),
@@ -31,24 +33,22 @@ pub struct Ahead {
     pub next: usize,
 }
 
-fn opening(named: Option<Kind>, given: Numbers) -> Option<Opening>
-    ensures { opens result ≡ with_kind (follows named) (λ k. when_read 3 given (opening_of k)) }
+fn opening(kind: Option<Kind>, given: Numbers) -> Option<Opening>
+    ensures { opens result ≡ with_kind (follows kind) (λ k. when_read 3 given (opening_of k)) }
 {
-    let Some(k) = named else {
-        return None;
-    };
+    let kind = kind?;
     if given.count < 3 {
         return None;
     }
-    let v = given.values;
+    let [nodes, cleanup, longest, ..] = given.values;
     Some(Opening {
         settings: Settings {
-            kind: k,
-            nodes: v[0],
-            cleanup: v[1],
+            kind,
+            nodes,
+            cleanup,
             quota_a: 63,
             quota_b: 1,
-            longest: v[2],
+            longest,
         },
         minute: 0,
         ticket: 1,
@@ -62,10 +62,8 @@ pub fn read_settings(line: &[u8]) -> Option<Opening>
     if text::field_count(line) != 4 {
         return None;
     }
-    let word = text::field(line, 0);
-    let named = script_reading::read_kind(word);
-    let given = text::field_numbers(line, 1);
-    opening(named, given)
+    let kind = script_reading::read_kind(text::field(line, 0));
+    opening(kind, text::field_numbers(line, 1))
 }
 
 // What the fields of a line list, as far as they were read: up to a place of the line.
@@ -75,49 +73,44 @@ struct Row {
     end: usize,
 }
 
+impl Row {
+    fn malformed(end: usize) -> Row
+        ensures { result ≡ record { listed = Malformed; end = end } }
+    {
+        Row {
+            listed: Listed::Malformed,
+            end,
+        }
+    }
+}
+
 // The fields of the line at a place: four numbers.
 fn read_arrival(list: &[u8], at: usize) -> Row
     requires { at ≤ length list.now }
     ensures { Lists list.now at result }
 {
     let a = text::number_at(list, at);
-    let first = a.said;
-    let Some(minute) = first else {
-        return Row {
-            listed: Listed::Malformed,
-            end: a.end,
-        };
+    let Some(minute) = a.said else {
+        return Row::malformed(a.end);
     };
     let b = text::number_after(list, a.end);
-    let second = b.said;
-    let Some(nodes) = second else {
-        return Row {
-            listed: Listed::Malformed,
-            end: b.end,
-        };
+    let Some(nodes) = b.said else {
+        return Row::malformed(b.end);
     };
     let c = text::number_after(list, b.end);
-    let third = c.said;
-    let Some(estimate) = third else {
-        return Row {
-            listed: Listed::Malformed,
-            end: c.end,
-        };
+    let Some(estimate) = c.said else {
+        return Row::malformed(c.end);
     };
     let d = text::number_after(list, c.end);
-    let fourth = d.said;
-    let Some(actual) = fourth else {
-        return Row {
-            listed: Listed::Malformed,
-            end: d.end,
-        };
+    let Some(actual) = d.said else {
+        return Row::malformed(d.end);
     };
     Row {
         listed: Listed::Is(Arrival {
-            minute: minute,
-            nodes: nodes,
-            estimate: estimate,
-            actual: actual,
+            minute,
+            nodes,
+            estimate,
+            actual,
         }),
         end: d.end,
     }
@@ -127,10 +120,7 @@ fn read_arrival(list: &[u8], at: usize) -> Row
 pub fn one_more(above: usize) -> usize
     ensures { result ≡ min (suc above) most_lines }
 {
-    if above < MOST_LINES {
-        return above + 1;
-    }
-    MOST_LINES
+    above.saturating_add(1).min(MOST_LINES)
 }
 
 // The line at a place, with `above` lines of the list above it. A line with more fields lacks the form, and so does an unclosed one.
@@ -145,25 +135,20 @@ pub fn read_ahead(list: &[u8], at: usize, above: usize) -> Ahead
     }
     let row = read_arrival(list, at);
     let line = text::next_line(list, row.end);
-    let end = line.end;
     if !line.closed {
         return Ahead {
             listed: Listed::Malformed,
-            next: end,
+            next: line.end,
         };
     }
-    if above < MOST_LINES {
-        if end == row.end {
-            let listed = row.listed;
-            return Ahead {
-                listed: listed,
-                next: end + 1,
-            };
-        }
-    }
+    let listed = if above < MOST_LINES && line.end == row.end {
+        row.listed
+    } else {
+        Listed::Malformed
+    };
     Ahead {
-        listed: Listed::Malformed,
-        next: end + 1,
+        listed,
+        next: line.end + 1,
     }
 }
 

@@ -7,4 +7,4 @@ use Rattle.script_writing.proofs.put_last.Goals as goal
 
 pub returns : goal.returns
 returns c =
-    and_then c.put_field-p.ensures (wrote 1 _ _ (10 ∷ []) _ _ (omega arith) c.put_byte-end.ensures)
+    and_then c.put_field-p.ensures (wrote 1 _ _ (10 ∷ []) _ _ (omega arith) c.put_byte.ensures)

@@ -23,8 +23,8 @@ returns c =
     let line = c.args.line.now in
     rw (
       eq-eqb (length (fields_of line)) 4 (omega (arith, c.if-field_count-ne4.false, c.field_count.ensures)),
-      sym (ap kind_of c.field-word.ensures),
-      sym c.read_kind-named.ensures,
+      sym (ap kind_of c.field.ensures),
+      sym c.read_kind-kind.ensures,
     )
     (c.opening.ensures
-    ∙ (λ i. with_kind (follows c.read_kind-named.result) (λ k. with_read line 3 1 (opening_of k) (omega arith) c.field_numbers-given.ensures i)))
+    ∙ (λ i. with_kind (follows c.read_kind-kind.result) (λ k. with_read line 3 1 (opening_of k) (omega arith) c.field_numbers.ensures i)))
