@@ -26,9 +26,7 @@ pub fn begin(
     requires { Premise d × (length minutes.old ≡ rows) × (length free.old ≡ rows) × (length low.old ≡ 9) × (length high.old ≡ 9) }
     ensures { KeptBeside (view d) result minutes.new free.new low.new high.new }
 {
-    let settings = d.settings;
-    let kind = settings.kind;
-    match kind {
+    match d.settings.kind {
         Kind::Conservative => conservative_kept::begin(d, minutes, free, low, high),
         Kind::Easy => 0,
     }
@@ -68,13 +66,11 @@ pub fn call(
     ensures { (result.outcome ≡ outcome (call (view d) (asked request)))
         × KeptBeside (call (view d) (asked request)).model result.count minutes.new free.new low.new high.new }
 {
-    let settings = d.settings;
-    let kind = settings.kind;
-    match kind {
+    match d.settings.kind {
         Kind::Conservative => conservative_kept::call(d, request, minutes, free, low, high, count),
         Kind::Easy => Kept {
             outcome: easy::call(d, request),
-            count: count,
+            count,
         },
     }
 }

@@ -25,130 +25,86 @@ use spans::{Block, Point};
 use std::io::{self, Write};
 
 // These functions lend a scheduler, or a list, of their own, and hand back what was left there.
-fn lent_submit(d: Scheduler, s: Submission) -> Outcome
+fn lent_submit(mut d: Scheduler, s: Submission) -> Outcome
     requires { Premise d }
     ensures { Leaves d (calls.submit s) result.answer result.scheduler }
 {
-    let mut e = d;
-    let a = lent_calls::submit(&mut e, s);
+    let answer = lent_calls::submit(&mut d, s);
     Outcome {
-        answer: a,
-        scheduler: e,
+        answer,
+        scheduler: d,
     }
 }
 
-fn lent_complete(d: Scheduler, ticket: u32) -> Outcome
+fn lent_complete(mut d: Scheduler, ticket: u32) -> Outcome
     requires { Premise d }
     ensures { Leaves d (calls.complete ticket) result.answer result.scheduler }
 {
-    let mut e = d;
-    let a = lent_calls::complete(&mut e, ticket);
+    let answer = lent_calls::complete(&mut d, ticket);
     Outcome {
-        answer: a,
-        scheduler: e,
+        answer,
+        scheduler: d,
     }
 }
 
-fn lent_cancel(d: Scheduler, ticket: u32) -> Outcome
+fn lent_cancel(mut d: Scheduler, ticket: u32) -> Outcome
     requires { Premise d }
     ensures { Leaves d (calls.cancel ticket) result.answer result.scheduler }
 {
-    let mut e = d;
-    let a = lent_calls::cancel(&mut e, ticket);
+    let answer = lent_calls::cancel(&mut d, ticket);
     Outcome {
-        answer: a,
-        scheduler: e,
+        answer,
+        scheduler: d,
     }
 }
 
-fn lent_amend(d: Scheduler, a: Amendment) -> Outcome
+fn lent_amend(mut d: Scheduler, a: Amendment) -> Outcome
     requires { Premise d }
     ensures { LeavesAmended d a result.answer result.scheduler }
 {
-    let mut e = d;
-    let answer = lent_calls::amend(&mut e, a);
+    let answer = lent_calls::amend(&mut d, a);
     Outcome {
-        answer: answer,
-        scheduler: e,
+        answer,
+        scheduler: d,
     }
 }
 
-fn lent_tick(d: Scheduler) -> Outcome
+fn lent_tick(mut d: Scheduler) -> Outcome
     requires { Premise d }
     ensures { Leaves d calls.tick result.answer result.scheduler }
 {
-    let mut e = d;
-    let a = lent_calls::tick(&mut e);
+    let answer = lent_calls::tick(&mut d);
     Outcome {
-        answer: a,
-        scheduler: e,
+        answer,
+        scheduler: d,
     }
 }
 
-fn lent_advance(d: Scheduler, minutes: u32) -> AdvanceOutcome
+fn lent_advance(mut d: Scheduler, minutes: u32) -> AdvanceOutcome
     requires { Premise d }
     ensures { LeavesAdvanced d minutes result.answer result.scheduler }
 {
-    let mut e = d;
-    let a = lent_calls::advance(&mut e, minutes);
+    let answer = lent_calls::advance(&mut d, minutes);
     AdvanceOutcome {
-        answer: a,
-        scheduler: e,
+        answer,
+        scheduler: d,
     }
 }
 
-#[derive(Clone, Copy)]
-pub struct ListOfNone {
-    pub answer: Shown,
-    pub points: [Point; 0],
-}
-
-fn into_none(d: Scheduler, points: [Point; 0]) -> ListOfNone
+fn lent_profile<const N: usize>(d: Scheduler, mut points: [Point; N]) -> (Shown, [Point; N])
     requires { Premise d }
-    ensures { ShowsPoints d points result.answer result.points }
+    ensures { ShowsPoints d points.entry result.0 result.1 }
 {
-    let mut list = points;
-    let a = lent_calls::profile(&d, &mut list);
-    ListOfNone {
-        answer: a,
-        points: list,
-    }
+    let shown = lent_calls::profile(&d, &mut points);
+    (shown, points)
 }
 
-#[derive(Clone, Copy)]
-pub struct ListOfFour {
-    pub answer: Shown,
-    pub points: [Point; 4],
-}
-
-fn into_four(d: Scheduler, points: [Point; 4]) -> ListOfFour
+fn lent_index<const N: usize>(d: Scheduler, mut blocks: [Block; N]) -> (Shown, [Block; N])
     requires { Premise d }
-    ensures { ShowsPoints d points result.answer result.points }
+    ensures { ShowsBlocks d blocks.entry result.0 result.1 }
 {
-    let mut list = points;
-    let a = lent_calls::profile(&d, &mut list);
-    ListOfFour {
-        answer: a,
-        points: list,
-    }
-}
-
-#[derive(Clone, Copy)]
-pub struct ListOfTwo {
-    pub answer: Shown,
-    pub blocks: [Block; 2],
-}
-
-fn into_two(d: Scheduler, blocks: [Block; 2]) -> ListOfTwo
-    requires { Premise d }
-    ensures { ShowsBlocks d blocks result.answer result.blocks }
-{
-    let mut list = blocks;
-    let a = lent_calls::index(&d, &mut list);
-    ListOfTwo {
-        answer: a,
-        blocks: list,
-    }
+    let shown = lent_calls::index(&d, &mut blocks);
+    (shown, blocks)
 }
 
 fn lent_page(d: Scheduler, page: &mut [u8]) -> Shown
@@ -172,24 +128,22 @@ fn lent_why(d: Scheduler, text: &mut [u8]) -> Shown
     lent_calls::why(&d, text)
 }
 
-fn lent_restore(d: Scheduler, text: &[u8]) -> Opened
+fn lent_restore(mut d: Scheduler, text: &[u8]) -> Opened
     ensures { Restores text.now result.refusal result.scheduler }
 {
-    let mut e = d;
-    let a = lent_calls::restore(&mut e, text);
+    let refusal = lent_calls::restore(&mut d, text);
     Opened {
-        refusal: a,
-        scheduler: e,
+        refusal,
+        scheduler: d,
     }
 }
 
-fn lent_migrate(d: Scheduler) -> Scheduler
+fn lent_migrate(mut d: Scheduler) -> Scheduler
     requires { Premise d }
     ensures { Migrates d result }
 {
-    let mut e = d;
-    lent_calls::migrate(&mut e);
-    e
+    lent_calls::migrate(&mut d);
+    d
 }
 
 // What cannot be written is passed over.
@@ -215,8 +169,7 @@ fn print_tickets(rt: &impl Print, t: Tickets) {
 // Clock after the call, refusal, ticket, promise and points read; the tickets ended; those started; head and forecast.
 fn print_answer(rt: &impl Print, clock: u32, a: Answer) {
     print(rt, clock);
-    let why = a.refusal;
-    print(rt, why.code());
+    print(rt, a.refusal.code());
     print(rt, a.ticket);
     print(rt, a.promise);
     print(rt, a.reads);
@@ -235,9 +188,9 @@ fn submit(rt: &impl Print, d: Scheduler, nodes: u32, estimate: u32, tenant: Tena
     ensures { Premise result }
 {
     let s = Submission {
-        nodes: nodes,
-        estimate: estimate,
-        tenant: tenant,
+        nodes,
+        estimate,
+        tenant,
         least: 0,
     };
     let o = lent_submit(d, s);
@@ -252,10 +205,8 @@ fn submit_many(rt: &impl Print, d: Scheduler, from: u32, to: u32) -> Scheduler
     ensures { Premise result }
 {
     let mut e = d;
-    let mut i = from;
-    while i < to {
+    for i in from..to {
         e = submit(rt, e, 1 + 5 * i % 23, 5 + 55 * i % 115, Tenant::A);
-        i += 1;
     }
     e
 }
@@ -285,10 +236,10 @@ fn amend(rt: &impl Print, d: Scheduler, ticket: u32, nodes: u32, least: u32, mos
     ensures { Premise result }
 {
     let a = Amendment {
-        ticket: ticket,
-        nodes: nodes,
+        ticket,
+        nodes,
         estimate: most,
-        least: least,
+        least,
     };
     let o = lent_amend(d, a);
     let e = o.scheduler;
@@ -320,8 +271,7 @@ fn advance(rt: &impl Print, d: Scheduler, minutes: u32) -> Scheduler
 }
 
 fn print_shown(rt: &impl Print, r: Shown) {
-    let why = r.refusal;
-    print(rt, why.code());
+    print(rt, r.refusal.code());
     print_count(rt, r.count);
 }
 
@@ -335,15 +285,13 @@ fn show(rt: &impl Print, d: Scheduler)
     requires { Premise d }
 {
     let nine = Point { minute: 9, free: 9 };
-    let none = into_none(d, [nine; 0]);
-    print_shown(rt, none.answer);
-    let four = into_four(d, [nine; 4]);
-    print_shown(rt, four.answer);
-    let list = four.points;
-    print_point(rt, list[0]);
-    print_point(rt, list[1]);
-    print_point(rt, list[2]);
-    print_point(rt, list[3]);
+    let (none, _) = lent_profile(d, [nine; 0]);
+    print_shown(rt, none);
+    let (shown, four) = lent_profile(d, [nine; 4]);
+    print_shown(rt, shown);
+    for point in four {
+        print_point(rt, point);
+    }
     put(rt, b"\n");
 }
 
@@ -359,11 +307,11 @@ fn index(rt: &impl Print, d: Scheduler)
     let none = calls::index(d, 0);
     print_shown(rt, none.answer);
     let nine = Block { fewest: 9, most: 9 };
-    let two = into_two(d, [nine; 2]);
-    print_shown(rt, two.answer);
-    let list = two.blocks;
-    print_block(rt, list[0]);
-    print_block(rt, list[1]);
+    let (shown, two) = lent_index(d, [nine; 2]);
+    print_shown(rt, shown);
+    for block in two {
+        print_block(rt, block);
+    }
     put(rt, b"\n");
 }
 
@@ -375,10 +323,9 @@ fn blocks(rt: &impl Print, d: Scheduler)
     print_shown(rt, points.answer);
     let whole = calls::index(d, 9);
     print_shown(rt, whole.answer);
-    let list = whole.blocks;
-    print_block(rt, list[0]);
-    print_block(rt, list[1]);
-    print_block(rt, list[2]);
+    for &block in &whole.items[..3] {
+        print_block(rt, block);
+    }
     put(rt, b"\n");
 }
 
@@ -387,8 +334,7 @@ fn earliest(rt: &impl Print, d: Scheduler, ticket: u32)
     requires { Premise d }
 {
     let e = calls::earliest_start(d, ticket);
-    let why = e.refusal;
-    print(rt, why.code());
+    print(rt, e.refusal.code());
     print(rt, e.minute);
     put(rt, b"\n");
 }
@@ -398,28 +344,19 @@ fn longest(rt: &impl Print, d: Scheduler, nodes: u32, tenant: Tenant, minute: u3
     requires { Premise d }
 {
     let q = Inquiry {
-        nodes: nodes,
-        tenant: tenant,
-        minute: minute,
+        nodes,
+        tenant,
+        minute,
     };
     let l = calls::longest_estimate(d, q);
-    let why = l.refusal;
-    print(rt, why.code());
+    print(rt, l.refusal.code());
     print(rt, l.estimate);
     put(rt, b"\n");
 }
 
 // How many of its bytes are this one.
 fn count_of(page: &[u8], byte: u8) -> usize {
-    let mut n: usize = 0;
-    let mut i: usize = 0;
-    while i < page.len() {
-        if page[i] == byte {
-            n += 1;
-        }
-        i += 1;
-    }
-    n
+    page.iter().filter(|b| **b == byte).count()
 }
 
 // The refusal and the count of a call for a text. Then, of the bytes lent, how many are as they were, how many are line ends, and how many are
@@ -480,19 +417,16 @@ fn print_kind(rt: &impl Print, kind: Kind) {
     match kind {
         Kind::Conservative => put(rt, b"conservative "),
         Kind::Easy => put(rt, b"EASY "),
-    };
+    }
 }
 
 // The refusal, and the scheduler handed back: its kind, nodes, cleanup, quotas, longest estimate, clock, next ticket and number of live jobs.
 fn print_opened(rt: &impl Print, opened: Opened)
     requires { Holds Sound opened.scheduler }
 {
-    let why = opened.refusal;
-    print(rt, why.code());
+    print(rt, opened.refusal.code());
     let d = opened.scheduler;
-    let settings = d.settings;
-    let kind = settings.kind;
-    print_kind(rt, kind);
+    print_kind(rt, d.settings.kind);
     print(rt, d.settings.nodes);
     print(rt, d.settings.cleanup);
     print(rt, d.settings.quota_a);
@@ -643,14 +577,14 @@ fn open_up_to(
 {
     let opened = Scheduler::open(Opening {
         settings: Settings {
-            kind: kind,
-            nodes: nodes,
-            cleanup: cleanup,
-            quota_a: quota_a,
+            kind,
+            nodes,
+            cleanup,
+            quota_a,
             quota_b: 1,
-            longest: longest,
+            longest,
         },
-        minute: minute,
+        minute,
         ticket: 1,
     });
     print_opened(rt, opened);
