@@ -41,7 +41,7 @@ fn newly_running(before: Scheduler, after: Scheduler) -> Tickets
 fn began(before: Job, after: Job) -> bool
     ensures { result ≡ began before after }
 {
-    before.is_waiting() && after.is_running()
+    after.is_running() && before.is_waiting()
 }
 
 // The answer of a call that has done its part on the table; `after` is the scheduler once the others have moved.
@@ -64,11 +64,10 @@ pub fn depart(d: Scheduler, how: Departure, ticket: u32) -> Outcome
     ensures { result ≡ outcome (call (view d) (calls.depart how ticket)) }
 {
     let left = job_table::leave(d, how, ticket);
-    let after = if left.refusal.is_none() {
-        conservative_plan::replan_all(left.scheduler)
-    } else {
-        left.scheduler
-    };
+    let mut after = left.scheduler;
+    if left.refusal.is_none() {
+        after = conservative_plan::replan_all(after);
+    }
     advance(left, after)
 }
 
@@ -122,7 +121,7 @@ pub fn submit(d: Scheduler, s: Submission) -> Outcome
 fn starts_at(job: Job, now: u32) -> bool
     ensures { result ≡ starts_at now job }
 {
-    job.is_waiting() && job.start == now
+    job.start == now && job.is_waiting()
 }
 
 // The waiting jobs whose planned start is now start, and the call answers. If the tick is refused, no job is planned for now.

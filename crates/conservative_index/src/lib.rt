@@ -13,6 +13,7 @@ ghost use Rattle.conservative_index.specs.Search.{Searches, Sought};
 ghost use Rattle.conservative_index.specs.Intake.{Took};
 
 // The index as a value. The blocks stand first; the places past the count are all zero.
+// Kept: a rule of the project needs it: no heap, fixed memory.
 #[derive(Clone, Copy)]
 pub struct Blocks {
     pub count: usize,

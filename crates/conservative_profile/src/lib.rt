@@ -8,6 +8,7 @@ ghost use Rattle.conservative_profile.specs.StoredProfile.{stored};
 ghost use Rattle.conservative_profile.specs.CopiedPoints.{Copies};
 
 // The points stand first; the places past the count are all zero.
+// Kept: a rule of the project needs it: no heap, fixed memory.
 #[derive(Clone, Copy)]
 pub struct Profile {
     pub count: usize,

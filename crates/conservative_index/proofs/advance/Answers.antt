@@ -1,6 +1,5 @@
 -- `conservative_index::advance` meets its contract: the points before the minute have left, and the index follows.
 -- Assumes nothing.
-use mathlib.Core.Path.{◌≡◌}
 use native.Mathlib.Omega.{arith}
 use Rattle.conservative_table.specs.ProfileLists.{exact_few}
 use Rattle.conservative_index.specs.BuiltIndex.{built_none}
@@ -10,9 +9,3 @@ pub build-requires : goal.build-requires
 build-requires c =
     let p = c.advance-n.ensures.0 c.requires.0 in
     (built_none c.requires.1.low_long c.requires.1.high_long, p.free_long, omega (arith, exact_few p, c.requires.0.few), omega arith)
-
-pub returns-else-n-count : goal.returns-else-n-count
-returns-else-n-count c =
-    let a = c.advance-n in
-    let e : a.result ≡ c.args.count = omega (arith, c.if-n-count.false) in
-    (a.ensures.0, rw (a.ensures.1 e, e) c.requires.1)

@@ -3,8 +3,8 @@
 use Prim.Native.Nat.{ℕ, ◌+◌, ◌-◌, min, max, ◌<◌}
 use native.Mathlib.Omega.{arith}
 use mathlib.Core.Path.{◌≡◌, ap, ◌∙◌}
-use Rattle.conservative_table.proofs.Parts.{part_long, part_at}
-use Rattle.conservative_index.specs.BuiltIndex.{running_begin, running_more, running_end}
+use Rattle.conservative_index.proofs.Parts.{part_long, part_at}
+use Rattle.conservative_index.specs.BuiltIndex.{running_begin, running_more}
 use Rattle.conservative_index.proofs.extremes_of.Goals as goal
 
 pub loop-left-init : goal.loop-left-init
@@ -26,13 +26,3 @@ loop-left-preserved c =
       running_more min a.free.now a.from a.to l.invariant.0 h (c.min-low.ensures ∙ ap (min l.low) p),
       running_more max a.free.now a.from a.to l.invariant.1 h (c.max-high.ensures ∙ ap (max l.high) p),
     )
-
-pub returns : goal.returns
-returns c =
-    let l = c.loop-left in
-    let a = c.args in
-    let n = part_long a.free.now (a.from + 1) (a.to - (a.from + 1)) (omega (arith, c.requires)) in
-    λ i. record {
-      fewest = running_end min a.free.now a.from a.to l.invariant.0 (omega (arith, n)) i;
-      most = running_end max a.free.now a.from a.to l.invariant.1 (omega (arith, n)) i;
-    }

@@ -16,12 +16,6 @@ pub returns-then-high-nodes : goal.returns-then-high-nodes
 returns-then-high-nodes c = pass_lost _ _ _ _ _ _ _ _ c.enter-here.ensures
     (sym c.is_found.ensures ∙ c.if-is_found.false) (omega arith) (omega arith)
 
-pub pass_points-requires : goal.pass_points-requires
-pass_points-requires c =
-    let p = c.requires in
-    let v = c.read_points-reads.ensures in
-    (p.0, v.long, omega (arith, v.count), omega (arith, v.count), sym c.is_found.ensures ∙ c.if-is_found.false)
-
 pub returns : goal.returns
 returns c =
     pass_read _ _ _ _ _ _ _ _ c.enter-here.ensures (sym c.is_found.ensures ∙ c.if-is_found.false) (omega arith) (omega arith)

@@ -2,12 +2,11 @@
 -- Assumes nothing.
 use Prim.Native.Nat.{◌+◌, ◌-◌, ◌<◌}
 use native.Mathlib.Omega.{arith}
-use mathlib.Core.Path.{sym, ap, ◌∙◌}
-use mathlib.Core.Bool.{Bool}
+use mathlib.Core.Path.{sym}
 use lib.ListN.{get_or}
-use Rattle.conservative_table.proofs.Parts.{part_long, part_at}
-use Rattle.conservative_index.specs.Anchors.{standing, note, stands, pass_found, pass_open, pass_shut}
-use Rattle.conservative_index.proofs.pass_points.Invariants.{all-passed, begin, found, one_more}
+use Rattle.conservative_index.proofs.Parts.{part_long, part_at}
+use Rattle.conservative_index.specs.Anchors.{note, stands, pass_found, pass_open, pass_shut}
+use Rattle.conservative_index.proofs.pass_points.Invariants.{begin, found, one_more}
 use Rattle.conservative_index.proofs.pass_points.Goals.{
   then-on+else-first-minute,
   else-first-minute-via-then-first-minute+else-hold-minute,
@@ -50,15 +49,3 @@ loop-k-preserved c =
       | else-on w ↦ rw (w.first-is, w.if-on.false, p) (sym (pass_shut a.hold t l.first b))
     ]
     )
-
-pub returns-then-on-2 : goal.returns-then-on-2
-returns-then-on-2 c =
-    let l = c.loop-k in
-    let n = part_long c.args.minutes.now c.args.from (c.args.from + c.args.count - c.args.from) (omega (arith, c.requires)) in
-    ap (λ (b : Bool). standing b l.first) (sym c.if-on-2.true) ∙ all-passed _ _ _ _ _ _ l.invariant (omega (arith, n, c.loop-k-test.false))
-
-pub returns-else-on-2 : goal.returns-else-on-2
-returns-else-on-2 c =
-    let l = c.loop-k in
-    let n = part_long c.args.minutes.now c.args.from (c.args.from + c.args.count - c.args.from) (omega (arith, c.requires)) in
-    ap (λ (b : Bool). standing b l.first) (sym c.if-on-2.false) ∙ all-passed _ _ _ _ _ _ l.invariant (omega (arith, n, c.loop-k-test.false))

@@ -11,11 +11,6 @@ use Rattle.conservative_index.proofs.search.Goals as goal
 pub loop-b-init : goal.loop-b-init
 loop-b-init c = going_begin
 
-pub pass_block-step-requires : goal.pass_block-step-requires
-pass_block-step-requires c =
-    let e = c.min-to.ensures in
-    (c.requires.profile.minutes_long, c.requires.profile.free_long, omega (arith, e), omega (arith, e, c.requires.fit), omega (arith, e))
-
 pub overflow_add-reads : goal.overflow_add-reads
 overflow_add-reads c =
     let l = c.loop-b in

@@ -20,9 +20,6 @@ pub withdraw-requires-2 : goal.withdraw-requires-2
 withdraw-requires-2 c =
     (c.requires.profile.free_long, (advancing c.requires).fit, omega (arith, c.place_after-k.ensures.low))
 
-pub overflow_sub-result : goal.overflow_sub-result
-overflow_sub-result c = omega (arith, c.place_after-k.ensures.low)
-
 pub returns : goal.returns
 returns c =
     let p = c.place_after-k.ensures in (

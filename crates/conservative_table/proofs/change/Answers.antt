@@ -1,16 +1,11 @@
 -- `conservative_table::change` meets its contract: the begin of the span gets a place, and it is laid from there.
 -- Assumes nothing.
 use native.Mathlib.Omega.{arith}
-use Rattle.conservative_table.specs.LaidSpans.{laid_none, begin_ascends, lays_at, laid_from}
+use Rattle.conservative_table.specs.LaidSpans.{laid_none, lays_at, laid_from}
 use Rattle.conservative_table.proofs.change.Goals as goal
 
 pub returns-then-x-from : goal.returns-then-x-from
 returns-then-x-from c = λ l. laid_none l (omega (arith, c.max-from.ensures, c.if-x-from.true))
-
-pub split-begin-requires : goal.split-begin-requires
-split-begin-requires c =
-    let l = c.requires in
-    (begin_ascends l c.max-from.ensures, l.kept.table.free_long, omega (arith, l.fits))
 
 pub lay_at-rest-requires : goal.lay_at-rest-requires
 lay_at-rest-requires c = lays_at c.requires c.max-from.ensures (omega (arith, c.if-x-from.false)) c.split-begin.ensures

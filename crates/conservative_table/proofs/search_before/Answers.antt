@@ -20,20 +20,11 @@ pub reach-k-requires : goal.reach-k-requires
 reach-k-requires c = rw c.min-until.ensures (reach_ends c.requires
     c.loop-i.invariant (omega arith))
 
-pub offset_bounds-minutes-k : goal.offset_bounds-minutes-k
-offset_bounds-minutes-k c = omega (arith, c.reach-k.ensures.going.fit)
-
-pub bounds-minutes-k : goal.bounds-minutes-k
-bounds-minutes-k c = c.reach-k.ensures.going.fit
-
 pub returns-then-until-minutes : goal.returns-then-until-minutes
 returns-then-until-minutes c =
     let e = c.min-until.ensures in
     found_reached c.requires
     c.loop-i.invariant (omega arith) (rw e at c.reach-k.ensures) (omega (arith, e))
-
-pub overflow_add-k : goal.overflow_add-k
-overflow_add-k c = omega (arith, c.reach-k.ensures.going.fit)
 
 pub skip-i-requires-in-loop-i : goal.skip-i-requires-in-loop-i
 skip-i-requires-in-loop-i c =
@@ -41,9 +32,6 @@ skip-i-requires-in-loop-i c =
     let s = c.requires in
     skip_ends s (past_reached s c.loop-i.invariant (omega arith)
     (rw e at c.reach-k.ensures) (omega (arith, e)))
-
-pub loop-i-smaller : goal.loop-i-smaller
-loop-i-smaller c = omega (arith, c.skip-i-in-loop-i.ensures.going.above, c.skip-i-in-loop-i.ensures.going.fit, c.reach-k.ensures.going.above)
 
 pub loop-i-preserved : goal.loop-i-preserved
 loop-i-preserved c =

