@@ -1,5 +1,6 @@
 -- The survey of the jobs that hold nodes, each over at its least: the lists that EASY's search takes.
 -- Assumes nothing.
+use Rattle.std.specs.Prelude as std
 use Rattle.std.specs.Prelude.{ℕ, ◌+◌, ◌-◌, ◌≤◌, ◌<◌, ◌≡◌, Bool, false, ◌&&◌, get_or, set, take}
 use native.Mathlib.Omega.{arith}
 use Rattle.std.proofs.Math.Path.{refl, sym, ap, subst}
@@ -42,6 +43,11 @@ use Rattle.easy_engine.specs.SurveyLoop.{sum_first, slot_fits}
 abbrev pub nodes_in : Option Job → ℕ
 nodes_in none = 0
 nodes_in (some j) = j.nodes
+
+-- the nodes of a job found, if one is
+abbrev pub Asked : Option Job → std.Option ℕ → Type 0
+Asked f std.None = f ≡ none
+Asked f (std.Some n) = (j : Job) × (f ≡ some j) × (n ≡ j.nodes)
 
 -- the nodes of some jobs that hold nodes, each over at its least
 abbrev pub overs : Scheduler → List Job → List Job
@@ -236,3 +242,17 @@ module _ (d : Scheduler) (h : Holds Sound d) (t : ℕ) where
       by : (f : Option Job) → first p d.jobs ≡ f → record { refusal = refusal.None; minute = x } ≡ earliest_start (view d) t
       by none e = absurd (z (q ∙ ap nodes_in e))
       by (some j) e = rw (found_is, e, y, q ∙ ap nodes_in e)
+
+  -- the same, as code gives the nodes
+  pub refused_by : first p d.jobs ≡ none → record { refusal = refusal.NotWaiting; minute = 0 } ≡ earliest_start (view d) t
+  refused_by e = start_refused (ap nodes_in e)
+
+  module _ (n : ℕ) (a : (j : Job) × (first p d.jobs ≡ some j) × (n ≡ j.nodes)) where
+    asked_is : n ≡ asked
+    asked_is = a.2 ∙ sym (ap nodes_in a.1)
+
+    pub given_within : n ≤ d.settings.nodes
+    given_within = omega (arith, asked_is, asked_within)
+
+    pub given_by : (x : ℕ) → x ≡ earliest_for (view d) n → record { refusal = refusal.None; minute = x } ≡ earliest_start (view d) t
+    given_by x y = start_given n x asked_is (λ z. omega (arith, (sound_found a.0 a.1).nodes_from, a.2)) y

@@ -13,7 +13,7 @@ ghost use Rattle.jobs.specs.Premise.{Holds};
 ghost use Rattle.jobs.specs.Slots.{Low};
 ghost use Rattle.easy_rules.specs.EarliestStart.{over_at_least, earliest_for, earliest_start};
 ghost use Rattle.job_columns.specs.Columns.{Blank};
-ghost use Rattle.earliest.specs.Survey.{Surveyed, nodes_in};
+ghost use Rattle.earliest.specs.Survey.{Surveyed, Asked};
 
 use scheduler::{Departure, Earliest, Job, Refusal, Scheduler, Settings};
 
@@ -74,16 +74,16 @@ fn earliest(d: Scheduler, nodes: u32) -> u32
     easy_engine::shadow(&held, &ends, taken.running, taken.spare, nodes, latest)
 }
 
-// The nodes that the waiting job with this ticket asks for; 0 if no such job waits.
-fn asked_by(d: Scheduler, ticket: u32) -> u32
-    ensures { result ≡ nodes_in (first (departs_as Departure.Cancel ticket) d.jobs) }
+// The nodes that the waiting job with this ticket asks for, if such a job waits.
+fn asked_by(d: Scheduler, ticket: u32) -> Option<u32>
+    ensures { Asked (first (departs_as Departure.Cancel ticket) d.jobs) result }
 {
     for &j in &d.jobs {
         if j.departs(Departure::Cancel, ticket) {
-            return j.nodes as u32;
+            return Some(j.nodes as u32);
         }
     }
-    0
+    None
 }
 
 // The minute before which the waiting job with this ticket cannot start.
@@ -91,15 +91,14 @@ pub fn start(d: Scheduler, ticket: u32) -> Earliest
     requires { Holds Sound d }
     ensures { result ≡ earliest_start (view d) ticket }
 {
-    let nodes = asked_by(d, ticket);
-    if nodes == 0 {
-        return Earliest {
+    match asked_by(d, ticket) {
+        Some(nodes) => Earliest {
+            refusal: Refusal::None,
+            minute: earliest(d, nodes),
+        },
+        None => Earliest {
             refusal: Refusal::NotWaiting,
             minute: 0,
-        };
-    }
-    Earliest {
-        refusal: Refusal::None,
-        minute: earliest(d, nodes),
+        },
     }
 }

@@ -3,8 +3,9 @@
 // nodes and estimates.
 #![tactic(auto)]
 
-ghost use Rattle.std.specs.Prelude.{◌≡◌, true, cond, ◌&&◌, ◌||◌, List, ◌+◌, ◌≤◌, ◌<◌, leb, ltb, length};
+ghost use Rattle.std.specs.Prelude.{ℕ, ◌≡◌, true, cond, ◌&&◌, ◌||◌, List, ◌+◌, ◌≤◌, ◌<◌, leb, ltb, length, position as std_position, IfSome};
 ghost use Rattle.lists.specs.Tests.{on};
+ghost use Rattle.lists.specs.Chains.{option_of};
 ghost use Rattle.lists.specs.Loops.{position};
 ghost use Rattle.scheduler.specs.declared.Job.{Job};
 ghost use Rattle.scheduler.specs.Limits.{horizon, slots};
@@ -16,10 +17,11 @@ ghost use Rattle.easy_rules.specs.Easy.{head, free, avail, shadow, choice, forec
 ghost use Rattle.easy_laws.specs.Validity.{Ready};
 ghost use Rattle.job_columns.specs.Columns.{Column, estimate_of};
 ghost use Rattle.job_columns.specs.Searches.{place_of};
-ghost use Rattle.easy_engine.specs.Survey.{asks, Held, Lacks, Surveyed, job_in, asks_to, may_pass};
+ghost use Rattle.easy_engine.specs.Survey.{asks, Held, Lacks, Surveyed, asks_to, may_pass};
 ghost use Rattle.easy_engine.specs.Survey.{Begun, Settlement, StartsInTime, SurveyRests, ticket_in, announced, Announces, Unsettled};
 ghost use Rattle.easy_engine.specs.Survey.{head_before, Answers};
 ghost use Rattle.easy_engine.specs.BySlot.{SlotSurvey, SlotAnswers, AtRest};
+ghost use Rattle.easy_engine.specs.Found.{Chosen};
 
 use scheduler::{Scheduler, Settings};
 
@@ -89,17 +91,20 @@ pub fn shadow(
     best
 }
 
-// The place of the first job that asks for no more than these nodes; the count if none does.
-pub fn first_within(asked: &[u32; 64], waiting: usize, most: u32) -> usize
-    requires { waiting ≤ slots }
-    ensures { (ws : List Job) → Column asks ws asked.now → length ws ≡ waiting → result ≡ place_of (position (asks_to most) ws) waiting }
+// The place of the first number that is no more than this.
+fn first_to(numbers: &[u32], most: u32) -> Option<usize>
+    ensures { result ≡ std_position (λ (n : ℕ). leb n most) numbers.now }
 {
-    for i in 0..waiting {
-        if asked[i] <= most {
-            return i;
-        }
-    }
-    waiting
+    numbers.iter().position(|n| *n <= most)
+}
+
+// The place of the first job that asks for no more than these nodes.
+pub fn first_within(asked: &[u32; 64], waiting: usize, most: u32) -> Option<usize>
+    requires { waiting ≤ slots }
+    ensures place { (ws : List Job) → Column asks ws asked.now → length ws ≡ waiting → option_of result ≡ position (asks_to most) ws }
+    ensures within { IfSome result (λ (i : ℕ). i < waiting) }
+{
+    first_to(&asked[..waiting], most)
 }
 
 // Whether a job fits now, and is over in time or fits the extra nodes.
@@ -122,7 +127,7 @@ pub fn may_pass(
     settings.hold_time(estimate) <= room
 }
 
-// The place of the first job that may pass the head; the count if none may. The search begins at the first job that fits.
+// The place of the first job that may pass the head. The search begins at the first job that fits.
 fn forward(
     asked: &[u32; 64],
     estimates: &[u32; 64],
@@ -132,21 +137,21 @@ fn forward(
     extra: u32,
     room: u32,
     settings: Settings,
-) -> usize
+) -> Option<usize>
     requires { waiting ≤ slots }
     ensures { (ws : List Job) → Column asks ws asked.now → Column estimate_of ws estimates.now → length ws ≡ waiting
-        → fit ≡ place_of (position (asks_to spare) ws) waiting → result ≡ place_of (position (may_pass settings spare extra room) ws) waiting }
+        → fit ≡ place_of (position (asks_to spare) ws) waiting → option_of result ≡ position (may_pass settings spare extra room) ws }
 {
     for i in fit..waiting {
         if may_pass(asked[i], estimates[i], spare, extra, room, settings) {
-            return i;
+            return Some(i);
         }
     }
-    waiting
+    None
 }
 
-// The place of the waiting job that starts next: the head if its nodes are free now, otherwise the first that may pass it; the count if no job can
-// start. If no job fits, no shadow is sought.
+// The place of the waiting job that starts next, if one can: the head if its nodes are free now, otherwise the first that may pass it. If no job
+// fits, no shadow is sought.
 fn choose(
     held: &[u32; 64],
     ends: &[u32; 64],
@@ -157,23 +162,17 @@ fn choose(
     clock: u32,
     spare: u32,
     settings: Settings,
-) -> usize
+) -> Option<usize>
     requires { Surveyed held.now ends.now running asked.now estimates.now waiting clock spare settings }
     ensures { (s : Surveyed held.now ends.now running asked.now estimates.now waiting clock spare settings)
-        → job_in s.asking result ≡ choice s.model }
+        → Chosen s.asking waiting (choice s.model) result }
 {
-    let h = first_within(asked, waiting, Scheduler::NODES);
-    if waiting <= h {
-        return h;
-    }
+    let h = first_within(asked, waiting, Scheduler::NODES)?;
     let need = asked[h];
     if need <= spare {
-        return h;
+        return Some(h);
     }
-    let fit = first_within(asked, waiting, spare);
-    if waiting <= fit {
-        return fit;
-    }
+    let fit = first_within(asked, waiting, spare)?;
     let latest = clock + settings.unit();
     let minute = shadow(held, ends, running, spare, need, latest);
     let extra = avail_at(held, ends, running, spare, minute) - need;
@@ -233,16 +232,15 @@ fn settle(
         → Settlement s.model s.jobs s.asking estimates.now running waiting clock settings count order.old result held.new
         ends.new asked.new order.new }
 {
-    let i = choose(
+    let Some(i) = choose(
         held, ends, running, asked, estimates, waiting, clock, spare, settings,
-    );
-    if waiting <= i {
+    ) else {
         return Settled {
             running,
             count,
             spare,
         };
-    }
+    };
     let n = start(
         held, ends, running, asked, estimates, order, count, i, clock, settings,
     );
@@ -278,13 +276,10 @@ fn rests(before: u32, asked: &[u32; 64], tickets: &[u32; 64], waiting: usize, sp
     ensures { (ws : List Job) → Column asks ws asked.now → Column ticket_of ws tickets.now → length ws ≡ waiting → result ≡ true
         → SurveyRests ws spare before }
 {
-    if first_within(asked, waiting, spare) < waiting {
+    if first_within(asked, waiting, spare).is_some() {
         return false;
     }
-    if waiting == 0 {
-        return true;
-    }
-    tickets[0] == before
+    waiting == 0 || tickets[0] == before
 }
 
 // A job that is head now and was not before, with its forecast; 0 if there is none.
@@ -312,19 +307,16 @@ fn announce(
         (b : Model)
         → before ≡ ticket_in (head b) → result ≡ announced (forecast b a.surveyed.model) }
 {
-    let h = first_within(asked, waiting, Scheduler::NODES);
-    if waiting <= h {
-        return Announced {
-            ticket: 0,
-            minute: 0,
-        };
-    }
+    let nobody = Announced {
+        ticket: 0,
+        minute: 0,
+    };
+    let Some(h) = first_within(asked, waiting, Scheduler::NODES) else {
+        return nobody;
+    };
     let ticket = tickets[h];
     if before == ticket {
-        return Announced {
-            ticket: 0,
-            minute: 0,
-        };
+        return nobody;
     }
     let latest = clock + settings.unit();
     let minute = shadow(held, ends, running, spare, asked[h], latest);
@@ -405,11 +397,10 @@ pub fn leading(asked: &[u32; 64], tickets: &[u32; 64], live: usize) -> u32
     ensures { (m : Model) → Sound m → Column asks m.jobs asked.now → Column ticket_of m.jobs tickets.now → length m.jobs ≡ live
         → result ≡ ticket_in (head m) }
 {
-    let h = first_within(asked, live, Scheduler::NODES);
-    if live <= h {
-        return 0;
+    match first_within(asked, live, Scheduler::NODES) {
+        Some(h) => tickets[h],
+        None => 0,
     }
-    tickets[h]
 }
 
 // Whether nobody fits, and the first that waits is the head of before, or nobody waits: then nobody starts and nobody is announced.
@@ -418,13 +409,10 @@ pub fn rests_at(before: u32, asked: &[u32; 64], first: u32, live: usize, spare: 
     ensures { (b m : Model) → Ready m → Column asks m.jobs asked.now → length m.jobs ≡ live → spare ≡ free m → first ≡ ticket_in (head m)
         → before ≡ ticket_in (head b) → result ≡ true → AtRest b m }
 {
-    if first_within(asked, live, spare) < live {
+    if first_within(asked, live, spare).is_some() {
         return false;
     }
-    if first == 0 {
-        return true;
-    }
-    first == before
+    first == 0 || first == before
 }
 
 // How many jobs start, the new head with its forecast, and the nodes then free.

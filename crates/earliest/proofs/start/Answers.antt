@@ -1,18 +1,16 @@
 -- `earliest::start` meets its contract.
 -- Assumes nothing.
-use native.Mathlib.Omega.{arith}
-use mathlib.Core.Path.{sym, ◌∙◌}
-use Rattle.earliest.specs.Survey.{asked_within, start_refused, start_given}
+use Rattle.earliest.specs.Survey.{refused_by, given_within, given_by}
 use Rattle.earliest.proofs.start.Goals as goal
-
-pub returns-then-nodes-eq0 : goal.returns-then-nodes-eq0
-returns-then-nodes-eq0 c =
-    start_refused c.args.d c.requires c.args.ticket (sym c.asked_by-nodes.ensures ∙ c.if-nodes-eq0.true)
 
 pub earliest-requires : goal.earliest-requires
 earliest-requires c =
-    (c.requires, omega (arith, c.asked_by-nodes.ensures, asked_within c.args.d c.requires c.args.ticket))
+    (c.requires, given_within c.args.d c.requires c.args.ticket c.in-Some.nodes (rw c.in-Some.is at c.asked_by.ensures))
 
-pub returns : goal.returns
-returns c =
-    start_given c.args.d c.requires c.args.ticket _ _ c.asked_by-nodes.ensures c.if-nodes-eq0.false c.earliest.ensures
+pub returns-in-Some : goal.returns-in-Some
+returns-in-Some c =
+    given_by c.args.d c.requires c.args.ticket c.in-Some.nodes (rw c.in-Some.is at c.asked_by.ensures) _ c.earliest.ensures
+
+pub returns-in-None : goal.returns-in-None
+returns-in-None c =
+    refused_by c.args.d c.requires c.args.ticket (rw c.in-None.is at c.asked_by.ensures)
