@@ -8,11 +8,9 @@ ghost use Rattle.checkpoint_rules.specs.Acceptance.{accepted};
 
 use scheduler::Scheduler;
 
+#[tactic(auto, using(checkpoint_laws::specs::Stages::accepted_stages))]
 pub fn accepted(d: Scheduler) -> bool
     ensures { result ≡ accepted (view d) }
 {
-    if record_acceptance::records_accepted(d) {
-        return plan_acceptance::plan_accepted(d);
-    }
-    false
+    record_acceptance::records_accepted(d) && plan_acceptance::plan_accepted(d)
 }

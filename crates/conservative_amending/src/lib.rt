@@ -10,19 +10,19 @@ ghost use Rattle.conservative_rules.specs.Conservative.{call};
 ghost use Rattle.conservative_laws.specs.Validity.{Valid};
 ghost use Rattle.conservative_amending.specs.Amend.{answering};
 
-use scheduler::{Amendment, Outcome, Scheduler};
+use scheduler::{Amendment, Answer, Outcome, Scheduler};
 
 // The same outcome with the ticket and the promise that it gives.
 fn answering(o: Outcome, ticket: u32, promise: u32) -> Outcome
     ensures { result ≡ answering ticket promise o }
 {
-    let mut answer = o.answer;
-    answer.ticket = ticket;
-    answer.promise = promise;
-    let scheduler = o.scheduler;
     Outcome {
-        answer: answer,
-        scheduler: scheduler,
+        answer: Answer {
+            ticket,
+            promise,
+            ..o.answer
+        },
+        ..o
     }
 }
 
@@ -32,11 +32,10 @@ pub fn amend(d: Scheduler, a: Amendment) -> Outcome
     ensures { result ≡ outcome (call (view d) (calls.amend a)) }
 {
     let left = amending::supersede(d, a);
-    let refusal = left.refusal;
-    if refusal.is_none() {
-        let promise = amending::kept_promise(d, a);
-        let after = conservative_plan::replan_all(left.scheduler);
-        return answering(conservative::advance(left, after), a.ticket, promise);
+    if !left.refusal.is_none() {
+        return d.refused(left.refusal);
     }
-    d.refused(refusal)
+    let promise = amending::kept_promise(d, a);
+    let after = conservative_plan::replan_all(left.scheduler);
+    answering(conservative::advance(left, after), a.ticket, promise)
 }

@@ -17,12 +17,10 @@ use scheduler::{Amendment, Answer, Outcome, Scheduler};
 fn with_ticket(answer: Answer, ticket: u32) -> Answer
     ensures { result ≡ ticketed ticket answer }
 {
-    let refusal = answer.refusal;
-    let mut given = answer;
-    if refusal.is_none() {
-        given.ticket = ticket;
+    if !answer.refusal.is_none() {
+        return answer;
     }
-    given
+    Answer { ticket, ..answer }
 }
 
 // The part on the table gives no ticket: the corrected job keeps its own and its place in the queue, so that no job has come when the call
@@ -31,8 +29,9 @@ pub fn amend(d: Scheduler, a: Amendment) -> Outcome
     requires { Holds Valid d }
     ensures { result ≡ outcome (call (view d) (calls.amend a)) }
 {
-    let mut o = easy::finish(amending::supersede(d, a));
-    let answer = with_ticket(o.answer, a.ticket);
-    o.answer = answer;
-    o
+    let o = easy::finish(amending::supersede(d, a));
+    Outcome {
+        answer: with_ticket(o.answer, a.ticket),
+        ..o
+    }
 }

@@ -92,28 +92,28 @@ pub struct Limits {
 // Why a call is refused; `code` gives the documents' number. (4, "64 stacks live", has gone with the quotas.)
 #[derive(Clone, Copy, PartialEq, Eq)]
 pub enum Refusal {
-    None,
-    NodesOutOfRange,
-    MinutesOutOfRange,
-    OpeningOutOfRange,
-    NoTicketLeft,
-    PastHorizon,
-    NotRunning,
-    Malformed,
-    TooShort,
-    NotWaiting,
-    CleanupOutOfRange,
-    QuotasOutOfRange,
-    UnknownTenant,
-    QuotaFull,
-    LongestOutOfRange,
-    ArrivalFalls,
-    NoRunLength,
-    LeastAboveMost,
-    BeforeLeast,
-    WantedMinutePast,
-    TextMalformed,
-    TextRejected,
+    None = 0,
+    NodesOutOfRange = 1,
+    MinutesOutOfRange = 2,
+    OpeningOutOfRange = 3,
+    NoTicketLeft = 5,
+    PastHorizon = 6,
+    NotRunning = 7,
+    Malformed = 9,
+    TooShort = 10,
+    NotWaiting = 11,
+    CleanupOutOfRange = 12,
+    QuotasOutOfRange = 13,
+    UnknownTenant = 14,
+    QuotaFull = 15,
+    LongestOutOfRange = 16,
+    ArrivalFalls = 17,
+    NoRunLength = 18,
+    LeastAboveMost = 19,
+    BeforeLeast = 20,
+    WantedMinutePast = 21,
+    TextMalformed = 22,
+    TextRejected = 23,
 }
 
 // Tickets in order; the places past the count are 0.
@@ -237,30 +237,7 @@ impl Refusal {
     pub fn code(self) -> u32
         ensures { result ≡ code self }
     {
-        match self {
-            Refusal::None => 0,
-            Refusal::NodesOutOfRange => 1,
-            Refusal::MinutesOutOfRange => 2,
-            Refusal::OpeningOutOfRange => 3,
-            Refusal::NoTicketLeft => 5,
-            Refusal::PastHorizon => 6,
-            Refusal::NotRunning => 7,
-            Refusal::Malformed => 9,
-            Refusal::TooShort => 10,
-            Refusal::NotWaiting => 11,
-            Refusal::CleanupOutOfRange => 12,
-            Refusal::QuotasOutOfRange => 13,
-            Refusal::UnknownTenant => 14,
-            Refusal::QuotaFull => 15,
-            Refusal::LongestOutOfRange => 16,
-            Refusal::ArrivalFalls => 17,
-            Refusal::NoRunLength => 18,
-            Refusal::LeastAboveMost => 19,
-            Refusal::BeforeLeast => 20,
-            Refusal::WantedMinutePast => 21,
-            Refusal::TextMalformed => 22,
-            Refusal::TextRejected => 23,
-        }
+        self as u32
     }
 
     pub fn is_none(self) -> bool
@@ -582,10 +559,9 @@ impl Opening {
         if outside_range(self.settings.nodes, 1, Scheduler::NODES) {
             return Refusal::NodesOutOfRange;
         }
-        if Scheduler::HORIZON < self.minute {
-            return Refusal::OpeningOutOfRange;
-        }
-        if outside_range(self.ticket, 1, Scheduler::LAST_TICKET) {
+        if Scheduler::HORIZON < self.minute
+            || outside_range(self.ticket, 1, Scheduler::LAST_TICKET)
+        {
             return Refusal::OpeningOutOfRange;
         }
         if Scheduler::LONGEST_CLEANUP < self.settings.cleanup {

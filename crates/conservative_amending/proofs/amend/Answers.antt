@@ -26,23 +26,23 @@ judged v b r = ap (λ (p : Part). accepts p.refusal) (sym (left_is v.before)) �
 
 pub replan_all-after-requires : goal.replan_all-after-requires
 replan_all-after-requires c =
-    rw (left_is (goal.at.replan_all-after-requires c).After-supersede-left) (replannable_held (view c.args.d) c.args.a c.requires.holds (judged (goal.at.replan_all-after-requires c).After-is_none _ c.if-is_none.true))
+    rw (left_is (goal.at.replan_all-after-requires c).After-supersede-left) (replannable_held (view c.args.d) c.args.a c.requires.holds (judged (goal.at.replan_all-after-requires c).After-is_none _ c.if-not-is_none.false))
 
-pub returns-then-is_none : goal.returns-then-is_none
-returns-then-is_none c =
+pub returns : goal.returns
+returns c =
     let a = c.args.a in
     let m = view c.args.d in
     c.answering.ensures
     ∙ ap (λ (n : ℕ). answering a.ticket n c.advance.result) c.kept_promise-promise.ensures
     ∙ ap (answering a.ticket (kept_promise (named m a)))
-    (c.advance.ensures ∙ ap (advanced_by c.supersede-left.result) c.replan_all-after.ensures ∙ ap departs_by (left_is (goal.at.returns-then-is_none c).After-supersede-left))
-    ∙ taken_held m a c.requires.holds (judged (goal.at.returns-then-is_none c).After-is_none _ c.if-is_none.true)
+    (c.advance.ensures ∙ ap (advanced_by c.supersede-left.result) c.replan_all-after.ensures ∙ ap departs_by (left_is (goal.at.returns c).After-supersede-left))
+    ∙ taken_held m a c.requires.holds (judged (goal.at.returns c).After-is_none _ c.if-not-is_none.false)
 
-pub returns : goal.returns
-returns c =
+pub returns-then-not-is_none : goal.returns-then-not-is_none
+returns-then-not-is_none c =
     let a = c.args.a in
     let d = c.args.d in
     c.refused.ensures
-    ∙ ap (λ (p : Part). refused_outcome d p.refusal) (left_is (goal.at.returns c).After-supersede-left)
+    ∙ ap (λ (p : Part). refused_outcome d p.refusal) (left_is (goal.at.returns-then-not-is_none c).After-supersede-left)
     ∙ refused_held Valid d _ c.requires
-    ∙ refused_is (view d) a (judged (goal.at.returns c).After-is_none _ c.if-is_none.false)
+    ∙ refused_is (view d) a (judged (goal.at.returns-then-not-is_none c).After-is_none _ c.if-not-is_none.true)

@@ -21,7 +21,7 @@ returns c =
     let m = view c.args.d in
     let a = c.args.a in
     let v = c.requires.holds in
-    rw c.with_ticket-answer.ensures
+    rw c.with_ticket.ensures
     (ap (ticketed_outcome a.ticket)
     (part_answers (superseding m a) (superseding_ready m a v) _ c.supersede.ensures m _ (superseding_before m a v) c.finish-o.ensures)
     ∙ amend_own m a v)
