@@ -17,11 +17,7 @@ impl Stage {
     pub fn goes_on(self) -> bool
         ensures { result ≡ goes_on_of self }
     {
-        match self {
-            Stage::First => true,
-            Stage::Playing => true,
-            Stage::Over => false,
-        }
+        !matches!(self, Stage::Over)
     }
 }
 

@@ -24,15 +24,12 @@ fn refuse(p: Play, reason: Refusal, page: &mut [u8]) -> Played
     requires { page_bytes ≤ length page.old }
     ensures { Turned page_bytes (piece (no_row (code reason)) (over p)) page.old 0 page.new result.end result.play }
 {
-    let d = p.scheduler;
     let end = script_writing::put_refusal(page, 0, reason);
     Played {
-        end: end,
+        end,
         play: Play {
             stage: Stage::Over,
-            at: p.at,
-            steps: p.steps,
-            scheduler: d,
+            ..p
         },
     }
 }
@@ -45,20 +42,18 @@ fn open(p: Play, next: usize, first: Option<Opening>, page: &mut [u8]) -> Played
     match first {
         Some(o) => {
             let opened = Scheduler::open(o);
-            let reason = opened.refusal;
-            if reason.is_none() {
-                let d = opened.scheduler;
+            if opened.refusal.is_none() {
                 return Played {
                     end: 0,
                     play: Play {
                         stage: Stage::Playing,
                         at: next,
                         steps: 0,
-                        scheduler: d,
+                        scheduler: opened.scheduler,
                     },
                 };
             }
-            refuse(p, reason, page)
+            refuse(p, opened.refusal, page)
         }
         None => refuse(p, Refusal::Malformed, page),
     }
@@ -69,20 +64,14 @@ pub fn first(p: Play, script: &[u8], page: &mut [u8]) -> Played
     requires { page_bytes ≤ length page.old }
     ensures { Turned page_bytes (first_piece script.now p) page.old 0 page.new result.end result.play }
 {
-    let begins = text::first_line(script, LONGEST);
-    match begins {
-        Begins::Nothing => {
-            let d = p.scheduler;
-            Played {
-                end: 0,
-                play: Play {
-                    stage: Stage::Over,
-                    at: p.at,
-                    steps: p.steps,
-                    scheduler: d,
-                },
-            }
-        }
+    match text::first_line(script, LONGEST) {
+        Begins::Nothing => Played {
+            end: 0,
+            play: Play {
+                stage: Stage::Over,
+                ..p
+            },
+        },
         Begins::Malformed => refuse(p, Refusal::Malformed, page),
         Begins::Line(end) => {
             let asked = script_reading::read_first(&script[..end]);
@@ -105,12 +94,10 @@ fn next_line(script: &[u8], at: usize) -> Next
     ensures { Comes script.now at 0 result }
 {
     let later = script_reading::read_later(script, at);
-    let line = later.line;
-    let end = line.end;
-    if line.closed {
-        let asked = later.asked;
+    let end = later.line.end;
+    if later.line.closed {
         return Next {
-            turn: Some(asked),
+            turn: Some(later.asked),
             at: end + 1,
             steps: 0,
         };
@@ -129,14 +116,14 @@ pub fn next_turn(script: &[u8], at: usize, steps: u32) -> Next
     if 0 < steps {
         return Next {
             turn: Some(Asked::Call(Request::Tick)),
-            at: at,
+            at,
             steps: steps - 1,
         };
     }
     if script.len() <= at {
         return Next {
             turn: None,
-            at: at,
+            at,
             steps: 0,
         };
     }

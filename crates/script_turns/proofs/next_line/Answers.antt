@@ -14,11 +14,11 @@ ends c = line_ends _ _ _ c.read_later-later.ensures.0 (omega (arith, c.requires)
 pub overflow_add-result : goal.overflow_add-result
 overflow_add-result c = omega (arith, (ends (goal.at.overflow_add-result c).After-read_later-later).within)
 
-pub returns-then-line : goal.returns-then-line
-returns-then-line c =
-    comes_closed _ _ c.requires _ c.read_later-later.ensures.0 c.if-line.true c.read_later-later.result.asked
-    (c.read_later-later.ensures.1 ∙ ap command_in (sym (ends (goal.at.returns-then-line c).After-read_later-later).bytes))
+pub returns-then-later : goal.returns-then-later
+returns-then-later c =
+    comes_closed _ _ c.requires _ c.read_later-later.ensures.0 c.if-later.true c.read_later-later.result.asked
+    (c.read_later-later.ensures.1 ∙ ap command_in (sym (ends (goal.at.returns-then-later c).After-read_later-later).bytes))
 
 pub returns : goal.returns
 returns c =
-    comes_unclosed _ _ c.requires _ c.read_later-later.ensures.0 c.if-line.false
+    comes_unclosed _ _ c.requires _ c.read_later-later.ensures.0 c.if-later.false

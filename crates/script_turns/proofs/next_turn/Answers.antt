@@ -9,6 +9,3 @@ returns-then-steps-gt0 c = comes_step _ _ _ c.if-steps-gt0.true
 
 pub returns-then-script-at : goal.returns-then-script-at
 returns-then-script-at c = comes_as _ _ _ _ (omega (arith, c.if-steps-gt0.false)) (comes_over _ _ c.if-script-at.true)
-
-pub returns : goal.returns
-returns c = comes_as _ _ _ _ (omega (arith, c.if-steps-gt0.false)) c.next_line.ensures

@@ -3,7 +3,7 @@
 use mathlib.Core.Path.{sym, ◌∙◌}
 use Rattle.paging.specs.Players.{turned_as, turned_none}
 use Rattle.script_play.specs.Pieces.{starts}
-use Rattle.script_turns.specs.FirstTurn.{opening_takes, opening_refuses, opening_lacks}
+use Rattle.script_turns.specs.FirstTurn.{opening_takes, opening_refuses}
 use Rattle.script_turns.proofs.open.Goals as goal
 
 pub returns-then-is_none : goal.returns-then-is_none
@@ -16,6 +16,3 @@ returns-else-is_none c =
     turned_as (opening_refuses _ starts _ _ _ _ c.in-Some.is
     c.open-opened.ensures
     (sym c.is_none.ensures ∙ c.if-is_none.false)) c.refuse.ensures
-
-pub returns-in-None : goal.returns-in-None
-returns-in-None c = turned_as (opening_lacks _ starts _ _ c.in-None.is) c.refuse-in-None.ensures
