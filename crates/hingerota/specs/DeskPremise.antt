@@ -53,7 +53,7 @@ abbrev pub amends_on : Desk → Amendment → Outcome
 amends_on d b = mirror_outcome (amends (read d) (amendment_of b))
 
 -- what a host's opening asks, of a kind; document 02, No. 6: "longest estimate (elsewhere 10,080)"
-abbrev opening_of : Kind → host-opening.Opening → Opening
+abbrev pub opening_of : Kind → host-opening.Opening → Opening
 opening_of k o = record {
   settings = record {
     kind = k;

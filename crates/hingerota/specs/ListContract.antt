@@ -6,14 +6,19 @@ use Rattle.std.proofs.Common.{ap, ◌∙◌}
 use Rattle.scheduler.specs.Model.{Model, view}
 use Rattle.scheduler.specs.Answers.{code}
 use Rattle.calls.specs.declared.Shown as calls-shown
+use Rattle.calls.specs.declared.Listing as calls-listing
 use Rattle.calls.specs.ListCall.{written, shown}
 use Rattle.lent_lemmas.specs.Lists.{tabulate}
 use Rattle.hingerota.specs.declared.Desk.{Desk}
 use Rattle.hingerota.specs.declared.Shown.{Shown}
+use Rattle.hingerota.specs.declared.Listing.{Listing}
 use Rattle.hingerota.specs.Mirror.{read}
 
 abbrev pub mirror_shown : calls-shown.Shown → Shown
 mirror_shown a = record { refusal = code a.refusal; count = a.count }
+
+abbrev pub mirror_listing : {A : Type 0} {n : ℕ} → calls-listing.Listing A n → Listing A n
+mirror_listing p = record { count = p.count; answer = mirror_shown p.answer; items = p.items }
 
 -- elements in numbers, written over the front of a list
 abbrev pub over : {A B : Type 0} → (A → B) → List A → List B → List B

@@ -8,15 +8,15 @@ ghost use Rattle.history.specs.Calls as calls;
 ghost use Rattle.hingerota.specs.Mirror.{kind_of, kind_number, state_of, state_number, wanted, mirror_job, mirror, read_record, read};
 ghost use Rattle.hingerota.specs.Mirror.{mirror_tickets, mirror_answer, mirror_outcome, mirror_opened};
 ghost use Rattle.lists.specs.Every.{every};
-ghost use Rattle.hingerota.specs.DeskPremise.{Handed, gives, opens, promise_opening, loose_opening, restores, amends_on};
+ghost use Rattle.hingerota.specs.DeskPremise.{Handed, gives, opens, opening_of, promise_opening, loose_opening, restores, amendment_of, amends_on};
 ghost use Rattle.hingerota.specs.Checks.{is_zero, all_zero, is_job, follows, in_order, check_number};
 ghost use Rattle.hingerota.specs.CallContract.{HostLeaves, HostLeavesAmended};
 ghost use Rattle.hingerota.specs.AdvanceContract.{advances_on, HostLeavesAdvanced};
-ghost use Rattle.hingerota.specs.ListContract.{mirror_shown};
-ghost use Rattle.hingerota.specs.ProfileContract.{mirror_point, points_in, point_at, HostShowsPoints};
-ghost use Rattle.hingerota.specs.IndexContract.{mirror_block, blocks_in, block_at, HostShowsBlocks};
-ghost use Rattle.hingerota.specs.EarliestContract.{earliest_on};
-ghost use Rattle.hingerota.specs.LongestContract.{longest_on};
+ghost use Rattle.hingerota.specs.ListContract.{mirror_shown, mirror_listing};
+ghost use Rattle.hingerota.specs.ProfileContract.{mirror_point, points_in, HostShowsPoints};
+ghost use Rattle.hingerota.specs.IndexContract.{mirror_block, blocks_in, HostShowsBlocks};
+ghost use Rattle.hingerota.specs.EarliestContract.{mirror_earliest, earliest_on};
+ghost use Rattle.hingerota.specs.LongestContract.{asked_by, mirror_longest, longest_on};
 ghost use Rattle.hingerota.specs.TextContract.{HostShowsPage, HostShowsText, HostShowsWhy};
 ghost use Rattle.hingerota.specs.MigrateContract.{migrated_desk, HostMigrates};
 ghost use Rattle.hingerota.specs.Waits.{wait_number};
@@ -186,18 +186,12 @@ pub struct Longest {
     pub estimate: u32,
 }
 
+// What a call that fills a lent list gives, before it is written: how many items there are to write, the answer, and the items.
 #[derive(Clone, Copy)]
-pub struct ProfileOutcome {
+pub struct Listing<T, const N: usize> {
     pub count: usize,
     pub answer: Shown,
-    pub points: [spans::Point; 129],
-}
-
-#[derive(Clone, Copy)]
-pub struct IndexOutcome {
-    pub count: usize,
-    pub answer: Shown,
-    pub blocks: [spans::Block; 9],
+    pub items: [T; N],
 }
 
 fn kind_of(n: u32) -> Kind
@@ -266,14 +260,12 @@ fn read_record(r: Record) -> Job
 fn mirror_job(j: Job) -> Record
     ensures { result ≡ mirror_job j }
 {
-    let s = j.state;
-    let whose = j.tenant;
     Record {
         ticket: j.ticket,
         nodes: j.nodes,
         estimate: j.estimate,
-        state: state_number(s),
-        tenant: whose.letter() as u16,
+        state: state_number(j.state),
+        tenant: j.tenant.letter() as u16,
         least: j.least,
         start: j.start,
         promise: j.promise,
@@ -287,18 +279,13 @@ fn mirror_job(j: Job) -> Record
 fn read(d: Desk) -> Scheduler
     ensures { result ≡ read d }
 {
-    let none = Job::unused();
-    let mut jobs = [none; 64];
-    let mut i: usize = 0;
-    while i < Scheduler::LIVE {
-        let r = d.jobs[i];
+    let mut jobs = [Job::unused(); 64];
+    for (i, &r) in d.jobs.iter().enumerate() {
         jobs[i] = read_record(r);
-        i += 1;
     }
-    let kind = kind_of(d.kind);
     Scheduler {
         settings: Settings {
-            kind: kind,
+            kind: kind_of(d.kind),
             nodes: d.nodes,
             cleanup: d.cleanup,
             quota_a: d.quota_a,
@@ -307,109 +294,180 @@ fn read(d: Desk) -> Scheduler
         },
         clock: d.clock,
         next: d.next,
-        jobs: jobs,
+        jobs,
     }
 }
 
 fn mirror(s: Scheduler) -> Desk
     ensures { result ≡ mirror s }
 {
-    let none = mirror_job(Job::unused());
-    let mut jobs = [none; 64];
-    let mut i: usize = 0;
-    while i < Scheduler::LIVE {
-        let j = s.jobs[i];
+    let mut jobs = [mirror_job(Job::unused()); 64];
+    for (i, &j) in s.jobs.iter().enumerate() {
         jobs[i] = mirror_job(j);
-        i += 1;
     }
-    let settings = s.settings;
-    let kind = settings.kind;
     Desk {
-        kind: kind_number(kind),
+        kind: kind_number(s.settings.kind),
         nodes: s.settings.nodes,
         cleanup: s.settings.cleanup,
         quota_a: s.settings.quota_a,
         quota_b: s.settings.quota_b,
         clock: s.clock,
         next: s.next,
-        jobs: jobs,
+        jobs,
     }
 }
 
-fn mirror_tickets(t: scheduler::Tickets) -> Tickets
-    ensures { result ≡ mirror_tickets t }
-{
-    let list = t.list;
-    Tickets {
-        count: t.count,
-        list: list,
+impl From<scheduler::Tickets> for Tickets {
+    ghost from_gives = { λ t r. r ≡ mirror_tickets t };
+
+    fn from(t: scheduler::Tickets) -> Tickets {
+        let list = t.list;
+        Tickets {
+            count: t.count,
+            list,
+        }
     }
 }
 
-fn mirror_answer(a: scheduler::Answer) -> Answer
-    ensures { result ≡ mirror_answer a }
-{
-    let refusal = a.refusal;
-    Answer {
-        refusal: refusal.code(),
-        ticket: a.ticket,
-        promise: a.promise,
-        reads: a.reads,
-        head: a.head,
-        forecast: a.forecast,
-        ended: mirror_tickets(a.ended),
-        started: mirror_tickets(a.started),
+impl From<scheduler::Answer> for Answer {
+    ghost from_gives = { λ a r. r ≡ mirror_answer a };
+
+    fn from(a: scheduler::Answer) -> Answer {
+        Answer {
+            refusal: a.refusal.code(),
+            ticket: a.ticket,
+            promise: a.promise,
+            reads: a.reads,
+            head: a.head,
+            forecast: a.forecast,
+            ended: a.ended.into(),
+            started: a.started.into(),
+        }
     }
 }
 
-fn mirror_outcome(o: scheduler::Outcome) -> Outcome
-    ensures { result ≡ mirror_outcome o }
-{
-    let answer = mirror_answer(o.answer);
-    let desk = mirror(o.scheduler);
-    Outcome {
-        answer: answer,
-        desk: desk,
+impl From<scheduler::Outcome> for Outcome {
+    ghost from_gives = { λ o r. r ≡ mirror_outcome o };
+
+    fn from(o: scheduler::Outcome) -> Outcome {
+        Outcome {
+            answer: o.answer.into(),
+            desk: mirror(o.scheduler),
+        }
     }
 }
 
-fn mirror_opened(p: scheduler::Opened) -> Opened
-    ensures { result ≡ mirror_opened p }
-{
-    let refusal = p.refusal;
-    let number = refusal.code();
-    let desk = mirror(p.scheduler);
-    Opened {
-        refusal: number,
-        desk: desk,
+impl From<scheduler::Opened> for Opened {
+    ghost from_gives = { λ p r. r ≡ mirror_opened p };
+
+    fn from(p: scheduler::Opened) -> Opened {
+        Opened {
+            refusal: p.refusal.code(),
+            desk: mirror(p.scheduler),
+        }
     }
 }
 
-fn mirror_shown(a: calls::Shown) -> Shown
-    ensures { result ≡ mirror_shown a }
-{
-    let refusal = a.refusal;
-    Shown {
-        refusal: refusal.code(),
-        count: a.count,
+impl From<calls::Shown> for Shown {
+    ghost from_gives = { λ a r. r ≡ mirror_shown a };
+
+    fn from(a: calls::Shown) -> Shown {
+        Shown {
+            refusal: a.refusal.code(),
+            count: a.count,
+        }
     }
 }
 
-fn mirror_point(p: spans::Point) -> Point
-    ensures { result ≡ mirror_point p }
-{
-    Point {
-        minute: p.minute,
-        free: p.free,
+impl From<spans::Point> for Point {
+    ghost from_gives = { λ p r. r ≡ mirror_point p };
+
+    fn from(p: spans::Point) -> Point {
+        Point {
+            minute: p.minute,
+            free: p.free,
+        }
     }
 }
 
-fn mirror_block(p: spans::Block) -> Block
-    ensures { result ≡ mirror_block p }
+impl From<spans::Block> for Block {
+    ghost from_gives = { λ p r. r ≡ mirror_block p };
+
+    fn from(p: spans::Block) -> Block {
+        Block {
+            fewest: p.fewest,
+            most: p.most,
+        }
+    }
+}
+
+impl From<scheduler::Earliest> for Earliest {
+    ghost from_gives = { λ e r. r ≡ mirror_earliest e };
+
+    fn from(e: scheduler::Earliest) -> Earliest {
+        Earliest {
+            refusal: e.refusal.code(),
+            minute: e.minute,
+        }
+    }
+}
+
+impl From<scheduler::Longest> for Longest {
+    ghost from_gives = { λ l r. r ≡ mirror_longest l };
+
+    fn from(l: scheduler::Longest) -> Longest {
+        Longest {
+            refusal: l.refusal.code(),
+            estimate: l.estimate,
+        }
+    }
+}
+
+impl From<Order> for Submission {
+    ghost from_gives = { λ o r. r ≡ wanted o };
+
+    fn from(o: Order) -> Submission {
+        Submission {
+            nodes: o.nodes,
+            estimate: o.estimate,
+            tenant: Tenant::of_letter(o.tenant),
+            least: o.least,
+        }
+    }
+}
+
+impl From<Amendment> for scheduler::Amendment {
+    ghost from_gives = { λ a r. r ≡ amendment_of a };
+
+    fn from(a: Amendment) -> scheduler::Amendment {
+        scheduler::Amendment {
+            ticket: a.ticket,
+            nodes: a.nodes,
+            estimate: a.estimate,
+            least: a.least,
+        }
+    }
+}
+
+impl From<Inquiry> for scheduler::Inquiry {
+    ghost from_gives = { λ q r. r ≡ asked_by q };
+
+    fn from(q: Inquiry) -> scheduler::Inquiry {
+        scheduler::Inquiry {
+            nodes: q.nodes,
+            tenant: Tenant::of_letter(q.tenant),
+            minute: q.minute,
+        }
+    }
+}
+
+fn mirror_listing<T: Copy, const N: usize>(p: calls::Listing<T, N>) -> Listing<T, N>
+    ensures { result ≡ mirror_listing p }
 {
-    Block {
-        fewest: p.fewest,
-        most: p.most,
+    Listing {
+        count: p.count,
+        answer: p.answer.into(),
+        items: p.items,
     }
 }
 
@@ -418,12 +476,10 @@ fn mirror_block(p: spans::Block) -> Block
 fn all_zero(numbers: &[u32]) -> bool
     ensures { result ≡ every is_zero numbers.now }
 {
-    let mut i: usize = 0;
-    while i < numbers.len() {
-        if numbers[i] != 0 {
+    for &n in numbers {
+        if n != 0 {
             return false;
         }
-        i += 1;
     }
     true
 }
@@ -478,15 +534,11 @@ fn in_order(d: Desk) -> bool
     ensures { result ≡ in_order true d.jobs }
 {
     let mut live = true;
-    let mut i: usize = 0;
-    while i < Scheduler::LIVE {
-        let r = d.jobs[i];
-        if follows(live, r) {
-            live = r.state != 0;
-            i += 1;
-        } else {
+    for &r in &d.jobs {
+        if !follows(live, r) {
             return false;
         }
+        live = r.state != 0;
     }
     true
 }
@@ -494,8 +546,7 @@ fn in_order(d: Desk) -> bool
 fn check(d: Desk) -> u32
     ensures { result ≡ check_number d }
 {
-    let why = Refusal::TextRejected;
-    let rejected = why.code();
+    let rejected = Refusal::TextRejected.code();
     if 1 < d.kind {
         return rejected;
     }
@@ -510,57 +561,57 @@ fn check(d: Desk) -> u32
 
 // ## By value
 
-fn open(o: scheduler::Opening) -> Opened
-    ensures { result ≡ opens o }
+fn open(kind: Kind, o: Opening) -> Opened
+    ensures { result ≡ opens (opening_of kind o) }
 {
-    mirror_opened(Scheduler::open(o))
+    Scheduler::open(scheduler::Opening {
+        settings: Settings {
+            kind,
+            nodes: o.nodes,
+            cleanup: o.cleanup,
+            quota_a: o.quota_a,
+            quota_b: o.quota_b,
+            longest: Scheduler::LONGEST_ESTIMATE,
+        },
+        minute: o.minute,
+        ticket: o.ticket,
+    })
+    .into()
 }
 
 fn submit(d: Desk, order: Order) -> Outcome
     requires { Handed d }
     ensures { result ≡ gives d (calls.submit (wanted order)) }
 {
-    let s = Submission {
-        nodes: order.nodes,
-        estimate: order.estimate,
-        tenant: Tenant::of_letter(order.tenant),
-        least: order.least,
-    };
-    mirror_outcome(calls::submit(read(d), s))
+    calls::submit(read(d), order.into()).into()
 }
 
 fn complete(d: Desk, ticket: u32) -> Outcome
     requires { Handed d }
     ensures { result ≡ gives d (calls.complete ticket) }
 {
-    mirror_outcome(calls::complete(read(d), ticket))
+    calls::complete(read(d), ticket).into()
 }
 
 fn cancel(d: Desk, ticket: u32) -> Outcome
     requires { Handed d }
     ensures { result ≡ gives d (calls.cancel ticket) }
 {
-    mirror_outcome(calls::cancel(read(d), ticket))
+    calls::cancel(read(d), ticket).into()
 }
 
 fn amend(d: Desk, amendment: Amendment) -> Outcome
     requires { Handed d }
     ensures { result ≡ amends_on d amendment }
 {
-    let a = scheduler::Amendment {
-        ticket: amendment.ticket,
-        nodes: amendment.nodes,
-        estimate: amendment.estimate,
-        least: amendment.least,
-    };
-    mirror_outcome(calls::amend(read(d), a))
+    calls::amend(read(d), amendment.into()).into()
 }
 
 fn tick(d: Desk) -> Outcome
     requires { Handed d }
     ensures { result ≡ gives d calls.tick }
 {
-    mirror_outcome(calls::tick(read(d)))
+    calls::tick(read(d)).into()
 }
 
 fn advance(d: Desk, minutes: u32) -> AdvanceOutcome
@@ -568,114 +619,62 @@ fn advance(d: Desk, minutes: u32) -> AdvanceOutcome
     ensures { result ≡ advances_on d minutes }
 {
     let o = advancing::advance(read(d), minutes);
-    let told = o.answer;
-    let answer = mirror_answer(told.answer);
-    let desk = mirror(o.scheduler);
     AdvanceOutcome {
         answer: Advanced {
-            answer: answer,
-            minutes: told.minutes,
+            answer: o.answer.answer.into(),
+            minutes: o.answer.minutes,
         },
-        desk: desk,
+        desk: mirror(o.scheduler),
     }
 }
 
-fn profile(d: Desk, room: usize) -> ProfileOutcome
+fn profile(d: Desk, room: usize) -> Listing<spans::Point, 129>
     requires { Handed d }
     ensures { result ≡ points_in d room }
 {
-    let p = calls::profile(read(d), room);
-    let answer = mirror_shown(p.answer);
-    let points = p.points;
-    ProfileOutcome {
-        count: p.count,
-        answer: answer,
-        points: points,
-    }
+    mirror_listing(calls::profile(read(d), room))
 }
 
-fn point_at(p: ProfileOutcome, i: usize) -> Point
-    ensures { result ≡ point_at p i }
-{
-    if 129 <= i {
-        return Point { minute: 0, free: 0 };
-    }
-    let q = p.points[i];
-    mirror_point(q)
-}
-
-fn index(d: Desk, room: usize) -> IndexOutcome
+fn index(d: Desk, room: usize) -> Listing<spans::Block, 9>
     requires { Handed d }
     ensures { result ≡ blocks_in d room }
 {
-    let p = calls::index(read(d), room);
-    let answer = mirror_shown(p.answer);
-    let blocks = p.blocks;
-    IndexOutcome {
-        count: p.count,
-        answer: answer,
-        blocks: blocks,
-    }
-}
-
-fn block_at(p: IndexOutcome, i: usize) -> Block
-    ensures { result ≡ block_at p i }
-{
-    if 9 <= i {
-        return Block { fewest: 0, most: 0 };
-    }
-    let q = p.blocks[i];
-    mirror_block(q)
+    mirror_listing(calls::index(read(d), room))
 }
 
 fn earliest_start(d: Desk, ticket: u32) -> Earliest
     requires { Handed d }
     ensures { result ≡ earliest_on d ticket }
 {
-    let e = calls::earliest_start(read(d), ticket);
-    let refusal = e.refusal;
-    Earliest {
-        refusal: refusal.code(),
-        minute: e.minute,
-    }
+    calls::earliest_start(read(d), ticket).into()
 }
 
 fn longest_estimate(d: Desk, inquiry: Inquiry) -> Longest
     requires { Handed d }
     ensures { result ≡ longest_on d inquiry }
 {
-    let q = scheduler::Inquiry {
-        nodes: inquiry.nodes,
-        tenant: Tenant::of_letter(inquiry.tenant),
-        minute: inquiry.minute,
-    };
-    let l = calls::longest_estimate(read(d), q);
-    let refusal = l.refusal;
-    Longest {
-        refusal: refusal.code(),
-        estimate: l.estimate,
-    }
+    calls::longest_estimate(read(d), inquiry.into()).into()
 }
 
 fn status_page(d: Desk, page: &mut [u8]) -> Shown
     requires { Handed d }
     ensures { HostShowsPage d page.old result page.new }
 {
-    mirror_shown(calls::status_page(read(d), page))
+    calls::status_page(read(d), page).into()
 }
 
 fn checkpoint(d: Desk, text: &mut [u8]) -> Shown
     requires { Handed d }
     ensures { HostShowsText d text.old result text.new }
 {
-    mirror_shown(calls::checkpoint(read(d), text))
+    calls::checkpoint(read(d), text).into()
 }
 
 fn why(d: Desk, text: &mut [u8]) -> Shown
     requires { Handed d }
     ensures { HostShowsWhy d text.old result text.new }
 {
-    mirror_shown(calls::why(read(d), text))
+    calls::why(read(d), text).into()
 }
 
 fn migrate(d: Desk) -> Desk
@@ -689,8 +688,7 @@ fn wait_refusal(d: Desk, minutes: u32) -> u32
     requires { Handed d }
     ensures { result ≡ wait_number d minutes }
 {
-    let refusal = calls::wait_refusal(read(d), minutes);
-    refusal.code()
+    calls::wait_refusal(read(d), minutes).code()
 }
 
 // ## Exported
@@ -700,18 +698,7 @@ fn wait_refusal(d: Desk, minutes: u32) -> u32
 pub extern "C" fn hingerota_open_promise(opening: Opening) -> Opened
     ensures { result ≡ opens (promise_opening opening) }
 {
-    open(scheduler::Opening {
-        settings: Settings {
-            kind: Kind::Conservative,
-            nodes: opening.nodes,
-            cleanup: opening.cleanup,
-            quota_a: opening.quota_a,
-            quota_b: opening.quota_b,
-            longest: Scheduler::LONGEST_ESTIMATE,
-        },
-        minute: opening.minute,
-        ticket: opening.ticket,
-    })
+    open(Kind::Conservative, opening)
 }
 
 // An empty desk of EASY backfilling (document 01: "Loose Desk").
@@ -719,18 +706,7 @@ pub extern "C" fn hingerota_open_promise(opening: Opening) -> Opened
 pub extern "C" fn hingerota_open_loose(opening: Opening) -> Opened
     ensures { result ≡ opens (loose_opening opening) }
 {
-    open(scheduler::Opening {
-        settings: Settings {
-            kind: Kind::Easy,
-            nodes: opening.nodes,
-            cleanup: opening.cleanup,
-            quota_a: opening.quota_a,
-            quota_b: opening.quota_b,
-            longest: Scheduler::LONGEST_ESTIMATE,
-        },
-        minute: opening.minute,
-        ticket: opening.ticket,
-    })
+    open(Kind::Easy, opening)
 }
 
 // A desk of either kind that is read back from its lines (document 02, No. 11). A refused reading hands back an empty Promise Desk.
@@ -738,7 +714,7 @@ pub extern "C" fn hingerota_open_loose(opening: Opening) -> Opened
 pub extern "C" fn hingerota_restore(text: &[u8]) -> Opened
     ensures { result ≡ restores text.now }
 {
-    mirror_opened(calls::restore(text))
+    calls::restore(text).into()
 }
 
 // Whether these numbers, whatever they are, are a desk that may be passed to the other calls: 0, or 23.
@@ -822,10 +798,8 @@ pub extern "C" fn hingerota_profile(d: &Desk, points: &mut [Point]) -> Shown
     ensures { HostShowsPoints d.now points.old result points.new }
 {
     let p = profile(*d, points.len());
-    let mut i = 0;
-    while i < p.count {
-        points[i] = point_at(p, i);
-        i += 1;
+    for i in 0..p.count {
+        points[i] = p.items[i].into();
     }
     p.answer
 }
@@ -837,10 +811,8 @@ pub extern "C" fn hingerota_index(d: &Desk, blocks: &mut [Block]) -> Shown
     ensures { HostShowsBlocks d.now blocks.old result blocks.new }
 {
     let p = index(*d, blocks.len());
-    let mut i = 0;
-    while i < p.count {
-        blocks[i] = block_at(p, i);
-        i += 1;
+    for i in 0..p.count {
+        blocks[i] = p.items[i].into();
     }
     p.answer
 }

@@ -9,5 +9,5 @@ advance-o-requires c = read_premise _ _ c.read.ensures c.requires
 
 pub returns : goal.returns
 returns c =
-    rw (c.mirror_answer-answer.ensures, c.mirror-desk.ensures)
+    rw (c.into.ensures, c.mirror.ensures)
     (advance_given c.args.d c.args.minutes _ c.advance-o.result c.read.ensures c.advance-o.ensures)

@@ -19,14 +19,14 @@ one_more xs i l e = rw (add-one, drop-cons xs i 0 l, eq-eqb (get_or xs i 0) 0 e)
 not-zero : (xs : List ℕ) (i : ℕ) → i < length xs → (get_or xs i 0 ≡ 0 → ⊥) → every is_zero (drop i xs) ≡ false
 not-zero xs i l n = rw (drop-cons xs i 0 l, ne_eqb (get_or xs i 0) 0 n)
 
-pub loop-i-init : goal.loop-i-init
-loop-i-init c = (omega arith, refl)
+pub loop-n-init : goal.loop-n-init
+loop-n-init c = (omega arith, refl)
 
-pub returns-then-numbers-i-ne0 : goal.returns-then-numbers-i-ne0
-returns-then-numbers-i-ne0 c = let l = c.loop-i in sym (l.invariant.1 ∙ not-zero _ l.i c.loop-i-test.true c.if-numbers-i-ne0.true)
+pub returns-then-n-ne0 : goal.returns-then-n-ne0
+returns-then-n-ne0 c = let l = c.loop-n in sym (l.invariant.1 ∙ not-zero _ l.n-index c.loop-n-test.true c.if-n-ne0.true)
 
-pub loop-i-preserved : goal.loop-i-preserved
-loop-i-preserved c = let l = c.loop-i in (omega arith, l.invariant.1 ∙ one_more _ l.i c.loop-i-test.true c.if-numbers-i-ne0.false)
+pub loop-n-preserved : goal.loop-n-preserved
+loop-n-preserved c = let l = c.loop-n in (omega arith, l.invariant.1 ∙ one_more _ l.n-index c.loop-n-test.true c.if-n-ne0.false)
 
 pub returns : goal.returns
-returns c = let l = c.loop-i in sym (l.invariant.1 ∙ rw (drop_of_length-le _ c.loop-i-test.false))
+returns c = let l = c.loop-n in sym (l.invariant.1 ∙ rw (drop_of_length-le _ c.loop-n-test.false))

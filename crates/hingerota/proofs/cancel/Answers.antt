@@ -7,4 +7,4 @@ cancel-requires c = read_premise _ _ c.read.ensures c.requires
 
 pub returns : goal.returns
 returns c = call_given c.args.d (calls.cancel c.args.ticket) _ _ _ c.read.ensures c.cancel.ensures
-    c.mirror_outcome.ensures
+    c.into.ensures

@@ -10,4 +10,4 @@ checkpoint-requires c = read_premise _ _ c.read.ensures c.requires
 
 pub returns : goal.returns
 returns c =
-    text_given desk_text _ _ _ c.checkpoint.result _ _ c.read.ensures c.checkpoint.ensures c.mirror_shown.ensures
+    text_given desk_text _ _ _ c.checkpoint.result _ _ c.read.ensures c.checkpoint.ensures c.into.ensures

@@ -7,4 +7,4 @@ complete-requires c = read_premise _ _ c.read.ensures c.requires
 
 pub returns : goal.returns
 returns c = call_given c.args.d (calls.complete c.args.ticket) _ _ _ c.read.ensures c.complete.ensures
-    c.mirror_outcome.ensures
+    c.into.ensures

@@ -3,16 +3,16 @@
 use Rattle.std.specs.Prelude.{◌≡◌, ◌<◌, length}
 use Rattle.std.proofs.Common.{ap, arith, add-one, rules}
 use Rattle.std.proofs.Math.Path.{refl}
-use Rattle.hingerota.specs.IndexContract.{block_at, blocks_written, host_blocks_fits}
+use Rattle.hingerota.specs.IndexContract.{block_at, blocks_written, host_blocks_fits, host_blocks_few}
 use Rattle.lent_lemmas.proofs.Fills.{filled_next, filled_length}
 use Rattle.hingerota.proofs.hingerota_index.Goals as goal
-use Rattle.hingerota.proofs.hingerota_index.Goals.{After-block_at}
+use Rattle.hingerota.proofs.hingerota_index.Goals.{After-into}
 
 pub loop-i-init : goal.loop-i-init
 loop-i-init c = (search rules, refl)
 
 -- there is room for the next one
-below : (c : After-block_at) → c.loop-i.i < length c.loop-i.blocks
+below : (c : After-into) → c.loop-i.i < length c.loop-i.blocks
 below c =
     let a = c.args in
     let p = c.index-p in
@@ -20,10 +20,16 @@ below c =
     omega (arith, c.loop-i-test.true, ap length c.loop-i.invariant.1, filled_length c.loop-i.i (block_at p.result) a.blocks.now (omega arith))
 
 pub offset_bounds-blocks-i : goal.offset_bounds-blocks-i
-offset_bounds-blocks-i c = let l = below (goal.at.offset_bounds-blocks-i c).After-block_at in search rules
+offset_bounds-blocks-i c = let l = below (goal.at.offset_bounds-blocks-i c).After-into in search rules
 
 pub bounds-blocks-i : goal.bounds-blocks-i
-bounds-blocks-i c = below (goal.at.bounds-blocks-i c).After-block_at
+bounds-blocks-i c = below (goal.at.bounds-blocks-i c).After-into
+
+pub offset_bounds-p-i : goal.offset_bounds-p-i
+offset_bounds-p-i c = omega (arith, c.loop-i-test.true, host_blocks_few c.args.d.now _ _ c.requires c.index-p.ensures)
+
+pub bounds-p-i : goal.bounds-p-i
+bounds-p-i c = omega (arith, c.loop-i-test.true, host_blocks_few c.args.d.now _ _ c.requires c.index-p.ensures)
 
 pub loop-i-preserved : goal.loop-i-preserved
 loop-i-preserved c =
@@ -32,7 +38,7 @@ loop-i-preserved c =
     let l = c.loop-i in
     let room = host_blocks_fits a.d.now (length a.blocks.now) p.result p.ensures in
     let next = filled_next l.i (block_at p.result) a.blocks.now (omega (arith, c.loop-i-test.true)) in
-    (omega arith, rw (l.invariant.1, c.block_at.ensures, add-one) next)
+    (omega arith, rw (l.invariant.1, c.into.ensures, add-one) next)
 
 pub returns : goal.returns
 returns c =

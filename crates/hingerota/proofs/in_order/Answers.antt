@@ -31,20 +31,20 @@ all_so : (rs : List Record) (live : Bool) (i : ℕ) → length rs ≤ i → in_o
 unfolding in_order
 all_so rs live i l = rw (drop_of_length-le rs l)
 
-pub loop-i-init : goal.loop-i-init
-loop-i-init c = (omega arith, refl)
+pub loop-r-init : goal.loop-r-init
+loop-r-init c = (omega arith, refl)
 
-pub loop-i-preserved : goal.loop-i-preserved
-loop-i-preserved c =
+pub loop-r-preserved : goal.loop-r-preserved
+loop-r-preserved c =
     let n = whole c.args.d c.well_formed.0 in
-    (omega arith, c.loop-i.invariant.1 ∙ one_more c.args.d.jobs c.loop-i.live c.loop-i.i (omega arith) (sym c.follows.ensures ∙ c.if-follows.true))
+    (omega arith, c.loop-r.invariant.1 ∙ one_more c.args.d.jobs c.loop-r.live c.loop-r.r-index (omega arith) (sym c.follows.ensures ∙ c.if-not-follows.false))
 
-pub returns-else-follows : goal.returns-else-follows
-returns-else-follows c =
+pub returns-then-not-follows : goal.returns-then-not-follows
+returns-then-not-follows c =
     let n = whole c.args.d c.well_formed.0 in
-    sym (c.loop-i.invariant.1 ∙ not_so c.args.d.jobs c.loop-i.live c.loop-i.i (omega arith) (sym c.follows.ensures ∙ c.if-follows.false))
+    sym (c.loop-r.invariant.1 ∙ not_so c.args.d.jobs c.loop-r.live c.loop-r.r-index (omega arith) (sym c.follows.ensures ∙ c.if-not-follows.true))
 
 pub returns : goal.returns
 returns c =
     let n = whole c.args.d c.well_formed.0 in
-    sym (c.loop-i.invariant.1 ∙ all_so c.args.d.jobs c.loop-i.live c.loop-i.i (omega arith))
+    sym (c.loop-r.invariant.1 ∙ all_so c.args.d.jobs c.loop-r.live c.loop-r.r-index (omega arith))

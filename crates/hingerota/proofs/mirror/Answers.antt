@@ -12,7 +12,7 @@ use Rattle.hingerota.proofs.mirror.Goals as goal
 
 pub loop-i-init : goal.loop-i-init
 unfolding pad
-loop-i-init c = (search rules, rw (c.mirror_job-none.ensures, c.unused.ensures))
+loop-i-init c = (search rules, rw (c.mirror_job-jobs.ensures, c.unused.ensures))
 
 pub loop-i-preserved : goal.loop-i-preserved
 loop-i-preserved c =

@@ -3,4 +3,4 @@
 use Rattle.hingerota.proofs.open.Goals as goal
 
 pub returns : goal.returns
-returns c = rw (c.mirror_opened.ensures, c.open.ensures)
+returns c = rw (c.into.ensures, c.«open».ensures)

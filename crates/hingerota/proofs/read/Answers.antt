@@ -12,7 +12,7 @@ use Rattle.hingerota.proofs.read.Goals as goal
 
 pub loop-i-init : goal.loop-i-init
 unfolding pad
-loop-i-init c = (search rules, rw c.unused-none.ensures)
+loop-i-init c = (search rules, rw c.unused-jobs.ensures)
 
 pub loop-i-preserved : goal.loop-i-preserved
 loop-i-preserved c =
@@ -30,4 +30,4 @@ returns c =
     let l = c.loop-i in
     let xs = c.args.d.jobs in
     let len = whole c.args.d c.well_formed.0 in
-    rw (c.kind_of-kind.ensures, l.invariant.1, copied_all read_record no_record unused 64 xs l.i len (omega arith))
+    rw (c.kind_of.ensures, l.invariant.1, copied_all read_record no_record unused 64 xs l.i len (omega arith))

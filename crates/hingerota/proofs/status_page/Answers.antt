@@ -10,4 +10,4 @@ status_page-requires c = read_premise _ _ c.read.ensures c.requires
 
 pub returns : goal.returns
 returns c =
-    text_given status_page_of _ _ _ c.status_page.result _ _ c.read.ensures c.status_page.ensures c.mirror_shown.ensures
+    text_given status_page_of _ _ _ c.status_page.result _ _ c.read.ensures c.status_page.ensures c.into.ensures

@@ -9,5 +9,5 @@ submit-requires c = read_premise _ _ c.read.ensures c.requires
 pub returns : goal.returns
 returns c =
     call_given c.args.d (calls.submit (wanted c.args.order)) _ _ _ c.read.ensures
-    (rw c.of_letter.ensures at c.submit.ensures)
-    c.mirror_outcome.ensures
+    (rw c.into.ensures at c.submit.ensures)
+    c.into-2.ensures

@@ -6,4 +6,4 @@ pub tick-requires : goal.tick-requires
 tick-requires c = read_premise _ _ c.read.ensures c.requires
 
 pub returns : goal.returns
-returns c = call_given c.args.d calls.tick _ _ _ c.read.ensures c.tick.ensures c.mirror_outcome.ensures
+returns c = call_given c.args.d calls.tick _ _ _ c.read.ensures c.tick.ensures c.into.ensures

@@ -10,4 +10,4 @@ why-requires c = read_premise _ _ c.read.ensures c.requires
 
 pub returns : goal.returns
 returns c =
-    text_given why_text _ _ _ c.why.result _ _ c.read.ensures c.why.ensures c.mirror_shown.ensures
+    text_given why_text _ _ _ c.why.result _ _ c.read.ensures c.why.ensures c.into.ensures
