@@ -71,9 +71,6 @@ module _ (d : Scheduler) (how : Departure) (ticket : ℕ) (v : Holds Valid d) (l
   unfolding advanced_by
   hands_back = ap (λ (o : Outcome). o.scheduler) answers
 
-pub offset_bounds-d-slot : goal.offset_bounds-d-slot
-offset_bounds-d-slot c = omega (arith, (who c).low)
-
 pub bounds-d-slot : goal.bounds-d-slot
 bounds-d-slot c = (who c).low
 

@@ -10,14 +10,8 @@ use Rattle.longest.specs.Scan.{edge_rise, scan_begin, scan_few, scan_enough, sca
 use Rattle.longest.proofs.widest.Goals.{else-left-nodes, then-left-nodes}
 use Rattle.longest.proofs.widest.Goals as goal
 
-pub bounds-minutes-0 : goal.bounds-minutes-0
-bounds-minutes-0 c = omega (arith, c.requires.profile.minutes_long)
-
 pub loop-i-init : goal.loop-i-init
 loop-i-init c s = scan_begin s
-
-pub edge-end-requires : goal.edge-end-requires
-edge-end-requires c = let s = c.requires in (s.profile.minutes_long, s.fit)
 
 pub longer-longest-requires : goal.longer-longest-requires
 longer-longest-requires c =
