@@ -12,7 +12,6 @@ ghost use Rattle.jobs.specs.Soundness.{Sound};
 ghost use Rattle.jobs.specs.Premise.{Holds};
 ghost use Rattle.jobs.specs.Slots.{Low};
 ghost use Rattle.easy_rules.specs.EarliestStart.{over_at_least, earliest_for, earliest_start};
-ghost use Rattle.job_columns.specs.Columns.{Blank};
 ghost use Rattle.earliest.specs.Survey.{Surveyed, Asked};
 
 use scheduler::{Departure, Earliest, Job, Refusal, Scheduler, Settings};
@@ -29,20 +28,24 @@ fn released(job: Job, settings: Settings, now: u32) -> u32
     end + settings.cleanup()
 }
 
-// How many jobs hold nodes, and how many nodes are free.
+// The nodes of the jobs that hold some, the minutes in which they are given back at the earliest, how many jobs these are, and how many nodes are
+// free.
 #[derive(Clone, Copy)]
 struct Taken {
+    held: [u32; 64],
+    ends: [u32; 64],
     running: usize,
     spare: u32,
 }
 
-// Lists the nodes of the jobs that hold some, and the minutes in which they are given back at the earliest.
-fn survey(d: Scheduler, held: &mut [u32; 64], ends: &mut [u32; 64]) -> Taken
-    requires { Holds Sound d × Blank held.old × Blank ends.old }
-    ensures { Surveyed d held.new ends.new result.running result.spare }
+fn survey(d: Scheduler) -> Taken
+    requires { Holds Sound d }
+    ensures { Surveyed d result.held result.ends result.running result.spare }
 {
     let settings = d.settings;
     let clock = d.clock;
+    let mut held = [0u32; 64];
+    let mut ends = [0u32; 64];
     let mut running: usize = 0;
     let mut spare = settings.nodes;
     for &j in &d.jobs {
@@ -54,7 +57,12 @@ fn survey(d: Scheduler, held: &mut [u32; 64], ends: &mut [u32; 64]) -> Taken
             spare -= nodes;
         }
     }
-    Taken { running, spare }
+    Taken {
+        held,
+        ends,
+        running,
+        spare,
+    }
 }
 
 // The smallest minute, now or later, at which this many nodes would be free.
@@ -62,16 +70,21 @@ fn earliest(d: Scheduler, nodes: u32) -> u32
     requires { Holds Sound d × (nodes ≤ d.settings.nodes) }
     ensures { result ≡ earliest_for (view d) nodes }
 {
-    let mut held = [0u32; 64];
-    let mut ends = [0u32; 64];
-    let taken = survey(d, &mut held, &mut ends);
+    let taken = survey(d);
     let clock = d.clock;
-    if nodes <= easy_engine::avail_at(&held, &ends, taken.running, taken.spare, clock) {
+    if nodes <= easy_engine::avail_at(&taken.held, &taken.ends, taken.running, taken.spare, clock) {
         return clock;
     }
     let settings = d.settings;
     let latest = clock + settings.unit();
-    easy_engine::shadow(&held, &ends, taken.running, taken.spare, nodes, latest)
+    easy_engine::shadow(
+        &taken.held,
+        &taken.ends,
+        taken.running,
+        taken.spare,
+        nodes,
+        latest,
+    )
 }
 
 // The nodes that the waiting job with this ticket asks for, if such a job waits.

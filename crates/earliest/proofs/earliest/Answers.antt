@@ -4,7 +4,6 @@ use Prim.Native.Nat.{ℕ, ◌+◌}
 use native.Mathlib.Omega.{arith}
 use mathlib.Core.Path.{ap}
 use Rattle.scheduler.specs.Times.{unit_le}
-use Rattle.easy_engine.specs.SurveyLoop.{blank}
 use Rattle.earliest.specs.Survey.{clock_low, held_by, Short, short_by, lacks_by, now_given}
 use Rattle.earliest.proofs.earliest.Goals.{After-unit}
 use Rattle.earliest.proofs.earliest.Goals as goal
@@ -18,7 +17,7 @@ short u =
     (ap (λ (x : ℕ). u.args.d.clock + x) u.unit.ensures)
 
 pub survey-taken-requires : goal.survey-taken-requires
-survey-taken-requires c = (c.requires.0, blank, blank)
+survey-taken-requires c = c.requires.0
 
 pub returns-then-nodes-avail_at : goal.returns-then-nodes-avail_at
 returns-then-nodes-avail_at c =
