@@ -123,14 +123,14 @@ pub fn supersede(d: Scheduler, a: Amendment) -> Part
     requires { Holds Sound d }
     ensures { result ≡ part (superseding (view d) a) }
 {
-    let Some(slot) = slot_of(&d.jobs, Departure::Cancel, a.ticket) else {
-        return Part::bare(Refusal::NotWaiting, d);
-    };
-    let job = d.jobs[slot];
-    let refusal = in_place_refusal(a, job, d.settings);
     let mut e = d;
-    if refusal.is_none() {
-        e.jobs[slot] = superseded(job, a);
+    let mut refusal = Refusal::NotWaiting;
+    if let Some(slot) = slot_of(&d.jobs, Departure::Cancel, a.ticket) {
+        let job = d.jobs[slot];
+        refusal = in_place_refusal(a, job, d.settings);
+        if refusal.is_none() {
+            e.jobs[slot] = superseded(job, a);
+        }
     }
     Part::bare(refusal, e)
 }

@@ -12,7 +12,7 @@ ghost use Rattle.scheduler.specs.Model.{view};
 ghost use Rattle.jobs.specs.Soundness.{Sound};
 ghost use Rattle.jobs.specs.Premise.{Holds};
 ghost use Rattle.jobs.specs.Slots.{Low, Orderly};
-ghost use Rattle.job_table.specs.Parts.{refusal_by, cleans_if, withdrawn_by, past_horizon, part, bare_part, departing, ticking, due_by};
+ghost use Rattle.job_table.specs.Parts.{refusal_by, ends_if, cleans_if, withdrawn_if, past_horizon, part, bare_part, departing, ticking, due_by};
 ghost use Rattle.job_table.specs.Submitting.{Tells};
 
 use scheduler::{Departure, Job, Refusal, Scheduler, Settings, State, Submission, Tenant, Tickets};
@@ -134,14 +134,21 @@ fn cleans(how: Departure, settings: Settings) -> bool
     how == Departure::Complete && 0 < settings.cleanup()
 }
 
-// The ticket if the job that leaves so is withdrawn, or 0.
-fn withdrawn_by(how: Departure, ticket: u32) -> u32
-    ensures { result ≡ withdrawn_by how ticket }
+// Whether the run of the job found ends.
+fn ends_if(how: Departure, found: bool) -> bool
+    ensures { result ≡ ends_if how found }
 {
-    match how {
-        Departure::Complete => 0,
-        Departure::Cancel => ticket,
+    found && how == Departure::Complete
+}
+
+// The ticket of the job found if it is withdrawn, or 0.
+fn withdrawn_if(how: Departure, found: bool, ticket: u32) -> u32
+    ensures { result ≡ withdrawn_if how found ticket }
+{
+    if found && how == Departure::Cancel {
+        return ticket;
     }
+    0
 }
 
 // The slot of the job that can leave so and has this ticket.
@@ -156,25 +163,27 @@ pub fn leave(d: Scheduler, how: Departure, ticket: u32) -> Part
     requires { Holds Sound d }
     ensures { result ≡ part (departing (view d) how ticket) }
 {
-    // 7 or 11, then 20.
-    let Some(i) = slot_of(&d.jobs, how, ticket) else {
-        return Part::bare(not_there(how), d);
+    // 7 or 11, then 20. (A refused call goes the same way: a second way out would copy the scheduler once more in every call.)
+    let (refusal, slot) = match slot_of(&d.jobs, how, ticket) {
+        None => (not_there(how), None),
+        Some(i) if d.jobs[i].is_early(how, d.clock) => (Refusal::BeforeLeast, None),
+        Some(i) => (Refusal::None, Some(i)),
     };
-    if d.jobs[i].is_early(how, d.clock) {
-        return Part::bare(Refusal::BeforeLeast, d);
-    }
+    let found = slot.is_some();
     let mut e = d;
-    if cleans(how, d.settings) {
-        e.jobs[i] = d.jobs[i].cleaning(d.clock);
-    } else {
-        e.jobs.copy_within(i + 1.., i);
-        e.jobs[LAST] = Job::unused();
+    if let Some(i) = slot {
+        if cleans(how, e.settings) {
+            e.jobs[i] = e.jobs[i].cleaning(e.clock);
+        } else {
+            e.jobs.copy_within(i + 1.., i);
+            e.jobs[LAST] = Job::unused();
+        }
     }
     Part {
-        refusal: Refusal::None,
+        refusal,
         ticket: 0,
-        ended: Tickets::one_if(how == Departure::Complete, ticket),
-        withdrawn: withdrawn_by(how, ticket),
+        ended: Tickets::one_if(ends_if(how, found), ticket),
+        withdrawn: withdrawn_if(how, found, ticket),
         scheduler: e,
     }
 }
@@ -193,10 +202,8 @@ fn due_at(job: Job, settings: Settings, minute: u32) -> Due
     ensures { result ≡ due_by settings minute job }
 {
     match job.state {
-        State::Running
-            if job.start + job.estimate as u32 <= minute && job.ends_at(settings, minute) => {
-            Due::Ends
-        }
+        State::Running if minute < job.start + job.estimate as u32 => Due::Stays,
+        State::Running if job.ends_at(settings, minute) => Due::Ends,
         State::Cleanup if job.released_at(settings, minute) => Due::Leaves,
         _ => Due::Stays,
     }
@@ -210,7 +217,8 @@ pub fn expire(d: Scheduler) -> Part
 {
     let settings = d.settings;
     let cleared = 0 < settings.cleanup();
-    let live = first_unused(d);
+    // Found in place: a function that reads the scheduler copies it.
+    let live = d.jobs.partition_point(|j| j.is_live());
     let clock = d.clock + 1;
     let mut e = d;
     e.clock = clock.min(Scheduler::HORIZON);

@@ -10,8 +10,8 @@ use Rattle.scheduler.specs.Settings.{end_of}
 use Rattle.scheduler.specs.Times.{end_is, run_from}
 use Rattle.job_table.proofs.due_at.Goals as goal
 
-pub returns-in_default-2 : goal.returns-in_default-2
-returns-in_default-2 c =
+pub returns-in-Running : goal.returns-in-Running
+returns-in-Running c =
     let a = c.args in
     let S = a.settings in
     let j = a.job in
