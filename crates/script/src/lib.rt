@@ -35,20 +35,15 @@ fn later(p: Play, script: &[u8], page: &mut [u8]) -> Played
         let mut minutes: u32 = 0;
         if 0 < steps {
             let mut until = quiet_minutes::latest(d.clock, steps);
-            let mut i: usize = 0;
-            while i < Scheduler::LIVE {
-                let j = d.jobs[i];
-                until = quiet_minutes::quiet_of(j, d.settings, d.clock, until);
-                i += 1;
+            for i in 0..Scheduler::LIVE {
+                until = quiet_minutes::quiet_of(d.jobs[i], d.settings, d.clock, until);
             }
             minutes = until - d.clock;
         }
         d.clock += minutes;
         if 0 < minutes {
-            let own = d.settings;
-            let own_kind = own.kind;
             count = kept_calls::pass_over(
-                own_kind,
+                d.settings.kind,
                 d.clock,
                 &mut points,
                 &mut free,
@@ -60,12 +55,10 @@ fn later(p: Play, script: &[u8], page: &mut [u8]) -> Played
         let next = script_turns::next_turn(script, at, steps - minutes);
         at = next.at;
         steps = next.steps;
-        let turn = next.turn;
-        match turn {
+        match next.turn {
             Some(asked) => match asked {
                 Asked::Call(request) => {
-                    let settings = d.settings;
-                    let kind = settings.kind;
+                    let kind = d.settings.kind;
                     let kept = kept_calls::call(
                         d,
                         request,
@@ -76,9 +69,8 @@ fn later(p: Play, script: &[u8], page: &mut [u8]) -> Played
                         count,
                     );
                     count = kept.count;
-                    let done = kept.outcome;
-                    d = done.scheduler;
-                    let answer = done.answer;
+                    d = kept.outcome.scheduler;
+                    let answer = kept.outcome.answer;
                     end = script_writing::put_answer(page, end, kind, d.clock, answer);
                     continue;
                 }
@@ -98,11 +90,11 @@ fn later(p: Play, script: &[u8], page: &mut [u8]) -> Played
             },
             None => {
                 return Played {
-                    end: end,
+                    end,
                     play: Play {
                         stage: Stage::Over,
-                        at: at,
-                        steps: steps,
+                        at,
+                        steps,
                         scheduler: d,
                     },
                 };
@@ -110,11 +102,11 @@ fn later(p: Play, script: &[u8], page: &mut [u8]) -> Played
         }
     }
     Played {
-        end: end,
+        end,
         play: Play {
             stage: Stage::Playing,
-            at: at,
-            steps: steps,
+            at,
+            steps,
             scheduler: d,
         },
     }
@@ -125,8 +117,7 @@ pub fn fill(p: Play, script: &[u8], page: &mut [u8]) -> Played
     requires { InPlay script.now p × (page_bytes ≤ length page.old) }
     ensures { Filled (script_player script.now) p page.new result.end result.play }
 {
-    let stage = p.stage;
-    match stage {
+    match p.stage {
         Stage::First => script_turns::first(p, script, page),
         Stage::Playing => later(p, script, page),
         Stage::Over => Played { end: 0, play: p },
@@ -142,11 +133,10 @@ pub fn begin() -> Play
         minute: 0,
         ticket: 1,
     });
-    let d = none.scheduler;
     Play {
         stage: Stage::First,
         at: 0,
         steps: 0,
-        scheduler: d,
+        scheduler: none.scheduler,
     }
 }
