@@ -78,8 +78,7 @@ fn later(
                     count,
                 );
                 count = kept.count;
-                let done = kept.outcome;
-                d = done.scheduler;
+                d = kept.outcome.scheduler;
                 continue;
             }
             Coming::Refuses(reason) => {
@@ -106,9 +105,8 @@ fn later(
                     count,
                 );
                 count = kept.count;
-                let done = kept.outcome;
-                d = done.scheduler;
-                let answer = done.answer;
+                d = kept.outcome.scheduler;
+                let answer = kept.outcome.answer;
                 let reason = answer.refusal;
                 highest = season_turns::highest_with(highest, listed);
                 at = ahead.next;
@@ -127,10 +125,8 @@ fn later(
                 if d.clock < until {
                     // minutes in which nothing happens are passed over at once
                     d.clock = until;
-                    let own = d.settings;
-                    let own_kind = own.kind;
                     count = kept_calls::pass_over(
-                        own_kind,
+                        d.settings.kind,
                         d.clock,
                         &mut points,
                         &mut free,
@@ -151,18 +147,17 @@ fn later(
                     count,
                 );
                 count = kept.count;
-                let done = kept.outcome;
-                d = done.scheduler;
+                d = kept.outcome.scheduler;
                 continue;
             }
             Coming::Over => {
                 return Played {
-                    end: end,
+                    end,
                     standing: Standing {
                         stage: Stage::Over,
-                        at: at,
-                        above: above,
-                        highest: highest,
+                        at,
+                        above,
+                        highest,
                         scheduler: d,
                     },
                 };
@@ -170,12 +165,12 @@ fn later(
         }
     }
     Played {
-        end: end,
+        end,
         standing: Standing {
             stage: Stage::Playing,
-            at: at,
-            above: above,
-            highest: highest,
+            at,
+            above,
+            highest,
             scheduler: d,
         },
     }
@@ -187,16 +182,12 @@ fn refuse(p: Standing, reason: Refusal, page: &mut [u8]) -> Played
     ensures { (xs ys : List ℕ) → Turned page_bytes (piece (no_row (code reason)) (closed (place p xs ys)))
         page.old 0 page.new result.end (place result.standing xs ys) }
 {
-    let d = p.scheduler;
     let end = script_writing::put_refusal(page, 0, reason);
     Played {
-        end: end,
+        end,
         standing: Standing {
             stage: Stage::Over,
-            at: p.at,
-            above: p.above,
-            highest: p.highest,
-            scheduler: d,
+            ..p
         },
     }
 }
@@ -212,7 +203,6 @@ fn open(p: Standing, next: usize, first: FirstLine, page: &mut [u8]) -> Played
             let opened = Scheduler::open(o);
             let reason = opened.refusal;
             if reason.is_none() {
-                let d = opened.scheduler;
                 return Played {
                     end: 0,
                     standing: Standing {
@@ -220,7 +210,7 @@ fn open(p: Standing, next: usize, first: FirstLine, page: &mut [u8]) -> Played
                         at: next,
                         above: 0,
                         highest: 0,
-                        scheduler: d,
+                        scheduler: opened.scheduler,
                     },
                 };
             }
@@ -238,19 +228,13 @@ fn first(p: Standing, list: &[u8], page: &mut [u8]) -> Played
 {
     let begins = text::first_line(list, LONGEST);
     match begins {
-        Begins::Nothing => {
-            let d = p.scheduler;
-            Played {
-                end: 0,
-                standing: Standing {
-                    stage: Stage::Over,
-                    at: p.at,
-                    above: p.above,
-                    highest: p.highest,
-                    scheduler: d,
-                },
-            }
-        }
+        Begins::Nothing => Played {
+            end: 0,
+            standing: Standing {
+                stage: Stage::Over,
+                ..p
+            },
+        },
         Begins::Malformed => refuse(p, Refusal::Malformed, page),
         Begins::Line(end) => {
             let asked = season_reading::read_settings(&list[..end]);
@@ -271,8 +255,7 @@ pub fn fill(
     ensures { Filled (season_player list.now) (place p arrivals.old actuals.old)
         page.new result.end (place result.standing arrivals.new actuals.new) }
 {
-    let stage = p.stage;
-    match stage {
+    match p.stage {
         Stage::First => first(p, list, page),
         Stage::Playing => later(p, list, page, arrivals, actuals),
         Stage::Over => Played {
@@ -291,12 +274,11 @@ pub fn begin() -> Standing
         minute: 0,
         ticket: 1,
     });
-    let d = none.scheduler;
     Standing {
         stage: Stage::First,
         at: 0,
         above: 0,
         highest: 0,
-        scheduler: d,
+        scheduler: none.scheduler,
     }
 }
