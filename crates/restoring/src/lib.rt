@@ -26,14 +26,13 @@ fn refused(why: Refusal) -> Opened
 fn judge(records: Records) -> Opened
     ensures { Judged records result }
 {
-    let lines = records.lines;
-    match lines {
+    match records.lines {
         Lines::Kept => {
-            let d = records.scheduler;
-            if acceptance::accepted(d) {
+            let scheduler = records.scheduler;
+            if acceptance::accepted(scheduler) {
                 return Opened {
                     refusal: Refusal::None,
-                    scheduler: d,
+                    scheduler,
                 };
             }
             refused(Refusal::TextRejected)
