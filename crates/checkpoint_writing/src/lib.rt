@@ -34,8 +34,7 @@ fn put_desk(page: &mut [u8], at: usize, settings: Settings, clock: u32, next: u3
     requires { at + 79 ≤ length page.old }
     ensures { Wrote 79 page.old at (desk_line_of settings clock next) page.new result }
 {
-    let kind = settings.kind;
-    let a = put_head(page, at, kind);
+    let a = put_head(page, at, settings.kind);
     let b = script_writing::put_field(page, a, settings.nodes);
     let c = script_writing::put_field(page, b, clock);
     let d = script_writing::put_field(page, c, next);
@@ -61,8 +60,7 @@ fn put_tenant(page: &mut [u8], at: usize, tenant: Tenant) -> usize
     ensures { Wrote 2 page.old at (and_field (letter_of tenant ∷ [])) page.new result }
 {
     let letter = tenant.letter() as u8;
-    let word = [TAB, letter];
-    text::put_word(page, at, &word)
+    text::put_word(page, at, &[TAB, letter])
 }
 
 // The first field of a line.
@@ -78,11 +76,10 @@ fn put_order(page: &mut [u8], at: usize, j: Job) -> usize
     requires { at + 34 ≤ length page.old }
     ensures { Wrote 34 page.old at (order_text j) page.new result }
 {
-    let state = j.state;
     let a = put_first(page, at, j.ticket);
     let b = script_writing::put_field(page, a, j.nodes as u32);
     let c = script_writing::put_field(page, b, j.estimate as u32);
-    put_state(page, c, state)
+    put_state(page, c, j.state)
 }
 
 // The start, the promise, the end, the house and the least.
@@ -90,11 +87,10 @@ fn put_times(page: &mut [u8], at: usize, j: Job) -> usize
     requires { at + 46 ≤ length page.old }
     ensures { Wrote 46 page.old at (times_text j) page.new result }
 {
-    let tenant = j.tenant;
     let a = script_writing::put_field(page, at, j.start);
     let b = script_writing::put_field(page, a, j.promise);
     let c = script_writing::put_field(page, b, j.end);
-    let d = put_tenant(page, c, tenant);
+    let d = put_tenant(page, c, j.tenant);
     script_writing::put_field(page, d, j.least as u32)
 }
 
@@ -133,8 +129,7 @@ pub fn put_text(page: &mut [u8], d: Scheduler) -> usize
     requires { Premise d × (text_bytes ≤ length page.old) }
     ensures { Wrote text_bytes page.old 0 (desk_text (view d)) page.new result }
 {
-    let settings = d.settings;
-    let mut at = put_desk(page, 0, settings, d.clock, d.next);
+    let mut at = put_desk(page, 0, d.settings, d.clock, d.next);
     for &j in &d.jobs {
         at = put_slot(page, at, j);
     }

@@ -26,11 +26,11 @@ fn judge(read: Result<Scheduler, Fault>) -> Opened
     ensures { Judged read result }
 {
     match read {
-        Ok(d) => {
-            if acceptance::accepted(d) {
+        Ok(scheduler) => {
+            if acceptance::accepted(scheduler) {
                 return Opened {
                     refusal: Refusal::None,
-                    scheduler: d,
+                    scheduler,
                 };
             }
             refused(Refusal::TextRejected)

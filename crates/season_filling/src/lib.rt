@@ -77,8 +77,7 @@ fn later(
                     count,
                 );
                 count = kept.count;
-                let done = kept.outcome;
-                d = done.scheduler;
+                d = kept.outcome.scheduler;
                 continue;
             }
             Coming::Refuses(reason) => {
@@ -105,9 +104,8 @@ fn later(
                     count,
                 );
                 count = kept.count;
-                let done = kept.outcome;
-                d = done.scheduler;
-                let answer = done.answer;
+                d = kept.outcome.scheduler;
+                let answer = kept.outcome.answer;
                 let reason = answer.refusal;
                 highest = season_turns::highest_with(highest, listed);
                 at = ahead.next;
@@ -126,10 +124,8 @@ fn later(
                 if d.clock < until {
                     // minutes in which nothing happens are passed over at once
                     d.clock = until;
-                    let own = d.settings;
-                    let own_kind = own.kind;
                     count = kept_calls::pass_over(
-                        own_kind,
+                        d.settings.kind,
                         d.clock,
                         &mut points,
                         &mut free,
@@ -150,18 +146,17 @@ fn later(
                     count,
                 );
                 count = kept.count;
-                let done = kept.outcome;
-                d = done.scheduler;
+                d = kept.outcome.scheduler;
                 continue;
             }
             Coming::Over => {
                 return Played {
-                    end: end,
+                    end,
                     standing: Standing {
                         stage: Stage::Over,
-                        at: at,
-                        above: above,
-                        highest: highest,
+                        at,
+                        above,
+                        highest,
                         scheduler: d,
                     },
                 };
@@ -169,12 +164,12 @@ fn later(
         }
     }
     Played {
-        end: end,
+        end,
         standing: Standing {
             stage: Stage::Playing,
-            at: at,
-            above: above,
-            highest: highest,
+            at,
+            above,
+            highest,
             scheduler: d,
         },
     }
@@ -186,16 +181,12 @@ fn refuse(p: Standing, reason: Refusal, page: &mut [u8]) -> Played
     ensures { (xs ys : List ℕ) → Turned page_bytes (piece (no_row (code reason)) (closed (place p xs ys)))
         page.old 0 page.new result.end (place result.standing xs ys) }
 {
-    let d = p.scheduler;
     let end = script_writing::put_refusal(page, 0, reason);
     Played {
-        end: end,
+        end,
         standing: Standing {
             stage: Stage::Over,
-            at: p.at,
-            above: p.above,
-            highest: p.highest,
-            scheduler: d,
+            ..p
         },
     }
 }
@@ -211,7 +202,6 @@ fn open(p: Standing, next: usize, first: Option<Opening>, page: &mut [u8]) -> Pl
             let opened = Scheduler::open(o);
             let reason = opened.refusal;
             if reason.is_none() {
-                let d = opened.scheduler;
                 return Played {
                     end: 0,
                     standing: Standing {
@@ -219,7 +209,7 @@ fn open(p: Standing, next: usize, first: Option<Opening>, page: &mut [u8]) -> Pl
                         at: next,
                         above: 0,
                         highest: 0,
-                        scheduler: d,
+                        scheduler: opened.scheduler,
                     },
                 };
             }
@@ -237,19 +227,13 @@ fn first(p: Standing, list: &[u8], page: &mut [u8]) -> Played
 {
     let begins = text::first_line(list, LONGEST);
     match begins {
-        Begins::Nothing => {
-            let d = p.scheduler;
-            Played {
-                end: 0,
-                standing: Standing {
-                    stage: Stage::Over,
-                    at: p.at,
-                    above: p.above,
-                    highest: p.highest,
-                    scheduler: d,
-                },
-            }
-        }
+        Begins::Nothing => Played {
+            end: 0,
+            standing: Standing {
+                stage: Stage::Over,
+                ..p
+            },
+        },
         Begins::Malformed => refuse(p, Refusal::Malformed, page),
         Begins::Line(end) => {
             let asked = season_reading::read_settings(&list[..end]);
@@ -270,8 +254,7 @@ pub fn fill(
     ensures { Filled (season_player list.now) (place p arrivals.old actuals.old)
         page.new result.end (place result.standing arrivals.new actuals.new) }
 {
-    let stage = p.stage;
-    match stage {
+    match p.stage {
         Stage::First => first(p, list, page),
         Stage::Playing => later(p, list, page, arrivals, actuals),
         Stage::Over => Played {
@@ -290,12 +273,11 @@ pub fn begin() -> Standing
         minute: 0,
         ticket: 1,
     });
-    let d = none.scheduler;
     Standing {
         stage: Stage::First,
         at: 0,
         above: 0,
         highest: 0,
-        scheduler: d,
+        scheduler: none.scheduler,
     }
 }

@@ -4,6 +4,7 @@
 ghost use Rattle.std.specs.Prelude.{◌≤◌, length};
 ghost use Rattle.script_writing.specs.AnswerText.{page_bytes};
 
+use runner::Player;
 use std::env::Env;
 use std::io;
 use std::io::{Read, Write};
@@ -17,48 +18,41 @@ fn play<W: Write>(list: &[u8], to: &mut W, page: &mut [u8]) -> io::Result<()>
     let mut actuals = [0u32; 4096];
     let mut p = season_filling::begin();
     loop {
-        let stage = p.stage;
-        if !stage.goes_on() {
+        if !p.stage.goes_on() {
             return Ok(());
         }
         let t = season_filling::fill(p, list, page, &mut arrivals, &mut actuals);
-        let end = t.end;
-        to.write_all(&page[..end])?;
+        to.write_all(&page[..t.end])?;
         p = t.standing;
     }
 }
 
-// Reads a list whole from a reader and writes the printout of its season to a writer. The buffer has room for one byte more than the longest
-// list, so that a longer one is noticed. If either fails, a line on standard error says so; a list that cannot be read is not played.
+// Seasons, as they are run.
+struct Season;
+
+impl Player for Season {
+    const PROGRAM: &'static str = "season";
+
+    const TEXT: &'static str = "list";
+
+    fn play<W: Write>(text: &[u8], to: &mut W) -> io::Result<()> {
+        // Room for many lines, and short enough to stay in the nearest cache.
+        let mut page = [0u8; 16384];
+        play(text, to, &mut page)
+    }
+}
+
+// A byte more than the longest list.
+const ROOM: usize = 262145;
+
+// Reads a list from a reader and writes its printout to a writer.
 pub fn run<T: Eprint, R: Read, W: Write>(rt: &T, from: &mut R, to: &mut W) {
-    let mut space = [0u8; 262145];
-    let input = inputs::read_whole(from, &mut space);
-    if let Some(e) = input.failed {
-        let _ = eprintln!(rt; "season: the list cannot be read: {e}");
-        return;
-    }
-    let n = input.len;
-    // Room for many turns, and short enough to stay in the nearest cache.
-    let mut page = [0u8; 16384];
-    if let Err(e) = play(&space[..n], to, &mut page) {
-        let _ = eprintln!(rt; "season: the printout cannot be written: {e}");
-    }
+    let mut space = [0u8; ROOM];
+    runner::run::<Season, _, _, _>(rt, from, to, &mut space);
 }
 
-// The season of a file that an argument names: the name, then its printout.
-fn run_file<T: Env + Files + Print + Eprint>(rt: &T, argument: usize) {
-    if let Some(file) = inputs::open_named(rt, argument) {
-        let mut from = file;
-        run(rt, &mut from, &mut io::writer(rt));
-    }
-}
-
-// Every file that the arguments name, in their order.
+// Every file that the arguments name, in their order: its name, then its printout.
 pub fn run_files<T: Env + Files + Print + Eprint>(rt: &T) {
-    for i in 1..usize::MAX {
-        if !inputs::is_given(rt, i) {
-            return;
-        }
-        run_file(rt, i);
-    }
+    let mut space = [0u8; ROOM];
+    runner::run_files::<Season, _>(rt, &mut space);
 }
