@@ -11,7 +11,7 @@ use Rattle.jobs.specs.Soundness.{Sound}
 use Rattle.jobs.specs.Premise.{Holds, holds_as}
 use Rattle.job_columns.specs.Columns.{Column, Blank, zero_column}
 use Rattle.job_columns.specs.JobColumns.{AllColumns, hold_of, promise_of, submitted_of, rank_of, forecast_of}
-use Rattle.easy_columns.specs.declared.Taken.{Taken}
+use Rattle.easy_columns.specs.Counted.{Taken}
 use Rattle.easy_columns.specs.EasyBegin.{Beginning, Begins}
 use Rattle.guarantees.specs.Premise.{Valid, Premise, premise_of, valid_sound, premise_sound}
 use Rattle.kept_calls.specs.KeptPoints.{KeptBeside, not_easy}

@@ -18,7 +18,7 @@ use Rattle.history.specs.Calls as calls
 use Rattle.job_columns.specs.Columns.{Blank, column_zero}
 use Rattle.job_columns.specs.JobColumns.{JobColumns, AllColumns, promise_of, submitted_of, rank_of, forecast_of}
 use Rattle.job_columns.specs.Gathering.{Blanks, SchedulerColumns}
-use Rattle.column_parts.specs.declared.Told.{Told}
+use Rattle.column_parts.specs.Counted.{Told}
 use Rattle.column_parts.specs.ToldReply.{TellsReply, TellsModel}
 use Rattle.conservative_table.specs.ListChanges.{rows}
 use Rattle.conservative_columns.specs.ConservativeColumns.{ConservativeColumns}

@@ -11,7 +11,7 @@ use Rattle.scheduler.specs.Model.{view}
 use Rattle.scheduler.specs.Answers.{Result}
 use Rattle.history.specs.Calls as calls
 use Rattle.history.specs.Calls.{Call}
-use Rattle.column_parts.specs.declared.Told.{Told}
+use Rattle.column_parts.specs.Counted.{Told}
 use Rattle.conservative_columns.specs.ConservativeColumns.{KeptColumns, Answered}
 use Rattle.easy_columns.specs.EasyCalls as easy-calls
 use Rattle.guarantees.specs.Rules.{rules_of, call}

@@ -21,16 +21,7 @@ use easy_columns::{Occupancy, Queue};
 use job_columns::Columns;
 use scheduler::{Kind, Request, Scheduler, Settings};
 
-// How many jobs are live, how many points the profile has, how many jobs hold nodes, and the nodes that are free.
-#[derive(Clone, Copy)]
-pub struct Counts {
-    pub live: usize,
-    pub count: usize,
-    pub holding: usize,
-    pub spare: u32,
-}
-
-// The lists that are kept from call to call: the columns of both kinds, and what either kind keeps besides.
+// The lists that are kept from call to call, with their counts: the columns of both kinds, and what either kind keeps besides.
 #[derive(Drop)]
 pub struct Lists {
     pub columns: Columns,
@@ -41,12 +32,12 @@ pub struct Lists {
 }
 
 // The columns of a scheduler.
-pub fn begin(d: Scheduler, lists: &mut Lists) -> Counts
+pub fn begin(d: Scheduler, lists: &mut Lists)
     requires { Premise d × UnwrittenIn lists.old }
-    ensures { KindIn (view d) lists.new result }
+    ensures { KindIn (view d) lists.new }
 {
     let settings = d.settings;
-    let live = job_columns::spread(
+    job_columns::spread(
         d,
         &mut lists.columns,
         &mut lists.promised.promises,
@@ -56,40 +47,32 @@ pub fn begin(d: Scheduler, lists: &mut Lists) -> Counts
     );
     match settings.kind {
         Kind::Conservative => {
+            let columns = &lists.columns;
             conservative_columns::begin(
-                &lists.columns.estimates,
-                live,
+                &columns.estimates,
+                columns.live,
                 &mut lists.promised.holds,
                 settings,
             );
             let profile = &mut lists.profile;
-            Counts {
-                live,
-                count: kept_calls::begin(
-                    d,
-                    &mut profile.minutes,
-                    &mut profile.free,
-                    &mut profile.low,
-                    &mut profile.high,
-                ),
-                holding: 0,
-                spare: 0,
-            }
+            profile.count = kept_calls::begin(
+                d,
+                &mut profile.minutes,
+                &mut profile.free,
+                &mut profile.low,
+                &mut profile.high,
+            );
+            lists.occupancy.holding = 0;
+            lists.occupancy.spare = 0;
         }
         Kind::Easy => {
-            let taken = easy_columns::begin(
+            easy_columns::begin(
                 &lists.columns,
                 &mut lists.queue.asked,
                 &mut lists.occupancy,
-                live,
                 settings,
             );
-            Counts {
-                live,
-                count: 0,
-                holding: taken.holding,
-                spare: taken.spare,
-            }
+            lists.profile.count = 0;
         }
     }
 }
@@ -103,11 +86,10 @@ pub fn call(
     settings: Settings,
     clock: u32,
     next: u32,
-    counts: Counts,
     request: Request,
 ) -> Told
-    requires { LentIn settings clock next lists.old counts × Whole ended.old × Whole gone.old × Whole started.old }
-    ensures { (k : LentIn settings clock next lists.old counts)
+    requires { LentIn settings clock next lists.old × Whole ended.old × Whole gone.old × Whole started.old }
+    ensures { (k : LentIn settings clock next lists.old)
         → GivesIn (rules.call (view k.scheduler) (calls.asked request)) result ended.new started.new lists.new × Whole gone.new }
 {
     let columns = &mut lists.columns;
@@ -115,35 +97,28 @@ pub fn call(
     let profile = &mut lists.profile;
     let queue = &mut lists.queue;
     let occupancy = &mut lists.occupancy;
-    let live = counts.live;
-    let count = counts.count;
-    let holding = counts.holding;
-    let spare = counts.spare;
     match settings.kind {
         Kind::Conservative => match request {
             Request::Submit(s) => conservative_columns::submit(
-                columns, promised, profile, count, started, settings, clock, next, live, s,
+                columns, promised, profile, started, settings, clock, next, s,
             ),
             Request::Depart(how, ticket) => conservative_columns::depart(
-                columns, promised, profile, count, ended, gone, started, settings, clock, next,
-                live, how, ticket,
+                columns, promised, profile, ended, gone, started, settings, clock, next, how,
+                ticket,
             ),
             Request::Tick => conservative_columns::tick(
-                columns, promised, profile, count, ended, gone, started, settings, clock, next,
-                live,
+                columns, promised, profile, ended, gone, started, settings, clock, next,
             ),
         },
         Kind::Easy => match request {
             Request::Submit(s) => easy_columns::submit(
-                columns, queue, occupancy, started, live, holding, spare, clock, next, settings, s,
+                columns, queue, occupancy, started, clock, next, settings, s,
             ),
             Request::Depart(how, ticket) => easy_columns::depart(
-                columns, queue, occupancy, ended, gone, started, live, holding, spare, clock, next,
-                settings, how, ticket,
+                columns, queue, occupancy, ended, gone, started, clock, next, settings, how, ticket,
             ),
             Request::Tick => easy_columns::tick(
-                columns, queue, occupancy, ended, gone, started, live, holding, spare, clock, next,
-                settings,
+                columns, queue, occupancy, ended, gone, started, clock, next, settings,
             ),
         },
     }
@@ -164,10 +139,10 @@ pub fn before_due(due: u32, clock: u32, last: u32) -> u32
 }
 
 // The minute up to which nothing is due for any live job.
-pub fn quiet_until(columns: &Columns, live: usize, clock: u32, last: u32) -> u32
-    requires { (live ≤ slots) × (clock ≤ last) }
+pub fn quiet_until(columns: &Columns, clock: u32, last: u32) -> u32
+    requires { (columns.now.live ≤ slots) × (clock ≤ last) }
     ensures { (clock ≤ result) × (result ≤ last)
-        × ((S : Settings) (js : List Job) → Column (due_of S) js columns.now.dues → length js ≡ live → AllQuiet S js clock result) }
+        × ((S : Settings) (js : List Job) → Column (due_of S) js columns.now.dues → length js ≡ columns.now.live → AllQuiet S js clock result) }
 {
-    before_due(columns.next_due(live), clock, last)
+    before_due(columns.next_due(), clock, last)
 }

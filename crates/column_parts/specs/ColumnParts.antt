@@ -18,8 +18,8 @@ use Rattle.job_table.specs.Parts.{Own, leaving, departing}
 use Rattle.job_columns.specs.Removal.{removes, Places}
 use Rattle.job_columns.specs.Columns.{Whole}
 use Rattle.job_columns.specs.JobColumns.{due_of, JobColumns}
-use Rattle.column_parts.specs.declared.Left.{Left}
-use Rattle.column_parts.specs.declared.Expired.{Expired}
+use Rattle.column_parts.specs.Counted.{Left}
+use Rattle.column_parts.specs.Counted.{Expired}
 
 -- ## Numbers in lent lists
 

@@ -31,7 +31,7 @@ use Rattle.job_columns.specs.Removal.{remove_at, removes, Places}
 use Rattle.job_columns.specs.Columns.{Whole, column_at}
 use Rattle.job_columns.specs.JobColumns.{state_of, start_of, least_of, JobColumns}
 use Rattle.job_columns.specs.Searches.{has_ticket, place_of, place_some, place_none}
-use Rattle.column_parts.specs.declared.Left.{Left}
+use Rattle.column_parts.specs.Counted.{Left}
 use Rattle.column_parts.specs.ColumnParts.{Listing, Gone, SoundColumns, Leaves}
 use Rattle.column_parts.specs.Departures.{refusal_at, cleans_by, leaves_from_lem, refused_nowhere, refused_there, found_inside, found_named, LeftAt}
 use Rattle.column_parts.specs.Departures.{left_cleaning, left_over, left_withdrawn}

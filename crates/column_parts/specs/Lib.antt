@@ -1,3 +1,4 @@
+pub mod Counted
 pub mod ColumnParts
 pub mod GoneColumns
 pub mod ToldReply

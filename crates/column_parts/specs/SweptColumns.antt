@@ -25,7 +25,7 @@ use Rattle.job_columns.specs.Columns.{Whole, column_at}
 use Rattle.job_columns.specs.JobColumns.{state_number, state_of, due_of, JobColumns}
 use Rattle.job_columns.specs.Encoding.{number_waiting, number_running, number_cleaning, ends_due, releases_due}
 use Rattle.job_columns.specs.Searches.{FirstDue}
-use Rattle.column_parts.specs.declared.Swept.{Swept}
+use Rattle.column_parts.specs.Counted.{Swept}
 use Rattle.column_parts.specs.ColumnParts.{starts_in, Expires}
 use Rattle.column_parts.specs.Sweep.{Sweep, swept, sweep_first, sweep_count, swept_length, sweep_there, sweep_on, swept_on, sweep_cleans}
 use Rattle.column_parts.specs.Sweep.{swept_cleans, sweep_released, sweep_goes, swept_leaves, sweep_far, swept_all, stay_all, ended_all}

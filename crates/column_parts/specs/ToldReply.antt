@@ -5,7 +5,7 @@ use Rattle.scheduler.specs.declared.Refusal.{Refusal}
 use Rattle.scheduler.specs.Answers.{Reply, refusing, head_ticket, head_minute}
 use Rattle.scheduler.specs.Model.{Model}
 use Rattle.job_columns.specs.Columns.{Whole}
-use Rattle.column_parts.specs.declared.Told.{Told}
+use Rattle.column_parts.specs.Counted.{Told}
 use Rattle.column_parts.specs.ColumnParts.{Listing}
 
 -- the reply, in numbers; how many points were read is not told

@@ -17,15 +17,14 @@ ghost use Rattle.job_columns.specs.Removal.{remove_at};
 ghost use Rattle.job_columns.specs.JobColumns.{tenant_of};
 ghost use Rattle.job_columns.specs.Held.{ColumnsOf};
 ghost use Rattle.column_parts.specs.Departures.{leaves_from, early_by, refusal_at, cleans_by};
-ghost use Rattle.column_parts.specs.LeavingColumns.{refused_left, Leavable};
-ghost use Rattle.column_parts.specs.Held.{SoundIn, LeavesIn, MinuteIn, ExpiresIn, DueIn, SweepingIn};
-ghost use Rattle.column_parts.specs.ToldReply.{refused_told};
+ghost use Rattle.column_parts.specs.LeavingColumns.{Leavable};
+ghost use Rattle.column_parts.specs.Held.{turned_away, nobody_left, SoundIn, LeavesIn, MinuteIn, ExpiresIn, DueIn, SweepingIn};
 
 use job_columns::Columns;
 use scheduler::{Departure, Refusal, Settings, Tenant};
 
-// What a call answers in numbers, with the clock, the next ticket and the counts of the lists after it: live jobs, points of the profile, jobs
-// that hold nodes, free nodes. The tickets ended and started stand first in lent lists. What a call does not give, or a kind does not have, is 0.
+// What a call answers in numbers, with the clock and the next ticket after it. The tickets ended and started stand first in lent lists. What a
+// call does not give is 0.
 #[derive(Clone, Copy)]
 pub struct Told {
     pub refusal: Refusal,
@@ -37,14 +36,10 @@ pub struct Told {
     pub started: usize,
     pub clock: u32,
     pub next: u32,
-    pub live: usize,
-    pub count: usize,
-    pub holding: usize,
-    pub spare: u32,
 }
 
 impl Told {
-    // Nothing is told, and all counts are 0.
+    // Nothing is told.
     pub const NOTHING: Told = Told {
         refusal: Refusal::None,
         ticket: 0,
@@ -55,53 +50,35 @@ impl Told {
         started: 0,
         clock: 0,
         next: 0,
-        live: 0,
-        count: 0,
-        holding: 0,
-        spare: 0,
     };
 
-    pub fn refused(
-        why: Refusal,
-        clock: u32,
-        next: u32,
-        live: usize,
-        count: usize,
-        holding: usize,
-        spare: u32,
-    ) -> Told
-        ensures { result ≡ refused_told why clock next live count holding spare }
+    pub fn refused(refusal: Refusal, clock: u32, next: u32) -> Told
+        ensures { result ≡ turned_away refusal clock next }
     {
         Told {
-            refusal: why,
+            refusal,
             clock,
             next,
-            live,
-            count,
-            holding,
-            spare,
             ..Told::NOTHING
         }
     }
 }
 
 // The tenant's live jobs, by which its lack of places is judged: none need be counted where all live jobs are fewer than its places.
-pub fn live_of(columns: &Columns, live: usize, tenant: Tenant, places: u32) -> usize
-    requires { live ≤ slots }
-    ensures { (js : List Job) → Column tenant_of js columns.now.tenants → length js ≡ live → Tells places (live_of tenant js) result }
+pub fn live_of(columns: &Columns, tenant: Tenant, places: u32) -> usize
+    requires { columns.now.live ≤ slots }
+    ensures { (js : List Job) → Column tenant_of js columns.now.tenants → length js ≡ columns.now.live → Tells places (live_of tenant js) result }
 {
-    if (live as u32) < places {
+    if (columns.live as u32) < places {
         return 0;
     }
-    columns.of_tenant(live, tenant)
+    columns.of_tenant(tenant)
 }
 
-// What a departure has done: why it is refused, how many jobs are live then, how many tickets stand in the list of those ended, and the one
-// withdrawn (0 if none).
+// What a departure has done: why it is refused, how many tickets stand in the list of those ended, and the one withdrawn (0 if none).
 #[derive(Clone, Copy)]
 pub struct Left {
     pub refusal: Refusal,
-    pub live: usize,
     pub ended: usize,
     pub withdrawn: u32,
 }
@@ -151,12 +128,13 @@ fn depart_refusal(how: Departure, state: u32, start: u32, least: u32, clock: u32
 }
 
 // The job in this place leaves the columns, and its place is listed.
-fn take_out(columns: &mut Columns, gone: &mut [u32; 64], count: usize, live: usize, at: usize)
-    requires { (at < live) × (live ≤ slots) × (count < slots) }
-    ensures left { (S : Settings) (js : List Job) → ColumnsOf S js columns.old live → ColumnsOf S (remove_at at js) columns.new (live - 1) }
+fn take_out(columns: &mut Columns, gone: &mut [u32; 64], count: usize, at: usize)
+    requires { (at < columns.old.live) × (columns.old.live ≤ slots) × (count < slots) }
+    ensures left { (S : Settings) (js : List Job) → ColumnsOf S js columns.old → ColumnsOf S (remove_at at js) columns.new }
+    ensures one_less { columns.new.live ≡ columns.old.live - 1 }
     ensures listed { gone.new ≡ set gone.old count at }
 {
-    columns.remove(live, at);
+    columns.remove(at);
     gone[count] = at as u32;
 }
 
@@ -194,22 +172,20 @@ fn withdrawn(how: Departure, ticket: u32) -> u32
 fn stay(
     columns: &mut Columns,
     ended: &mut [u32; 64],
-    live: usize,
     at: usize,
     ticket: u32,
     clock: u32,
     cleanup: u32,
 ) -> Left
-    requires { (at < live) × (live ≤ slots) × (clock ≤ horizon) × (cleanup ≤ longest_cleanup) × Whole ended.old }
-    ensures { (S : Settings) (h : Departure) (gone : List ℕ) (k : SoundIn S clock columns.old live)
+    requires { (at < columns.old.live) × (columns.old.live ≤ slots) × (clock ≤ horizon) × (cleanup ≤ longest_cleanup) × Whole ended.old }
+    ensures { (S : Settings) (h : Departure) (gone : List ℕ) (k : SoundIn S clock columns.old)
         → Leavable k.model h ticket at → cleanup ≡ cleanupOf S → cleans_by h cleanup ≡ true → Whole gone
-        → LeavesIn k.model h ticket live result ended.new gone columns.new }
+        → LeavesIn k.model h ticket columns.old.live result ended.new gone columns.new }
 {
     ended[0] = ticket;
     columns.clean(at, clock, cleanup);
     Left {
         refusal: Refusal::None,
-        live,
         ended: 1,
         withdrawn: 0,
     }
@@ -220,32 +196,29 @@ fn go(
     columns: &mut Columns,
     ended: &mut [u32; 64],
     gone: &mut [u32; 64],
-    live: usize,
     at: usize,
     how: Departure,
     ticket: u32,
 ) -> Left
-    requires { (at < live) × (live ≤ slots) × Whole ended.old × Whole gone.old }
-    ensures { (S : Settings) (clock : ℕ) (k : SoundIn S clock columns.old live)
+    requires { (at < columns.old.live) × (columns.old.live ≤ slots) × Whole ended.old × Whole gone.old }
+    ensures { (S : Settings) (clock : ℕ) (k : SoundIn S clock columns.old)
         → Leavable k.model how ticket at → cleans_by how (cleanupOf S) ≡ false
-        → LeavesIn k.model how ticket live result ended.new gone.new columns.new }
+        → LeavesIn k.model how ticket columns.old.live result ended.new gone.new columns.new }
 {
     ended[0] = ticket;
-    take_out(columns, gone, 0, live, at);
+    take_out(columns, gone, 0, at);
     Left {
         refusal: Refusal::None,
-        live: live - 1,
         ended: ends(how),
         withdrawn: withdrawn(how, ticket),
     }
 }
 
-fn refused(why: Refusal, live: usize) -> Left
-    ensures { result ≡ refused_left why live }
+fn refused(refusal: Refusal) -> Left
+    ensures { result ≡ nobody_left refusal }
 {
     Left {
-        refusal: why,
-        live,
+        refusal,
         ended: 0,
         withdrawn: 0,
     }
@@ -256,18 +229,18 @@ pub fn leave(
     columns: &mut Columns,
     ended: &mut [u32; 64],
     gone: &mut [u32; 64],
-    live: usize,
     how: Departure,
     ticket: u32,
     clock: u32,
     settings: Settings,
 ) -> Left
-    requires { SoundIn settings clock columns.old live × Whole ended.old × Whole gone.old }
-    ensures { (k : SoundIn settings clock columns.old live) → LeavesIn k.model how ticket live result ended.new gone.new columns.new }
+    requires { SoundIn settings clock columns.old × Whole ended.old × Whole gone.old }
+    ensures { (k : SoundIn settings clock columns.old)
+        → LeavesIn k.model how ticket columns.old.live result ended.new gone.new columns.new }
 {
-    let at = columns.find(live, ticket);
-    if live <= at {
-        return refused(not_there(how), live);
+    let at = columns.find(ticket);
+    if columns.live <= at {
+        return refused(not_there(how));
     }
     let why = depart_refusal(
         how,
@@ -277,28 +250,26 @@ pub fn leave(
         clock,
     );
     if !why.is_none() {
-        return refused(why, live);
+        return refused(why);
     }
     let cleanup = settings.cleanup();
     if cleans(how, cleanup) {
-        return stay(columns, ended, live, at, ticket, clock, cleanup);
+        return stay(columns, ended, at, ticket, clock, cleanup);
     }
-    go(columns, ended, gone, live, at, how, ticket)
+    go(columns, ended, gone, at, how, ticket)
 }
 
-// What a minute has done: how many jobs are live then, how many tickets stand in the list of those ended, and how many waiting jobs are to start.
+// What a minute has done: how many tickets stand in the list of those ended, and how many waiting jobs are to start.
 #[derive(Clone, Copy)]
 pub struct Expired {
-    pub live: usize,
     pub ended: usize,
     pub starting: usize,
 }
 
-// The jobs before a place have been looked at: how many are live, how many ended, how many left, and how many are to start.
+// The jobs before a place have been looked at: how many ended, how many left, and how many are to start.
 #[derive(Clone, Copy)]
 struct Swept {
     at: usize,
-    live: usize,
     ended: usize,
     gone: usize,
     starting: usize,
@@ -317,10 +288,9 @@ fn pass(
     requires { DueIn minute cleanup ended.old gone.old columns.old before }
     ensures swept { (k : DueIn minute cleanup ended.old gone.old columns.old before)
         → SweepingIn k.model ended.new gone.new columns.new result }
-    ensures nearer { (result.live - result.at < before.live - before.at) × (result.at ≤ result.live) × (result.live ≤ before.live) }
+    ensures nearer { (columns.new.live - result.at < columns.old.live - before.at) × (result.at ≤ columns.new.live) × (columns.new.live ≤ columns.old.live) }
 {
     let at = before.at;
-    let live = before.live;
     let over = before.ended;
     let left = before.gone;
     let state = columns.states[at];
@@ -332,9 +302,8 @@ fn pass(
         };
     }
     if state == 3 {
-        take_out(columns, gone, left, live, at);
+        take_out(columns, gone, left, at);
         return Swept {
-            live: live - 1,
             gone: left + 1,
             ..before
         };
@@ -348,9 +317,8 @@ fn pass(
             ..before
         };
     }
-    take_out(columns, gone, left, live, at);
+    take_out(columns, gone, left, at);
     Swept {
-        live: live - 1,
         ended: over + 1,
         gone: left + 1,
         ..before
@@ -362,29 +330,26 @@ pub fn expire(
     columns: &mut Columns,
     ended: &mut [u32; 64],
     gone: &mut [u32; 64],
-    live: usize,
     minute: u32,
     cleanup: u32,
 ) -> Expired
-    requires { MinuteIn minute cleanup columns.old live × Whole ended.old × Whole gone.old }
-    ensures { (k : MinuteIn minute cleanup columns.old live) → ExpiresIn k.model live result ended.new gone.new columns.new }
+    requires { MinuteIn minute cleanup columns.old × Whole ended.old × Whole gone.old }
+    ensures { (k : MinuteIn minute cleanup columns.old) → ExpiresIn k.model columns.old.live result ended.new gone.new columns.new }
 {
     let mut done = Swept {
-        at: columns.first_due(0, live, minute),
-        live,
+        at: columns.first_due(0, minute),
         ended: 0,
         gone: 0,
         starting: 0,
     };
-    while done.at < done.live {
+    while done.at < columns.live {
         let next = pass(columns, ended, gone, done, minute, cleanup);
         done = Swept {
-            at: columns.first_due(next.at, next.live, minute),
+            at: columns.first_due(next.at, minute),
             ..next
         };
     }
     Expired {
-        live: done.live,
         ended: done.ended,
         starting: done.starting,
     }

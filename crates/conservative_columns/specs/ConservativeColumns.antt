@@ -17,7 +17,7 @@ use Rattle.scheduler.specs.Answers.{Result, refuse}
 use Rattle.job_columns.specs.Removal.{removes}
 use Rattle.job_columns.specs.Columns.{Column, Whole}
 use Rattle.job_columns.specs.JobColumns.{hold_of, promise_of, JobColumns}
-use Rattle.column_parts.specs.declared.Told.{Told}
+use Rattle.column_parts.specs.Counted.{Told}
 use Rattle.column_parts.specs.ColumnParts.{Gone}
 use Rattle.column_parts.specs.GoneColumns.{gone_column}
 use Rattle.column_parts.specs.ToldReply.{TellsReply, TellsModel, refused_told, refused_tells}

@@ -30,8 +30,8 @@ use Rattle.job_table.specs.Parts.{Own, leaving, refused_own, departing, withdraw
 use Rattle.job_columns.specs.Columns.{Column, Whole, nodes_of, column_at}
 use Rattle.job_columns.specs.JobColumns.{state_of, start_of, hold_of, promise_of, JobColumns}
 use Rattle.job_columns.specs.Searches.{place_of, has_ticket}
-use Rattle.column_parts.specs.declared.Told.{Told}
-use Rattle.column_parts.specs.declared.Left.{Left}
+use Rattle.column_parts.specs.Counted.{Told}
+use Rattle.column_parts.specs.Counted.{Left}
 use Rattle.column_parts.specs.ColumnParts.{Listing, Gone, SoundColumns, Leaves}
 use Rattle.column_parts.specs.Departures.{leaves_from, early_by, leaves_from_lem, refused_nowhere, refused_there, found_inside, found_named}
 use Rattle.column_parts.specs.ToldReply.{TellsReply, TellsModel, refused_told, refused_tells}
@@ -44,7 +44,7 @@ use Rattle.conservative_laws.specs.Compression.{compressed_is}
 use Rattle.conservative_plan.specs.Pass.{Before, Replannable, jobs_before, compressible_jobs}
 use Rattle.conservative.specs.Depart.{replannable}
 use Rattle.conservative_kept.specs.Depart.{freed_by, freed, lifts, lifted_profile}
-use Rattle.conservative_columns.specs.declared.MovedUp.{MovedUp}
+use Rattle.conservative_columns.specs.Counted.{MovedUp}
 use Rattle.conservative_columns.specs.ConservativeColumns.{ConservativeColumns, KeptColumns, Answered, Shifted, shifted_column}
 use Rattle.conservative_columns.specs.MovingUp.{MovesUp, MovedTo}
 

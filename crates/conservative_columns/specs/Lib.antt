@@ -1,3 +1,4 @@
+pub mod Counted
 pub mod ConservativeColumns
 pub mod Passes
 pub mod Started

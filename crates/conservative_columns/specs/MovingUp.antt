@@ -20,7 +20,7 @@ use Rattle.conservative_rules.specs.Conservative.{span, spans, begun, compressed
 use Rattle.conservative_plan.specs.Pass.{Before}
 use Rattle.conservative_plan.specs.StoredPass.{compressed_length}
 use Rattle.conservative_kept.specs.Beside.{index_builds}
-use Rattle.conservative_columns.specs.declared.MovedUp.{MovedUp}
+use Rattle.conservative_columns.specs.Counted.{MovedUp}
 use Rattle.conservative_columns.specs.Passes.{Passing, Passed}
 use Rattle.conservative_columns.specs.Started.{Compared}
 

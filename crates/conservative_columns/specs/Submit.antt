@@ -22,7 +22,7 @@ use Rattle.job_table.specs.Parts.{refusal_by, shared_refusal}
 use Rattle.job_table.specs.Submitting.{Tells, judged_alike}
 use Rattle.job_columns.specs.Columns.{Whole, column_push}
 use Rattle.job_columns.specs.JobColumns.{hold_of, promise_of, JobColumns}
-use Rattle.column_parts.specs.declared.Told.{Told}
+use Rattle.column_parts.specs.Counted.{Told}
 use Rattle.column_parts.specs.ColumnParts.{Listing}
 use Rattle.column_parts.specs.LeavingColumns.{list_none}
 use Rattle.column_parts.specs.ToldReply.{TellsReply, TellsModel}

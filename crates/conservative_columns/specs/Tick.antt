@@ -18,8 +18,8 @@ use Rattle.scheduler.specs.Refusals.{tick_refusal}
 use Rattle.jobs.specs.Soundness.{remained_waits}
 use Rattle.job_columns.specs.Columns.{Column, column_map}
 use Rattle.job_columns.specs.JobColumns.{hold_of, promise_of, JobColumns}
-use Rattle.column_parts.specs.declared.Told.{Told}
-use Rattle.column_parts.specs.declared.Expired.{Expired}
+use Rattle.column_parts.specs.Counted.{Told}
+use Rattle.column_parts.specs.Counted.{Expired}
 use Rattle.column_parts.specs.ColumnParts.{Listing, MinuteColumns, Expires, starts_in}
 use Rattle.column_parts.specs.ToldReply.{TellsReply, TellsModel}
 use Rattle.history.specs.Calls.{tick}

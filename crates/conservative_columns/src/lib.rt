@@ -16,10 +16,9 @@ ghost use Rattle.history.specs.Calls as calls;
 ghost use Rattle.conservative_rules.specs.Conservative.{state_at, begun, call};
 ghost use Rattle.conservative_kept.specs.Depart.{freed_by};
 ghost use Rattle.conservative_columns.specs.ConservativeColumns.{Shifted};
-ghost use Rattle.conservative_columns.specs.Held.{KeptIn, AdmitsIn, AnsweredIn, PlacesIn, PassingIn, MovesUpIn, StartingIn};
+ghost use Rattle.conservative_columns.specs.Held.{KeptIn, AdmitsIn, AnsweredIn, PlacesIn, PassingIn, MovesUpIn, MovedIn, StartingIn};
 ghost use Rattle.conservative_columns.specs.Passes.{Passed};
 ghost use Rattle.conservative_columns.specs.Started.{Compared};
-ghost use Rattle.conservative_columns.specs.MovingUp.{MovedTo};
 ghost use Rattle.conservative_columns.specs.Due.{AllStarted};
 
 use column_parts::Told;
@@ -33,13 +32,14 @@ pub struct Promised {
     pub promises: [u32; 64],
 }
 
-// The points of the profile, and their index: the minutes from which so many nodes are free, and the fewest and the most of each sixteen points.
+// The points of the profile, how many they are, and their index: the minutes from which so many nodes are free, and the fewest and the most of each sixteen points.
 #[derive(Drop)]
 pub struct Profile {
     pub minutes: [u32; 131],
     pub free: [u32; 131],
     pub low: [u32; 9],
     pub high: [u32; 9],
+    pub count: usize,
 }
 
 // For how long each job holds its nodes.
@@ -80,18 +80,16 @@ fn admit(
     columns: &mut Columns,
     promised: &mut Promised,
     profile: &mut Profile,
-    count: usize,
     started: &mut [u32; 64],
     settings: Settings,
     clock: u32,
     next: u32,
-    live: usize,
     s: Submission,
     start: u32,
     hold: u32,
 ) -> Told
-    requires { AdmitsIn settings clock next columns.old promised.old profile.old live count s start hold × Whole started.old }
-    ensures { (q : AdmitsIn settings clock next columns.old promised.old profile.old live count s start hold) (ended : List ℕ) → Whole ended
+    requires { AdmitsIn settings clock next columns.old promised.old profile.old s start hold × Whole started.old }
+    ensures { (q : AdmitsIn settings clock next columns.old promised.old profile.old s start hold) (ended : List ℕ) → Whole ended
         → AnsweredIn (call q.kept.model (calls.submit s)) result ended started.new columns.new promised.new profile.new }
 {
     let x = spans::Span {
@@ -99,28 +97,26 @@ fn admit(
         until: start + hold,
         nodes: s.nodes,
     };
-    let n = conservative_index::take_in(
+    profile.count = conservative_index::take_in(
         &mut profile.minutes,
         &mut profile.free,
-        count,
+        profile.count,
         &mut profile.low,
         &mut profile.high,
         x,
     );
     let state = state_at(start, clock);
     let job = Job::fresh(next, s, state, start, start);
-    columns.append(live, job, settings);
-    promised.holds[live] = hold;
-    promised.promises[live] = start;
-    let begun = list_if_now(started, start, clock, next);
+    let at = columns.live;
+    columns.append(job, settings);
+    promised.holds[at] = hold;
+    promised.promises[at] = start;
     Told {
         ticket: next,
         promise: start,
-        started: begun,
+        started: list_if_now(started, start, clock, next),
         clock,
         next: next + 1,
-        live: live + 1,
-        count: n,
         ..Told::NOTHING
     }
 }
@@ -130,29 +126,27 @@ pub fn submit(
     columns: &mut Columns,
     promised: &mut Promised,
     profile: &mut Profile,
-    count: usize,
     started: &mut [u32; 64],
     settings: Settings,
     clock: u32,
     next: u32,
-    live: usize,
     s: Submission,
 ) -> Told
-    requires { KeptIn settings clock next columns.old promised.old profile.old live count × Whole started.old }
-    ensures { (k : KeptIn settings clock next columns.old promised.old profile.old live count) (ended : List ℕ) → Whole ended
+    requires { KeptIn settings clock next columns.old promised.old profile.old × Whole started.old }
+    ensures { (k : KeptIn settings clock next columns.old promised.old profile.old) (ended : List ℕ) → Whole ended
         → AnsweredIn (call k.model (calls.submit s)) result ended started.new columns.new promised.new profile.new }
 {
     let tenant = s.tenant;
-    let own = column_parts::live_of(columns, live, tenant, settings.quota(tenant));
+    let own = column_parts::live_of(columns, tenant, settings.quota(tenant));
     let why = job_table::submit_refusal(s, settings, own, next);
     if !why.is_none() {
-        return Told::refused(why, clock, next, live, count, 0, 0);
+        return Told::refused(why, clock, next);
     }
     let hold = settings.hold_time(s.estimate);
     let found = conservative_index::search(
         &profile.minutes,
         &profile.free,
-        count,
+        profile.count,
         &profile.low,
         &profile.high,
         s.nodes,
@@ -160,10 +154,10 @@ pub fn submit(
     );
     let start = found.minute;
     if Scheduler::HORIZON < start + hold {
-        return Told::refused(Refusal::PastHorizon, clock, next, live, count, 0, 0);
+        return Told::refused(Refusal::PastHorizon, clock, next);
     }
     admit(
-        columns, promised, profile, count, started, settings, clock, next, live, s, start, hold,
+        columns, promised, profile, started, settings, clock, next, s, start, hold,
     )
 }
 
@@ -200,21 +194,21 @@ fn place(columns: &mut Columns, at: usize, from: u32, to: u32, run: u32, clock: 
 fn passes(
     columns: &mut Columns,
     holds: &[u32; 64],
-    live: usize,
     minutes: &mut [u32; 131],
     free: &mut [u32; 131],
     count: usize,
     clock: u32,
     cleanup: u32,
 ) -> usize
-    requires { PassingIn columns.old holds.now minutes.old free.old live count clock cleanup }
-    ensures passed { (q : PassingIn columns.old holds.now minutes.old free.old live count clock cleanup)
+    requires { PassingIn columns.old holds.now minutes.old free.old count clock cleanup }
+    ensures passed { (q : PassingIn columns.old holds.now minutes.old free.old count clock cleanup)
         → Passed q columns.new.states columns.new.dues columns.new.starts result minutes.new free.new }
     ensures retimed { Retimed columns.old columns.new }
 {
     let mut n = count;
     let mut at: usize = 0;
     let mut turns: usize = 0;
+    let live = columns.live;
     while turns < live {
         turns += 1;
         if columns.states[at] == 1 {
@@ -231,13 +225,13 @@ fn passes(
 }
 
 // The tickets of the jobs that waited before and run now are listed.
-fn note_started(columns: &Columns, was: &[u32; 64], live: usize, started: &mut [u32; 64]) -> usize
-    requires { (live ≤ slots) × Whole started.old }
-    ensures { (js ks : List Job) → Compared js ks columns.now.tickets was.now columns.now.states live
+fn note_started(columns: &Columns, was: &[u32; 64], started: &mut [u32; 64]) -> usize
+    requires { (columns.now.live ≤ slots) × Whole started.old }
+    ensures { (js ks : List Job) → Compared js ks columns.now.tickets was.now columns.now.states columns.now.live
         → Listing (begun js ks) started.new result }
 {
     let mut n: usize = 0;
-    for i in 0..live {
+    for i in 0..columns.live {
         if columns.states[i] == 2 && was[i] == 1 {
             started[n] = columns.tickets[i];
             n += 1;
@@ -246,37 +240,32 @@ fn note_started(columns: &Columns, was: &[u32; 64], live: usize, started: &mut [
     n
 }
 
-// How many points the profile has once whoever waits has moved up, and how many tickets stand in the list of those started.
-#[derive(Clone, Copy)]
-struct MovedUp {
-    count: usize,
-    started: usize,
-}
-
-// Whoever waits moves up: the span that a job gives back is taken out of the points, the passes go over them, and the index is built anew.
+// Whoever waits moves up: the span that a job gives back is taken out of the points, the passes go over them, and the index is built anew. How
+// many tickets stand then in the list of those started.
 fn move_up(
     columns: &mut Columns,
     holds: &[u32; 64],
     profile: &mut Profile,
-    count: usize,
     started: &mut [u32; 64],
-    live: usize,
     x: spans::Span,
     clock: u32,
     cleanup: u32,
-) -> MovedUp
-    requires { MovesUpIn columns.old holds.now profile.old live count x clock cleanup × Whole started.old }
-    ensures moved { (q : MovesUpIn columns.old holds.now profile.old live count x clock cleanup)
-        → MovedTo q result columns.new.states columns.new.dues columns.new.starts started.new
-        profile.new.minutes profile.new.free profile.new.low profile.new.high }
+) -> usize
+    requires { MovesUpIn columns.old holds.now profile.old x clock cleanup × Whole started.old }
+    ensures moved { (q : MovesUpIn columns.old holds.now profile.old x clock cleanup) → MovedIn q result columns.new started.new profile.new }
     ensures retimed { Retimed columns.old columns.new }
 {
     let was = columns.states;
-    let out = conservative_table::lift(&mut profile.minutes, &mut profile.free, 0, count, x);
+    let out = conservative_table::lift(
+        &mut profile.minutes,
+        &mut profile.free,
+        0,
+        profile.count,
+        x,
+    );
     let n = passes(
         columns,
         holds,
-        live,
         &mut profile.minutes,
         &mut profile.free,
         out.count,
@@ -284,27 +273,23 @@ fn move_up(
         cleanup,
     );
     conservative_index::build(&profile.free, n, &mut profile.low, &mut profile.high, 0);
-    let begun = note_started(columns, &was, live, started);
-    MovedUp {
-        count: n,
-        started: begun,
-    }
+    profile.count = n;
+    note_started(columns, &was, started)
 }
 
 // What the job in this place gives back where it departs: nothing where there is none.
 fn freed(
     columns: &Columns,
     holds: &[u32; 64],
-    live: usize,
     at: usize,
     how: Departure,
     clock: u32,
     cleanup: u32,
 ) -> spans::Span
-    requires { (live ≤ slots) × (clock ≤ horizon) × (cleanup ≤ longest_cleanup) × (at < live → (get_or columns.now.starts at 0 ≤ horizon) × (get_or holds.now at 0 ≤ longest_hold)) }
-    ensures { at < live → result ≡ freed_by how (get_or columns.now.nodes at 0) (get_or columns.now.starts at 0) (get_or holds.now at 0) clock cleanup }
+    requires { (columns.now.live ≤ slots) × (clock ≤ horizon) × (cleanup ≤ longest_cleanup) × (at < columns.now.live → (get_or columns.now.starts at 0 ≤ horizon) × (get_or holds.now at 0 ≤ longest_hold)) }
+    ensures { at < columns.now.live → result ≡ freed_by how (get_or columns.now.nodes at 0) (get_or columns.now.starts at 0) (get_or holds.now at 0) clock cleanup }
 {
-    if live <= at {
+    if columns.live <= at {
         return spans::Span {
             from: 0,
             until: 0,
@@ -326,49 +311,44 @@ pub fn depart(
     columns: &mut Columns,
     promised: &mut Promised,
     profile: &mut Profile,
-    count: usize,
     ended: &mut [u32; 64],
     gone: &mut [u32; 64],
     started: &mut [u32; 64],
     settings: Settings,
     clock: u32,
     next: u32,
-    live: usize,
     how: Departure,
     ticket: u32,
 ) -> Told
-    requires { KeptIn settings clock next columns.old promised.old profile.old live count × Whole ended.old × Whole gone.old × Whole started.old }
-    ensures { (k : KeptIn settings clock next columns.old promised.old profile.old live count)
+    requires { KeptIn settings clock next columns.old promised.old profile.old × Whole ended.old × Whole gone.old × Whole started.old }
+    ensures { (k : KeptIn settings clock next columns.old promised.old profile.old)
         → AnsweredIn (call k.model (calls.depart how ticket)) result ended.new started.new columns.new promised.new profile.new
         × Whole gone.new }
 {
     let cleanup = settings.cleanup();
-    let at = columns.find(live, ticket);
-    let x = freed(columns, &promised.holds, live, at, how, clock, cleanup);
-    let left = column_parts::leave(columns, ended, gone, live, how, ticket, clock, settings);
+    let at = columns.find(ticket);
+    let x = freed(columns, &promised.holds, at, how, clock, cleanup);
+    let live = columns.live;
+    let left = column_parts::leave(columns, ended, gone, how, ticket, clock, settings);
     let why = left.refusal;
     if !why.is_none() {
-        return Told::refused(why, clock, next, left.live, count, 0, 0);
+        return Told::refused(why, clock, next);
     }
-    shift_own(promised, live, gone, left.live);
-    let up = move_up(
+    shift_own(promised, live, gone, columns.live);
+    let begun = move_up(
         columns,
         &promised.holds,
         profile,
-        count,
         started,
-        left.live,
         x,
         clock,
         cleanup,
     );
     Told {
         ended: left.ended,
-        started: up.started,
+        started: begun,
         clock,
         next,
-        live: left.live,
-        count: up.count,
         ..Told::NOTHING
     }
 }
@@ -377,14 +357,13 @@ pub fn depart(
 fn start_due(
     columns: &mut Columns,
     holds: &[u32; 64],
-    live: usize,
     starting: usize,
     minute: u32,
     cleanup: u32,
     started: &mut [u32; 64],
 ) -> usize
-    requires { StartingIn columns.old holds.now live starting minute cleanup × Whole started.old }
-    ensures started { (q : StartingIn columns.old holds.now live starting minute cleanup)
+    requires { StartingIn columns.old holds.now starting minute cleanup × Whole started.old }
+    ensures started { (q : StartingIn columns.old holds.now starting minute cleanup)
         → AllStarted q result columns.new.states columns.new.dues columns.new.starts started.new }
     ensures retimed { Retimed columns.old columns.new }
 {
@@ -392,14 +371,15 @@ fn start_due(
         return 0;
     }
     let mut n: usize = 0;
-    let mut at = columns.first_due(0, live, minute);
+    let live = columns.live;
+    let mut at = columns.first_due(0, minute);
     while at < live {
         if columns.states[at] == 1 {
             started[n] = columns.tickets[at];
             n += 1;
             columns.begin(at, minute, holds[at] - cleanup);
         }
-        at = columns.first_due(at + 1, live, minute);
+        at = columns.first_due(at + 1, minute);
     }
     n
 }
@@ -409,40 +389,38 @@ pub fn tick(
     columns: &mut Columns,
     promised: &mut Promised,
     profile: &mut Profile,
-    count: usize,
     ended: &mut [u32; 64],
     gone: &mut [u32; 64],
     started: &mut [u32; 64],
     settings: Settings,
     clock: u32,
     next: u32,
-    live: usize,
 ) -> Told
-    requires { KeptIn settings clock next columns.old promised.old profile.old live count × Whole ended.old × Whole gone.old × Whole started.old }
-    ensures { (k : KeptIn settings clock next columns.old promised.old profile.old live count)
+    requires { KeptIn settings clock next columns.old promised.old profile.old × Whole ended.old × Whole gone.old × Whole started.old }
+    ensures { (k : KeptIn settings clock next columns.old promised.old profile.old)
         → AnsweredIn (call k.model calls.tick) result ended.new started.new columns.new promised.new profile.new
         × Whole gone.new }
 {
     if Scheduler::HORIZON <= clock {
-        return Told::refused(Refusal::PastHorizon, clock, next, live, count, 0, 0);
+        return Told::refused(Refusal::PastHorizon, clock, next);
     }
     let minute = clock + 1;
     let cleanup = settings.cleanup();
-    let e = column_parts::expire(columns, ended, gone, live, minute, cleanup);
-    shift_own(promised, live, gone, e.live);
+    let live = columns.live;
+    let e = column_parts::expire(columns, ended, gone, minute, cleanup);
+    shift_own(promised, live, gone, columns.live);
     let begun = start_due(
         columns,
         &promised.holds,
-        e.live,
         e.starting,
         minute,
         cleanup,
         started,
     );
-    let n = conservative_index::advance(
+    profile.count = conservative_index::advance(
         &mut profile.minutes,
         &mut profile.free,
-        count,
+        profile.count,
         &mut profile.low,
         &mut profile.high,
         minute,
@@ -452,8 +430,6 @@ pub fn tick(
         started: begun,
         clock: minute,
         next,
-        live: e.live,
-        count: n,
         ..Told::NOTHING
     }
 }

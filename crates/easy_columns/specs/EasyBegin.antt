@@ -24,7 +24,7 @@ use Rattle.job_columns.specs.JobColumns.{state_of, due_of, JobColumns}
 use Rattle.job_columns.specs.Encoding.{number_waiting, number_running, due_running, due_cleaning}
 use Rattle.easy_engine.specs.Survey.{nobody, asks, running}
 use Rattle.easy_engine.specs.SurveyLoop.{sum_first}
-use Rattle.easy_columns.specs.declared.Taken.{Taken}
+use Rattle.easy_columns.specs.Counted.{Taken}
 use Rattle.easy_columns.specs.EasyColumns.{Holders}
 
 -- the columns of both kinds of a sound model, and four lists that hold nothing yet

@@ -19,7 +19,7 @@ use Rattle.easy_laws.specs.Noted.{noted_clock, noted_next}
 use Rattle.easy_laws.specs.Validity.{Ready, Valid, CallAccepted, Unchanged, taken_settings, called, call_valid}
 use Rattle.job_table.specs.Parts.{Own}
 use Rattle.job_columns.specs.Columns.{Whole}
-use Rattle.column_parts.specs.declared.Told.{Told}
+use Rattle.column_parts.specs.Counted.{Told}
 use Rattle.column_parts.specs.ColumnParts.{Listing}
 use Rattle.column_parts.specs.ToldReply.{TellsReply, TellsModel, refused_told, refused_tells}
 use Rattle.easy_engine.specs.Survey.{ticket_in, head_before}

@@ -18,8 +18,8 @@ use Rattle.easy_laws.specs.Validity.{Ready}
 use Rattle.job_table.specs.Parts.{Own, leaving, withdrawn_by, departing}
 use Rattle.job_columns.specs.Columns.{Whole}
 use Rattle.job_columns.specs.JobColumns.{JobColumns}
-use Rattle.column_parts.specs.declared.Left.{Left}
-use Rattle.column_parts.specs.declared.Told.{Told}
+use Rattle.column_parts.specs.Counted.{Left}
+use Rattle.column_parts.specs.Counted.{Told}
 use Rattle.column_parts.specs.ColumnParts.{Listing, Gone, SoundColumns, Leaves}
 use Rattle.column_parts.specs.ToldReply.{refused_told}
 use Rattle.easy_engine.specs.Survey.{ticket_in, head_before}

@@ -25,7 +25,7 @@ use Rattle.job_table.specs.Parts.{Own, coming, refusal_by, shared_refusal}
 use Rattle.job_table.specs.Submitting.{Tells, tests_more, judged_alike}
 use Rattle.job_columns.specs.Columns.{Whole, column_push}
 use Rattle.job_columns.specs.JobColumns.{submitted_of, rank_of, forecast_of, JobColumns}
-use Rattle.column_parts.specs.declared.Told.{Told}
+use Rattle.column_parts.specs.Counted.{Told}
 use Rattle.column_parts.specs.ToldReply.{refused_told}
 use Rattle.easy_engine.specs.Survey.{asks, ticket_in, head_before}
 use Rattle.easy.specs.Parts.{own}

@@ -13,8 +13,8 @@ use Rattle.history.specs.Calls.{tick}
 use Rattle.easy_rules.specs.Easy.{head, call}
 use Rattle.easy_laws.specs.Validity.{Ready}
 use Rattle.job_columns.specs.Columns.{Whole}
-use Rattle.column_parts.specs.declared.Expired.{Expired}
-use Rattle.column_parts.specs.declared.Told.{Told}
+use Rattle.column_parts.specs.Counted.{Expired}
+use Rattle.column_parts.specs.Counted.{Told}
 use Rattle.column_parts.specs.ColumnParts.{MinuteColumns, elapsed, Expires}
 use Rattle.column_parts.specs.ToldReply.{refused_told}
 use Rattle.easy_engine.specs.Survey.{ticket_in, head_before}

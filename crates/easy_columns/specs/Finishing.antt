@@ -23,7 +23,7 @@ use Rattle.easy_laws.specs.Noted.{forecast_says}
 use Rattle.easy_laws.specs.Validity.{Ready, settles_ready}
 use Rattle.job_columns.specs.Columns.{Column, Whole, column_at}
 use Rattle.job_columns.specs.JobColumns.{submitted_of, rank_of, forecast_of, JobColumns}
-use Rattle.column_parts.specs.declared.Told.{Told}
+use Rattle.column_parts.specs.Counted.{Told}
 use Rattle.column_parts.specs.ColumnParts.{Listing}
 use Rattle.easy_engine.specs.declared.Announced.{Announced}
 use Rattle.easy_engine.specs.declared.SlotAnswer.{SlotAnswer}

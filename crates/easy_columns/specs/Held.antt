@@ -11,7 +11,7 @@ use Rattle.job_columns.specs.declared.Columns.{Columns}
 use Rattle.column_parts.specs.declared.Told.{Told}
 use Rattle.easy_columns.specs.declared.Queue.{Queue}
 use Rattle.easy_columns.specs.declared.Occupancy.{Occupancy}
-use Rattle.easy_columns.specs.declared.Taken.{Taken}
+use Rattle.column_parts.specs.Held.{told_with}
 use Rattle.easy_columns.specs.EasyColumns.{QueueColumns, Holders}
 use Rattle.easy_columns.specs.Sifting.{taken_out, Sift, Sifted}
 use Rattle.easy_columns.specs.Starting.{Starting}
@@ -25,21 +25,21 @@ use Rattle.easy_columns.specs.EasyBegin.{Beginning, Begins}
 -- ## The calls
 
 -- the one premise of a call
-abbrev pub KeptIn : Columns → Queue → Occupancy → (live holding spare clock next : ℕ) → Settings → Type 0
-KeptIn c q o live holding spare clock next S =
+abbrev pub KeptIn : Columns → Queue → Occupancy → (clock next : ℕ) → Settings → Type 0
+KeptIn c q o clock next S =
     Kept c.tickets c.nodes c.states c.dues c.starts c.tenants c.estimates c.leasts q.asked q.submitted q.ranks q.forecasts o.held o.ends o.holders
-    live holding spare clock next S
+    c.live o.holding o.spare clock next S
 
 -- the tests of both kinds let the submission through
-abbrev pub AdmitsIn : Columns → Queue → Occupancy → (started : List ℕ) → (live holding spare clock next : ℕ) → Settings → Submission → Type 0
-AdmitsIn c q o started live holding spare clock next S s =
+abbrev pub AdmitsIn : Columns → Queue → Occupancy → (started : List ℕ) → (clock next : ℕ) → Settings → Submission → Type 0
+AdmitsIn c q o started clock next S s =
     Admits c.tickets c.nodes c.states c.dues c.starts c.tenants c.estimates c.leasts q.asked q.submitted q.ranks q.forecasts o.held o.ends o.holders
-    started live holding spare clock next S s
+    started c.live o.holding o.spare clock next S s
 
 -- what a call answers, and the columns after it
 abbrev pub GivesIn : Result → Told → (ended started : List ℕ) → Columns → Queue → Occupancy → Type 0
 GivesIn a r ended started c q o =
-    Gives a r ended started c.tickets c.nodes c.states c.dues c.starts c.tenants c.estimates c.leasts q.asked q.submitted q.ranks q.forecasts
+    Gives a (told_with r c.live 0 o.holding o.spare) ended started c.tickets c.nodes c.states c.dues c.starts c.tenants c.estimates c.leasts q.asked q.submitted q.ranks q.forecasts
     o.held o.ends o.holders
 
 -- ## Who waits
@@ -54,24 +54,24 @@ Reasked a b = b ≡ record a { asked = b.asked; forecasts = b.forecasts }
 
 -- ## Who holds nodes
 
-abbrev pub HoldersIn : Model → Occupancy → (holding spare : ℕ) → Type 0
-HoldersIn m o holding spare = Holders m o.held o.ends o.holders holding spare
+abbrev pub HoldersIn : Model → Occupancy → Type 0
+HoldersIn m o = Holders m o.held o.ends o.holders o.holding o.spare
 
 -- the last holder takes this place
 abbrev pub TakenOut : (at last : ℕ) → (before after : Occupancy) → Type 0
-TakenOut at last a b = b ≡ record { held = taken_out at last a.held; ends = taken_out at last a.ends; holders = taken_out at last a.holders }
+TakenOut at last a b = b ≡ record a { held = taken_out at last a.held; ends = taken_out at last a.ends; holders = taken_out at last a.holders }
 
-abbrev pub SiftIn : Occupancy → (holding spare : ℕ) → Type 0
-SiftIn o holding spare = Sift o.held o.ends o.holders holding spare
+abbrev pub SiftIn : Occupancy → Type 0
+SiftIn o = Sift o.held o.ends o.holders o.holding o.spare
 
-abbrev pub SiftedIn : (rs : List Job) → (Job → ℕ) → (minute spare : ℕ) → Occupancy → (n left i : ℕ) → Type 0
-SiftedIn rs e minute spare o n left i = Sifted rs e minute spare o.held o.ends o.holders n left i
+abbrev pub SiftedIn : (rs : List Job) → (Job → ℕ) → (minute spare : ℕ) → Occupancy → (i : ℕ) → Type 0
+SiftedIn rs e minute spare o i = Sifted rs e minute spare o.held o.ends o.holders o.holding o.spare i
 
-abbrev pub EndingIn : Occupancy → (holding spare ticket clock minutes : ℕ) → Type 0
-EndingIn o holding spare ticket clock minutes = Ending o.held o.ends o.holders holding spare ticket clock minutes
+abbrev pub EndingIn : Occupancy → (ticket clock minutes : ℕ) → Type 0
+EndingIn o ticket clock minutes = Ending o.held o.ends o.holders o.holding o.spare ticket clock minutes
 
-abbrev pub LeaverIn : Occupancy → (holding spare clock minutes : ℕ) → Departure → (ticket : ℕ) → Type 0
-LeaverIn o holding spare clock minutes h t = Leaver o.held o.ends o.holders holding spare clock minutes h t
+abbrev pub LeaverIn : Occupancy → (clock minutes : ℕ) → Departure → (ticket : ℕ) → Type 0
+LeaverIn o clock minutes h t = Leaver o.held o.ends o.holders o.holding o.spare clock minutes h t
 
 -- ## Settling
 
@@ -81,22 +81,41 @@ StartingIn c order started ends holders count holding clock minutes =
     Starting c.tickets c.states c.dues c.starts order started ends holders count holding clock minutes
 
 -- a call has done its own part, and is to settle
-abbrev pub UnfinishedIn : Columns → Queue → Occupancy → (started : List ℕ) → (live holding spare clock : ℕ) → Settings → Type 0
-UnfinishedIn c q o started live holding spare clock S =
-    Unfinished c.tickets c.states c.dues c.starts c.estimates q.asked q.forecasts o.held o.ends o.holders started live holding spare clock S
+abbrev pub UnfinishedIn : Columns → Queue → Occupancy → (started : List ℕ) → (clock : ℕ) → Settings → Type 0
+UnfinishedIn c q o started clock S =
+    Unfinished c.tickets c.states c.dues c.starts c.estimates q.asked q.forecasts o.held o.ends o.holders started c.live o.holding o.spare clock S
+
+-- the same, where another number is that of the live jobs
+abbrev pub unfinished_as : {tickets states dues starts estimates asked forecasts held ends holders begun : List ℕ} {live holding spare now : ℕ} {S : Settings}
+    → (n : ℕ) → n ≡ live
+    → Unfinished tickets states dues starts estimates asked forecasts held ends holders begun live holding spare now S
+    → Unfinished tickets states dues starts estimates asked forecasts held ends holders begun n holding spare now S
+unfinished_as n e u = record {
+  model = u.model;
+  ready = u.ready;
+  settings_is = u.settings_is;
+  clock_is = u.clock_is;
+  nodes = u.nodes;
+  tenants = u.tenants;
+  leasts = u.leasts;
+  submitted = u.submitted;
+  ranks = u.ranks;
+  columns = rw e u.columns;
+  room = u.room;
+}
 
 -- what it answers, and the columns that it leaves
 abbrev pub FinishesIn : {tickets states dues starts estimates asked forecasts held ends holders begun : List ℕ} {live holding spare now : ℕ} {S : Settings}
     → Unfinished tickets states dues starts estimates asked forecasts held ends holders begun live holding spare now S
     → Model → (ticket ended clock next : ℕ) → Told → (started : List ℕ) → Columns → Queue → Occupancy → Type 0
-FinishesIn {tickets} {estimates = estimates} u b ticket ended clock next r started c q o =
-    Finishes b u.model ticket ended clock next r started tickets u.nodes c.states c.dues c.starts u.tenants estimates u.leasts
+FinishesIn {tickets} {estimates = estimates} {live = live} u b ticket ended clock next r started c q o =
+    Finishes b u.model ticket ended clock next (told_with r live 0 o.holding o.spare) started tickets u.nodes c.states c.dues c.starts u.tenants estimates u.leasts
     q.asked u.submitted u.ranks q.forecasts o.held o.ends o.holders
 
 -- ## The columns of a scheduler
 
-abbrev pub BeginningIn : Columns → (asked : List ℕ) → Occupancy → (live : ℕ) → Settings → Type 0
-BeginningIn c asked o live S = Beginning c.tickets c.nodes c.states c.dues asked o.held o.ends o.holders live S
+abbrev pub BeginningIn : Columns → (asked : List ℕ) → Occupancy → Settings → Type 0
+BeginningIn c asked o S = Beginning c.tickets c.nodes c.states c.dues asked o.held o.ends o.holders c.live S
 
-abbrev pub BegunIn : Model → (asked : List ℕ) → Occupancy → Taken → Type 0
-BegunIn m asked o r = Begins m asked o.held o.ends o.holders r
+abbrev pub BegunIn : Model → (asked : List ℕ) → Occupancy → Type 0
+BegunIn m asked o = Begins m asked o.held o.ends o.holders (record { holding = o.holding; spare = o.spare })

@@ -1,3 +1,4 @@
+pub mod Counted
 pub mod EasyColumns
 pub mod HoldersChange
 pub mod Sifting

@@ -49,17 +49,12 @@ pub struct Queue {
 
 // ## Who holds nodes
 
-// Who holds nodes, in any order: how many, until when, and the tickets.
+// Who holds nodes, in any order: how many, until when, and the tickets; how many jobs these are, and the nodes that are free.
 #[derive(Drop)]
 pub struct Occupancy {
     pub held: [u32; 64],
     pub ends: [u32; 64],
     pub holders: [u32; 64],
-}
-
-// How many jobs hold nodes, and the nodes that are free.
-#[derive(Clone, Copy)]
-pub struct Taken {
     pub holding: usize,
     pub spare: u32,
 }
@@ -85,87 +80,63 @@ impl Occupancy {
     }
 
     // Those whose nodes are free in this minute hold none any more.
-    fn release(&mut self, holding: usize, spare: u32, minute: u32) -> Taken
-        requires { SiftIn self.old holding spare }
-        ensures { (s : SiftIn self.old holding spare)
-            → SiftedIn s.jobs s.frees minute spare self.new result.holding result.spare result.holding }
+    fn release(&mut self, minute: u32)
+        requires { SiftIn self.old }
+        ensures { (s : SiftIn self.old) → SiftedIn s.jobs s.frees minute self.old.spare self.new self.new.holding }
     {
-        let mut n = holding;
-        let mut left = spare;
         let mut i: usize = 0;
-        while i < n {
+        while i < self.holding {
             if self.ends[i] == minute {
-                left += self.held[i];
-                n -= 1;
-                self.take_out(i, n);
+                self.spare += self.held[i];
+                let last = self.holding - 1;
+                self.take_out(i, last);
+                self.holding = last;
             } else {
                 i += 1;
             }
         }
-        Taken {
-            holding: n,
-            spare: left,
-        }
     }
 
     // The place of a ticket among the holders, or their count.
-    fn holder(&self, holding: usize, ticket: u32) -> usize
-        requires { holding ≤ slots }
-        ensures { (rs : List Job) → Column ticket_of rs self.now.holders → length rs ≡ holding
-            → result ≡ place_of (position (has_ticket ticket) rs) holding }
+    fn holder(&self, ticket: u32) -> usize
+        requires { self.now.holding ≤ slots }
+        ensures { (rs : List Job) → Column ticket_of rs self.now.holders → length rs ≡ self.now.holding
+            → result ≡ place_of (position (has_ticket ticket) rs) self.now.holding }
     {
-        for i in 0..holding {
+        for i in 0..self.holding {
             if self.holders[i] == ticket {
                 return i;
             }
         }
-        holding
+        self.holding
     }
 
     // The run of this ticket is over early: its nodes are free at once, or after the cleanup.
-    fn complete(
-        &mut self,
-        holding: usize,
-        spare: u32,
-        ticket: u32,
-        clock: u32,
-        cleanup: u32,
-    ) -> Taken
-        requires { EndingIn self.old holding spare ticket clock cleanup }
-        ensures { (e : EndingIn self.old holding spare ticket clock cleanup)
-            → HoldersIn (without e.model e.model.clock (select.Departing Complete ticket)) self.new result.holding result.spare }
+    fn complete(&mut self, ticket: u32, clock: u32, cleanup: u32)
+        requires { EndingIn self.old ticket clock cleanup }
+        ensures { (e : EndingIn self.old ticket clock cleanup)
+            → HoldersIn (without e.model e.model.clock (select.Departing Complete ticket)) self.new }
     {
-        let i = self.holder(holding, ticket);
+        let i = self.holder(ticket);
         if 0 < cleanup {
             self.ends[i] = clock + cleanup;
-            return Taken { holding, spare };
+            return;
         }
-        let left = spare + self.held[i];
-        let last = holding - 1;
+        self.spare += self.held[i];
+        let last = self.holding - 1;
         self.take_out(i, last);
-        Taken {
-            holding: last,
-            spare: left,
-        }
+        self.holding = last;
     }
 
     // What a departure gives back: the nodes of a run that is over early, and none where a waiting job is withdrawn.
-    fn give_back(
-        &mut self,
-        holding: usize,
-        spare: u32,
-        clock: u32,
-        cleanup: u32,
-        how: Departure,
-        ticket: u32,
-    ) -> Taken
-        requires { LeaverIn self.old holding spare clock cleanup how ticket }
-        ensures { (l : LeaverIn self.old holding spare clock cleanup how ticket)
-            → HoldersIn (without l.model l.model.clock (select.Departing how ticket)) self.new result.holding result.spare }
+    fn give_back(&mut self, clock: u32, cleanup: u32, how: Departure, ticket: u32)
+        requires { LeaverIn self.old clock cleanup how ticket }
+        ensures { (l : LeaverIn self.old clock cleanup how ticket)
+            → HoldersIn (without l.model l.model.clock (select.Departing how ticket)) self.new }
     {
         match how {
-            Departure::Complete => self.complete(holding, spare, ticket, clock, cleanup),
-            Departure::Cancel => Taken { holding, spare },
+            Departure::Complete => self.complete(ticket, clock, cleanup),
+            Departure::Cancel => {}
         }
     }
 }
@@ -202,17 +173,17 @@ fn write_starts(
 }
 
 // A new head keeps its forecast; where there is none, its ticket is 0.
-fn note_head(columns: &Columns, forecasts: &mut [u32; 64], live: usize, head: u32, forecast: u32)
-    requires { live ≤ slots }
-    ensures { (m : Model) (o : Option Forecast) → Asc 1 m.jobs → length m.jobs ≡ live → Column ticket_of m.jobs columns.now.tickets
+fn note_head(columns: &Columns, forecasts: &mut [u32; 64], head: u32, forecast: u32)
+    requires { columns.now.live ≤ slots }
+    ensures { (m : Model) (o : Option Forecast) → Asc 1 m.jobs → length m.jobs ≡ columns.now.live → Column ticket_of m.jobs columns.now.tickets
         → Column forecast_of m.jobs forecasts.old → head ≡ head_ticket o → forecast ≡ head_minute o → Heard m.jobs o
         → Column forecast_of (noted o m).jobs forecasts.new }
 {
     if head == 0 {
         return;
     }
-    let at = columns.find(live, head);
-    if at < live {
+    let at = columns.find(head);
+    if at < columns.live {
         forecasts[at] = forecast;
     }
 }
@@ -223,9 +194,6 @@ fn settle(
     queue: &mut Queue,
     occupancy: &mut Occupancy,
     started: &mut [u32; 64],
-    live: usize,
-    holding: usize,
-    spare: u32,
     clock: u32,
     settings: Settings,
     next: u32,
@@ -233,14 +201,15 @@ fn settle(
     before: u32,
     ended: usize,
 ) -> Told
-    requires { UnfinishedIn columns.old queue.old occupancy.old started.old live holding spare clock settings }
-    ensures finishes { (u : UnfinishedIn columns.old queue.old occupancy.old started.old live holding spare clock settings) (b : Model)
+    requires { UnfinishedIn columns.old queue.old occupancy.old started.old clock settings }
+    ensures finishes { (u : UnfinishedIn columns.old queue.old occupancy.old started.old clock settings) (b : Model)
         → before ≡ ticket_in (head b)
         → FinishesIn u b ticket ended clock next result started.new columns.new queue.new occupancy.new }
     ensures retimed { Retimed columns.old columns.new }
     ensures reasked { Reasked queue.old queue.new }
 {
     let mut order = [0u32; 64];
+    let holding = occupancy.holding;
     let s = easy_engine::settle_slots(
         before,
         &mut occupancy.held,
@@ -249,10 +218,10 @@ fn settle(
         &mut queue.asked,
         &columns.estimates,
         &columns.tickets,
-        live,
+        columns.live,
         &mut order,
         clock,
-        spare,
+        occupancy.spare,
         settings,
     );
     let count = s.started;
@@ -267,7 +236,9 @@ fn settle(
         clock,
         settings.cleanup(),
     );
-    note_head(columns, &mut queue.forecasts, live, s.head, s.forecast);
+    occupancy.holding = holding + count;
+    occupancy.spare = s.spare;
+    note_head(columns, &mut queue.forecasts, s.head, s.forecast);
     Told {
         ticket,
         head: s.head,
@@ -276,9 +247,6 @@ fn settle(
         started: count,
         clock,
         next,
-        live,
-        holding: holding + count,
-        spare: s.spare,
         ..Told::NOTHING
     }
 }
@@ -289,9 +257,6 @@ fn finish(
     queue: &mut Queue,
     occupancy: &mut Occupancy,
     started: &mut [u32; 64],
-    live: usize,
-    holding: usize,
-    spare: u32,
     clock: u32,
     settings: Settings,
     next: u32,
@@ -299,30 +264,26 @@ fn finish(
     withdrawn: u32,
     ended: usize,
 ) -> Told
-    requires { UnfinishedIn columns.old queue.old occupancy.old started.old live holding spare clock settings }
-    ensures finishes { (u : UnfinishedIn columns.old queue.old occupancy.old started.old live holding spare clock settings) (b : Model)
+    requires { UnfinishedIn columns.old queue.old occupancy.old started.old clock settings }
+    ensures finishes { (u : UnfinishedIn columns.old queue.old occupancy.old started.old clock settings) (b : Model)
         → head_before ticket withdrawn (ticket_in (head u.model)) ≡ ticket_in (head b)
         → FinishesIn u b ticket ended clock next result started.new columns.new queue.new occupancy.new }
     ensures retimed { Retimed columns.old columns.new }
     ensures reasked { Reasked queue.old queue.new }
 {
-    let first = easy_engine::leading(&queue.asked, &columns.tickets, live);
+    let first = easy_engine::leading(&queue.asked, &columns.tickets, columns.live);
     let before = easy_engine::head_before(first, ticket, withdrawn);
-    if easy_engine::rests_at(before, &queue.asked, first, live, spare) {
+    if easy_engine::rests_at(before, &queue.asked, first, columns.live, occupancy.spare) {
         return Told {
             ticket,
             ended,
             clock,
             next,
-            live,
-            holding,
-            spare,
             ..Told::NOTHING
         };
     }
     settle(
-        columns, queue, occupancy, started, live, holding, spare, clock, settings, next, ticket,
-        before, ended,
+        columns, queue, occupancy, started, clock, settings, next, ticket, before, ended,
     )
 }
 
@@ -332,25 +293,26 @@ fn finish(
 fn enter(
     columns: &mut Columns,
     queue: &mut Queue,
-    live: usize,
     settings: Settings,
     clock: u32,
     next: u32,
     rank: u32,
     s: Submission,
 )
-    requires { (live < slots) × Orderly s }
-    ensures { (js : List Job) → ColumnsOf settings js columns.old live → QueueOf js queue.old
-        → ColumnsOf settings (js ++ (entering clock rank next s ∷ [])) columns.new (live + 1)
+    requires { (columns.old.live < slots) × Orderly s }
+    ensures entered { (js : List Job) → ColumnsOf settings js columns.old → QueueOf js queue.old
+        → ColumnsOf settings (js ++ (entering clock rank next s ∷ [])) columns.new
         × QueueOf (js ++ (entering clock rank next s ∷ [])) queue.new }
+    ensures one_more { columns.new.live ≡ columns.old.live + 1 }
 {
     let job = Job::fresh(next, s, State::Waiting, 0, 0);
     let new = job.entered(clock, rank);
-    columns.append(live, new, settings);
-    queue.asked[live] = s.nodes;
-    queue.submitted[live] = clock;
-    queue.ranks[live] = rank;
-    queue.forecasts[live] = 0;
+    let at = columns.live;
+    columns.append(new, settings);
+    queue.asked[at] = s.nodes;
+    queue.submitted[at] = clock;
+    queue.ranks[at] = rank;
+    queue.forecasts[at] = 0;
 }
 
 // A submission that the tests of both kinds let through: it is refused if its end could pass the last minute, and comes in if not.
@@ -359,32 +321,26 @@ fn admit(
     queue: &mut Queue,
     occupancy: &mut Occupancy,
     started: &mut [u32; 64],
-    live: usize,
-    holding: usize,
-    spare: u32,
     clock: u32,
     next: u32,
     settings: Settings,
     s: Submission,
 ) -> Told
-    requires { AdmitsIn columns.old queue.old occupancy.old started.old live holding spare clock next settings s }
-    ensures { (a : AdmitsIn columns.old queue.old occupancy.old started.old live holding spare clock next settings s) (ended : List ℕ) → Whole ended
+    requires { AdmitsIn columns.old queue.old occupancy.old started.old clock next settings s }
+    ensures { (a : AdmitsIn columns.old queue.old occupancy.old started.old clock next settings s) (ended : List ℕ) → Whole ended
         → GivesIn (call a.kept.model (calls.submit s)) result ended started.new columns.new queue.new occupancy.new }
 {
-    let waits = columns.waiting(live) as u32;
+    let waits = columns.waiting() as u32;
     let latest = clock + (waits + 1) * settings.unit() + settings.hold_time(s.estimate);
     if Scheduler::HORIZON < latest {
-        return Told::refused(Refusal::PastHorizon, clock, next, live, 0, holding, spare);
+        return Told::refused(Refusal::PastHorizon, clock, next);
     }
-    enter(columns, queue, live, settings, clock, next, waits + 1, s);
+    enter(columns, queue, settings, clock, next, waits + 1, s);
     finish(
         columns,
         queue,
         occupancy,
         started,
-        live + 1,
-        holding,
-        spare,
         clock,
         settings,
         next + 1,
@@ -400,27 +356,22 @@ pub fn submit(
     queue: &mut Queue,
     occupancy: &mut Occupancy,
     started: &mut [u32; 64],
-    live: usize,
-    holding: usize,
-    spare: u32,
     clock: u32,
     next: u32,
     settings: Settings,
     s: Submission,
 ) -> Told
-    requires { KeptIn columns.old queue.old occupancy.old live holding spare clock next settings × Whole started.old }
-    ensures { (k : KeptIn columns.old queue.old occupancy.old live holding spare clock next settings) (ended : List ℕ) → Whole ended
+    requires { KeptIn columns.old queue.old occupancy.old clock next settings × Whole started.old }
+    ensures { (k : KeptIn columns.old queue.old occupancy.old clock next settings) (ended : List ℕ) → Whole ended
         → GivesIn (call k.model (calls.submit s)) result ended started.new columns.new queue.new occupancy.new }
 {
     let tenant = s.tenant;
-    let mine = column_parts::live_of(columns, live, tenant, settings.quota(tenant));
+    let mine = column_parts::live_of(columns, tenant, settings.quota(tenant));
     let why = job_table::submit_refusal(s, settings, mine, next);
     if why.is_none() {
-        return admit(
-            columns, queue, occupancy, started, live, holding, spare, clock, next, settings, s,
-        );
+        return admit(columns, queue, occupancy, started, clock, next, settings, s);
     }
-    Told::refused(why, clock, next, live, 0, holding, spare)
+    Told::refused(why, clock, next)
 }
 
 // ## Jobs leave
@@ -448,33 +399,28 @@ pub fn depart(
     ended: &mut [u32; 64],
     gone: &mut [u32; 64],
     started: &mut [u32; 64],
-    live: usize,
-    holding: usize,
-    spare: u32,
     clock: u32,
     next: u32,
     settings: Settings,
     how: Departure,
     ticket: u32,
 ) -> Told
-    requires { KeptIn columns.old queue.old occupancy.old live holding spare clock next settings × Whole ended.old × Whole gone.old × Whole started.old }
-    ensures { (k : KeptIn columns.old queue.old occupancy.old live holding spare clock next settings)
+    requires { KeptIn columns.old queue.old occupancy.old clock next settings × Whole ended.old × Whole gone.old × Whole started.old }
+    ensures { (k : KeptIn columns.old queue.old occupancy.old clock next settings)
         → GivesIn (call k.model (calls.depart how ticket)) result ended.new started.new columns.new queue.new occupancy.new
         × Whole gone.new }
 {
-    let left = column_parts::leave(columns, ended, gone, live, how, ticket, clock, settings);
+    let live = columns.live;
+    let left = column_parts::leave(columns, ended, gone, how, ticket, clock, settings);
     let why = left.refusal;
     if why.is_none() {
-        close_up(queue, live, gone, left.live);
-        let kept = occupancy.give_back(holding, spare, clock, settings.cleanup(), how, ticket);
+        close_up(queue, live, gone, columns.live);
+        occupancy.give_back(clock, settings.cleanup(), how, ticket);
         return finish(
             columns,
             queue,
             occupancy,
             started,
-            left.live,
-            kept.holding,
-            kept.spare,
             clock,
             settings,
             next,
@@ -483,7 +429,7 @@ pub fn depart(
             left.ended,
         );
     }
-    Told::refused(why, clock, next, left.live, 0, holding, spare)
+    Told::refused(why, clock, next)
 }
 
 // ## A tick
@@ -496,39 +442,25 @@ pub fn tick(
     ended: &mut [u32; 64],
     gone: &mut [u32; 64],
     started: &mut [u32; 64],
-    live: usize,
-    holding: usize,
-    spare: u32,
     clock: u32,
     next: u32,
     settings: Settings,
 ) -> Told
-    requires { KeptIn columns.old queue.old occupancy.old live holding spare clock next settings × Whole ended.old × Whole gone.old × Whole started.old }
-    ensures { (k : KeptIn columns.old queue.old occupancy.old live holding spare clock next settings)
+    requires { KeptIn columns.old queue.old occupancy.old clock next settings × Whole ended.old × Whole gone.old × Whole started.old }
+    ensures { (k : KeptIn columns.old queue.old occupancy.old clock next settings)
         → GivesIn (call k.model calls.tick) result ended.new started.new columns.new queue.new occupancy.new
         × Whole gone.new }
 {
     if Scheduler::HORIZON <= clock {
-        return Told::refused(Refusal::PastHorizon, clock, next, live, 0, holding, spare);
+        return Told::refused(Refusal::PastHorizon, clock, next);
     }
     let minute = clock + 1;
-    let over = column_parts::expire(columns, ended, gone, live, minute, settings.cleanup());
-    close_up(queue, live, gone, over.live);
-    let kept = occupancy.release(holding, spare, minute);
+    let live = columns.live;
+    let over = column_parts::expire(columns, ended, gone, minute, settings.cleanup());
+    close_up(queue, live, gone, columns.live);
+    occupancy.release(minute);
     finish(
-        columns,
-        queue,
-        occupancy,
-        started,
-        over.live,
-        kept.holding,
-        kept.spare,
-        minute,
-        settings,
-        next,
-        0,
-        0,
-        over.ended,
+        columns, queue, occupancy, started, minute, settings, next, 0, 0, over.ended,
     )
 }
 
@@ -547,16 +479,15 @@ pub fn begin(
     columns: &Columns,
     asked: &mut [u32; 64],
     occupancy: &mut Occupancy,
-    live: usize,
     settings: Settings,
-) -> Taken
-    requires { BeginningIn columns.now asked.old occupancy.old live settings }
-    ensures { (b : BeginningIn columns.now asked.old occupancy.old live settings) → BegunIn b.model asked.new occupancy.new result }
+)
+    requires { BeginningIn columns.now asked.old occupancy.old settings }
+    ensures { (b : BeginningIn columns.now asked.old occupancy.old settings) → BegunIn b.model asked.new occupancy.new }
 {
     let cleanup = settings.cleanup();
     let mut spare = settings.nodes;
     let mut n: usize = 0;
-    for i in 0..live {
+    for i in 0..columns.live {
         let own = columns.nodes[i];
         let state = columns.states[i];
         if state == 1 {
@@ -570,5 +501,6 @@ pub fn begin(
             n += 1;
         }
     }
-    Taken { holding: n, spare }
+    occupancy.holding = n;
+    occupancy.spare = spare;
 }

@@ -12,13 +12,13 @@ use Rattle.job_columns.specs.JobColumns.{JobColumns, AllColumns}
 use Rattle.job_columns.specs.Gathering.{Blanks, RowFits, SchedulerColumns}
 
 -- the columns of these jobs
-abbrev pub ColumnsOf : Settings → List Job → Columns → (live : ℕ) → Type 0
-ColumnsOf S js c live = JobColumns S js c.tickets c.nodes c.states c.dues c.starts c.tenants c.estimates c.leasts live
+abbrev pub ColumnsOf : Settings → List Job → Columns → Type 0
+ColumnsOf S js c = JobColumns S js c.tickets c.nodes c.states c.dues c.starts c.tenants c.estimates c.leasts c.live
 
 -- with those of the fields that only one kind keeps
-abbrev pub FieldsOf : Settings → List Job → Columns → (promises submitted ranks forecasts : List ℕ) → (live : ℕ) → Type 0
-FieldsOf S js c promises submitted ranks forecasts live =
-    AllColumns S js c.tickets c.nodes c.states c.dues c.starts c.tenants c.estimates c.leasts promises submitted ranks forecasts live
+abbrev pub FieldsOf : Settings → List Job → Columns → (promises submitted ranks forecasts : List ℕ) → Type 0
+FieldsOf S js c promises submitted ranks forecasts =
+    AllColumns S js c.tickets c.nodes c.states c.dues c.starts c.tenants c.estimates c.leasts promises submitted ranks forecasts c.live
 
 -- all 0
 abbrev pub BlankColumns : Columns → (promises submitted ranks forecasts : List ℕ) → Type 0
@@ -26,9 +26,9 @@ BlankColumns c promises submitted ranks forecasts =
     Blanks c.tickets c.nodes c.states c.dues c.starts c.tenants c.estimates c.leasts promises submitted ranks forecasts
 
 -- of a sound model
-abbrev pub ColumnsOfScheduler : Settings → (clock next : ℕ) → Columns → (promises submitted ranks forecasts : List ℕ) → (live : ℕ) → Type 0
-ColumnsOfScheduler S clock next c promises submitted ranks forecasts live =
-    SchedulerColumns S clock next c.tickets c.nodes c.states c.dues c.starts c.tenants c.estimates c.leasts promises submitted ranks forecasts live
+abbrev pub ColumnsOfScheduler : Settings → (clock next : ℕ) → Columns → (promises submitted ranks forecasts : List ℕ) → Type 0
+ColumnsOfScheduler S clock next c promises submitted ranks forecasts =
+    SchedulerColumns S clock next c.tickets c.nodes c.states c.dues c.starts c.tenants c.estimates c.leasts promises submitted ranks forecasts c.live
 
 -- the numbers in a place fit the fields of a job
 abbrev pub PlaceFits : Columns → (i clearing : ℕ) → Type 0

@@ -32,7 +32,7 @@ use scheduler::{Job, Scheduler, Settings, State, Tenant};
 // A minute that no clock reaches.
 const NEVER: u32 = 4_000_000;
 
-// The columns that both kinds have.
+// The columns that both kinds have, and how many jobs are live.
 #[derive(Drop)]
 pub struct Columns {
     pub tickets: [u32; 64],
@@ -43,6 +43,7 @@ pub struct Columns {
     pub tenants: [u32; 64],
     pub estimates: [u32; 64],
     pub leasts: [u32; 64],
+    pub live: usize,
 }
 
 fn tenant_number(t: Tenant) -> u32
@@ -81,10 +82,12 @@ fn due(job: Job, settings: Settings) -> u32
 
 impl Columns {
     // A job comes in, last.
-    pub fn append(&mut self, at: usize, j: Job, settings: Settings)
-        requires { (at < slots) × Low j }
-        ensures { (js : List Job) → ColumnsOf settings js self.old at → ColumnsOf settings (js ++ (j ∷ [])) self.new (at + 1) }
+    pub fn append(&mut self, j: Job, settings: Settings)
+        requires { (self.old.live < slots) × Low j }
+        ensures appended { (js : List Job) → ColumnsOf settings js self.old → ColumnsOf settings (js ++ (j ∷ [])) self.new }
+        ensures one_more { self.new.live ≡ self.old.live + 1 }
     {
+        let at = self.live;
         self.tickets[at] = j.ticket;
         self.nodes[at] = j.nodes as u32;
         self.states[at] = state_number(j.state);
@@ -93,13 +96,16 @@ impl Columns {
         self.tenants[at] = tenant_number(j.tenant);
         self.estimates[at] = j.estimate as u32;
         self.leasts[at] = j.least as u32;
+        self.live += 1;
     }
 
     // A job leaves.
-    pub fn remove(&mut self, live: usize, at: usize)
-        requires { (at < live) × (live ≤ slots) }
-        ensures { (S : Settings) (js : List Job) → ColumnsOf S js self.old live → ColumnsOf S (remove_at at js) self.new (live - 1) }
+    pub fn remove(&mut self, at: usize)
+        requires { (at < self.old.live) × (self.old.live ≤ slots) }
+        ensures removed { (S : Settings) (js : List Job) → ColumnsOf S js self.old → ColumnsOf S (remove_at at js) self.new }
+        ensures one_less { self.new.live ≡ self.old.live - 1 }
     {
+        let live = self.live;
         shift(&mut self.tickets, live, at);
         shift(&mut self.nodes, live, at);
         shift(&mut self.states, live, at);
@@ -108,6 +114,7 @@ impl Columns {
         shift(&mut self.tenants, live, at);
         shift(&mut self.estimates, live, at);
         shift(&mut self.leasts, live, at);
+        self.live = live - 1;
     }
 
     // A waiting job runs from now on, for so many minutes.
@@ -124,21 +131,22 @@ impl Columns {
     // Its run ends in this minute, its nodes stay taken for the cleanup.
     pub fn clean(&mut self, at: usize, clock: u32, cleanup: u32)
         requires { (at < slots) × (clock ≤ horizon) × (cleanup ≤ longest_cleanup) }
-        ensures { (S : Settings) (js : List Job) (live : ℕ) → ColumnsOf S js self.old live → at < live → cleanup ≡ cleanupOf S
-            → ColumnsOf S (set js at (cleaning clock (get_or js at unused))) self.new live }
+        ensures cleaned { (S : Settings) (js : List Job) → ColumnsOf S js self.old → at < self.old.live → cleanup ≡ cleanupOf S
+            → ColumnsOf S (set js at (cleaning clock (get_or js at unused))) self.new }
+        ensures still { self.new.live ≡ self.old.live }
     {
         self.states[at] = 3;
         self.dues[at] = clock + cleanup;
     }
 
     // The place of a ticket, by halves; where no job has it, the place past the last.
-    pub fn find(&self, live: usize, ticket: u32) -> usize
-        requires { live ≤ slots }
-        ensures { (js : List Job) → Column ticket_of js self.now.tickets → Asc 1 js → length js ≡ live
-            → result ≡ place_of (position (has_ticket ticket) js) live }
+    pub fn find(&self, ticket: u32) -> usize
+        requires { self.now.live ≤ slots }
+        ensures { (js : List Job) → Column ticket_of js self.now.tickets → Asc 1 js → length js ≡ self.now.live
+            → result ≡ place_of (position (has_ticket ticket) js) self.now.live }
     {
         let mut low: usize = 0;
-        let mut high = live;
+        let mut high = self.live;
         while low < high {
             let middle = (low + high) / 2;
             if self.tickets[middle] < ticket {
@@ -147,56 +155,56 @@ impl Columns {
                 high = middle;
             }
         }
-        if low < live && self.tickets[low] == ticket {
+        if low < self.live && self.tickets[low] == ticket {
             low
         } else {
-            live
+            self.live
         }
     }
 
-    // The first place from this one on of a job that is due in this minute, or the end.
-    pub fn first_due(&self, from: usize, end: usize, minute: u32) -> usize
-        requires { (from ≤ end) × (end ≤ slots) }
-        ensures { FirstDue self.now.dues from end minute result }
+    // The first place from this one on of a job that is due in this minute, or the place past the last.
+    pub fn first_due(&self, from: usize, minute: u32) -> usize
+        requires { (from ≤ self.now.live) × (self.now.live ≤ slots) }
+        ensures { FirstDue self.now.dues from self.now.live minute result }
     {
-        for i in from..end {
+        for i in from..self.live {
             if self.dues[i] == minute {
                 return i;
             }
         }
-        end
+        self.live
     }
 
     // The first minute in which somebody is due.
-    pub fn next_due(&self, live: usize) -> u32
-        requires { live ≤ slots }
-        ensures { (f : Job → ℕ) (js : List Job) → Column f js self.now.dues → length js ≡ live → result ≡ soonest never (map f js) }
+    pub fn next_due(&self) -> u32
+        requires { self.now.live ≤ slots }
+        ensures { (f : Job → ℕ) (js : List Job) → Column f js self.now.dues → length js ≡ self.now.live → result ≡ soonest never (map f js) }
     {
         let mut first = NEVER;
-        for i in 0..live {
+        for i in 0..self.live {
             first = first.min(self.dues[i]);
         }
         first
     }
 
     // How many live jobs are this tenant's.
-    pub fn of_tenant(&self, live: usize, tenant: Tenant) -> usize
-        requires { live ≤ slots }
-        ensures { (js : List Job) → Column tenant_of js self.now.tenants → length js ≡ live → result ≡ live_of tenant js }
+    pub fn of_tenant(&self, tenant: Tenant) -> usize
+        requires { self.now.live ≤ slots }
+        ensures { (js : List Job) → Column tenant_of js self.now.tenants → length js ≡ self.now.live → result ≡ live_of tenant js }
     {
-        count_of(&self.tenants, live, tenant_number(tenant))
+        count_of(&self.tenants, self.live, tenant_number(tenant))
     }
 
     // How many wait.
-    pub fn waiting(&self, live: usize) -> usize
-        requires { live ≤ slots }
-        ensures { (js : List Job) → Column state_of js self.now.states → length js ≡ live → result ≡ length (keep is_waiting js) }
+    pub fn waiting(&self) -> usize
+        requires { self.now.live ≤ slots }
+        ensures { (js : List Job) → Column state_of js self.now.states → length js ≡ self.now.live → result ≡ length (keep is_waiting js) }
     {
-        count_of(&self.states, live, 1)
+        count_of(&self.states, self.live, 1)
     }
 }
 
-// The columns of a scheduler, in lists that are all 0: how many jobs are live.
+// The columns of a scheduler, in lists that are all 0.
 pub fn spread(
     d: Scheduler,
     columns: &mut Columns,
@@ -204,23 +212,23 @@ pub fn spread(
     submitted: &mut [u32; 64],
     ranks: &mut [u32; 64],
     forecasts: &mut [u32; 64],
-) -> usize
+)
     requires { Holds Sound d × BlankColumns columns.old promises.old submitted.old ranks.old forecasts.old }
-    ensures { FieldsOf d.settings (view d).jobs columns.new promises.new submitted.new ranks.new forecasts.new result }
+    ensures { FieldsOf d.settings (view d).jobs columns.new promises.new submitted.new ranks.new forecasts.new }
 {
     let settings = d.settings;
+    columns.live = 0;
     for i in 0..Scheduler::LIVE {
         let j = d.jobs[i];
         if !j.is_live() {
-            return i;
+            return;
         }
-        columns.append(i, j, settings);
+        columns.append(j, settings);
         promises[i] = j.promise;
         submitted[i] = j.submitted;
         ranks[i] = j.rank;
         forecasts[i] = j.forecast;
     }
-    Scheduler::LIVE
 }
 
 fn state_of(n: u32) -> State
@@ -263,8 +271,8 @@ fn job_at(
     cleanup: u32,
 ) -> Job
     requires { (i < slots) × PlaceFits columns.now i cleanup }
-    ensures { (S : Settings) (js : List Job) (live : ℕ) → FieldsOf S js columns.now promises.now submitted.now ranks.now forecasts.now live
-        → i < live → cleanup ≡ cleanupOf S → NoEnd (get_or js i unused) → result ≡ get_or js i unused }
+    ensures { (S : Settings) (js : List Job) → FieldsOf S js columns.now promises.now submitted.now ranks.now forecasts.now
+        → i < columns.now.live → cleanup ≡ cleanupOf S → NoEnd (get_or js i unused) → result ≡ get_or js i unused }
 {
     let state = columns.states[i];
     Job {
@@ -290,17 +298,16 @@ pub fn gather(
     submitted: &[u32; 64],
     ranks: &[u32; 64],
     forecasts: &[u32; 64],
-    live: usize,
     settings: Settings,
     clock: u32,
     next: u32,
 ) -> Scheduler
-    requires { ColumnsOfScheduler settings clock next columns.now promises.now submitted.now ranks.now forecasts.now live }
-    ensures { (k : ColumnsOfScheduler settings clock next columns.now promises.now submitted.now ranks.now forecasts.now live) → result ≡ store k.model }
+    requires { ColumnsOfScheduler settings clock next columns.now promises.now submitted.now ranks.now forecasts.now }
+    ensures { (k : ColumnsOfScheduler settings clock next columns.now promises.now submitted.now ranks.now forecasts.now) → result ≡ store k.model }
 {
     let mut jobs = [Job::unused(); 64];
     let cleanup = settings.cleanup();
-    for i in 0..live {
+    for i in 0..columns.live {
         jobs[i] = job_at(columns, promises, submitted, ranks, forecasts, i, cleanup);
     }
     Scheduler {

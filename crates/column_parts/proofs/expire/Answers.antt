@@ -14,7 +14,7 @@ loop-done-init c =
       f.to_end,
       omega (arith, k.sound.few, k.columns.live_is),
       f.here,
-      λ k. sweeping_far k.sound (sweeping_first k.model c.args.live k.columns c.args.ended.now c.args.gone.now c.requires.1 c.requires.2)
+      λ k. sweeping_far k.sound (sweeping_first k.model c.args.columns.now.live k.columns c.args.ended.now c.args.gone.now c.requires.1 c.requires.2)
           c.args.minute c.first_due.result k.minute_is f,
     )
 

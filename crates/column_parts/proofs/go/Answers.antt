@@ -14,6 +14,6 @@ returns c =
     λ S clock k l n.
     let m = k.model in
     let v = k.columns in
-    rw (c.withdrawn.ensures, c.ends.ensures, q.listed)
+    rw (c.withdrawn.ensures, c.ends.ensures, q.listed, q.one_less)
     (leaves_going m k.sound a.ticket a.at l.found v.live_is a.ended.now a.gone.now c.requires.2 c.requires.3 a.how l.allowed
-    (ap (λ (T : Settings). cleans_by a.how (cleanup T)) (sym k.settings_is) ∙ n) (q.left m.settings m.jobs v))
+    (ap (λ (T : Settings). cleans_by a.how (cleanup T)) (sym k.settings_is) ∙ n) (rw q.one_less at (q.left m.settings m.jobs v)))

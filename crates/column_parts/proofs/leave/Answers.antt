@@ -5,30 +5,30 @@ use native.Mathlib.Omega.{arith}
 use mathlib.Core.Path.{sym, ap, ◌∙◌}
 use Rattle.scheduler.specs.declared.Refusal.{Refusal}
 use Rattle.scheduler.specs.Times.{cleanup_le}
-use Rattle.column_parts.specs.Held.{SoundIn}
+use Rattle.column_parts.specs.Held.{nobody_left, SoundIn}
 use Rattle.column_parts.specs.Departures.{cleans_by}
-use Rattle.column_parts.specs.LeavingColumns.{refused_left, Leavable, leaves_nowhere, numbers_low, leaves_not, leavable}
+use Rattle.column_parts.specs.LeavingColumns.{Leavable, leaves_nowhere, numbers_low, leaves_not, leavable}
 use Rattle.column_parts.proofs.leave.Goals.{Else-not-is_none}
 use Rattle.column_parts.proofs.leave.Goals as goal
 
 -- where nothing is refused
 module _ (n : Else-not-is_none) where
-  inside : n.find-at.result < n.args.live
-  inside = omega (arith, n.if-live-at.false)
+  inside : n.find-at.result < n.args.columns.now.live
+  inside = omega (arith, n.if-columns-at.false)
 
   able : let a = n.args in
-      (k : SoundIn a.settings a.clock a.columns.now a.live) → Leavable k.model a.how a.ticket n.find-at.result
+      (k : SoundIn a.settings a.clock a.columns.now) → Leavable k.model a.how a.ticket n.find-at.result
   able k =
       let a = n.args in
       leavable k a.how a.ticket n.find-at.result
       (n.find-at.ensures k.model.jobs k.columns.tickets_are k.sound.asc k.columns.live_is) inside n.depart_refusal-why.result
       n.depart_refusal-why.ensures (sym n.is_none.ensures ∙ n.if-not-is_none.false)
 
-pub returns-then-live-at : goal.returns-then-live-at
-returns-then-live-at c =
+pub returns-then-columns-at : goal.returns-then-columns-at
+returns-then-columns-at c =
     let a = c.args in
     λ k.
-    rw (c.refused.ensures ∙ ap (λ (w : Refusal). refused_left w a.live) c.not_there.ensures)
+    rw (c.refused.ensures ∙ ap (λ (w : Refusal). nobody_left w) c.not_there.ensures)
     (leaves_nowhere k a.how a.ticket c.find-at.result (c.find-at.ensures k.model.jobs k.columns.tickets_are k.sound.asc k.columns.live_is)
     (omega arith) a.ended.now a.gone.now c.requires.1 c.requires.2)
 
@@ -45,7 +45,7 @@ returns-then-not-is_none c =
     λ k.
     rw c.refused-then-not-is_none.ensures
     (leaves_not k a.how a.ticket c.find-at.result (c.find-at.ensures k.model.jobs k.columns.tickets_are k.sound.asc k.columns.live_is)
-    (omega (arith, c.if-live-at.false)) c.depart_refusal-why.result c.depart_refusal-why.ensures
+    (omega (arith, c.if-columns-at.false)) c.depart_refusal-why.result c.depart_refusal-why.ensures
     (sym c.is_none.ensures ∙ c.if-not-is_none.true) a.ended.now a.gone.now c.requires.1 c.requires.2)
 
 pub stay-requires : goal.stay-requires

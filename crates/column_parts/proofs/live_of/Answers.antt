@@ -8,8 +8,8 @@ use Rattle.lists.specs.Lists.{length_keep, length_keep_le}
 use Rattle.scheduler.specs.Table.{of_tenant}
 use Rattle.column_parts.proofs.live_of.Goals as goal
 
-pub returns-then-live-places : goal.returns-then-live-places
-returns-then-live-places c =
+pub returns-then-columns-places : goal.returns-then-columns-places
+returns-then-columns-places c =
     let a = c.args in
     λ js k n.
     lt-leb a.places 0 (omega arith)

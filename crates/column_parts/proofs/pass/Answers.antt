@@ -27,9 +27,9 @@ take_out-requires c =
 pub returns-then-state-eq3 : goal.returns-then-state-eq3
 returns-then-state-eq3 c =
     let q = c.take_out.ensures in record {
-      swept = λ k. rw q.listed (sweeping_released k.sound k.sweeping k.more (k.due ∙ k.minute_is) c.if-state-eq3.true
-          (q.left k.model.settings _ k.sweeping.columns));
-      nearer = (omega (arith, c.requires.more), omega (arith, c.requires.more), omega arith);
+      swept = λ k. rw (q.listed, q.one_less) (sweeping_released k.sound k.sweeping k.more (k.due ∙ k.minute_is) c.if-state-eq3.true
+          (rw q.one_less at (q.left k.model.settings _ k.sweeping.columns)));
+      nearer = (omega (arith, c.requires.more, q.one_less), omega (arith, c.requires.more, q.one_less), omega (arith, q.one_less));
     }
 
 pub bounds-columns-at-2 : goal.bounds-columns-at-2
@@ -45,10 +45,10 @@ clean-requires c =
 
 pub returns-then-cleanup-gt0 : goal.returns-then-cleanup-gt0
 returns-then-cleanup-gt0 c =
-    record {
-      swept = λ k. sweeping_cleans k.sound k.sweeping k.more (k.due ∙ k.minute_is) c.if-state-eq1.false c.if-state-eq3.false (omega (arith, c.if-cleanup-gt0.true, k.clearing_is))
-          (rw k.minute_is at (c.clean.ensures k.model.settings _ _ k.sweeping.columns k.more k.clearing_is));
-      nearer = (omega (arith, c.requires.more), omega (arith, c.requires.more), omega arith);
+    let q = c.clean.ensures in record {
+      swept = λ k. rw q.still (sweeping_cleans k.sound k.sweeping k.more (k.due ∙ k.minute_is) c.if-state-eq1.false c.if-state-eq3.false (omega (arith, c.if-cleanup-gt0.true, k.clearing_is))
+          (rw (k.minute_is, q.still) at (q.cleaned k.model.settings _ k.sweeping.columns k.more k.clearing_is)));
+      nearer = (omega (arith, c.requires.more, q.still), omega (arith, c.requires.more, q.still), omega (arith, q.still));
     }
 
 pub take_out-requires-2 : goal.take_out-requires-2
@@ -59,7 +59,7 @@ take_out-requires-2 c =
 pub returns : goal.returns
 returns c =
     let q = c.take_out-2.ensures in record {
-      swept = λ k. rw q.listed (sweeping_goes k.sound k.sweeping k.more (k.due ∙ k.minute_is) c.if-state-eq1.false c.if-state-eq3.false
-          (omega (arith, c.if-cleanup-gt0.false, k.clearing_is)) (q.left k.model.settings _ k.sweeping.columns));
-      nearer = (omega (arith, c.requires.more), omega (arith, c.requires.more), omega arith);
+      swept = λ k. rw (q.listed, q.one_less) (sweeping_goes k.sound k.sweeping k.more (k.due ∙ k.minute_is) c.if-state-eq1.false c.if-state-eq3.false
+          (omega (arith, c.if-cleanup-gt0.false, k.clearing_is)) (rw q.one_less at (q.left k.model.settings _ k.sweeping.columns)));
+      nearer = (omega (arith, c.requires.more, q.one_less), omega (arith, c.requires.more, q.one_less), omega (arith, q.one_less));
     }

@@ -13,5 +13,5 @@ returns c =
     let m = k.model in
     let v = k.columns in
     let z : a.cleanup ≡ cleanup m.settings = e ∙ ap cleanup k.settings_is in
-    leaves_staying m k.sound a.ticket a.at l.found v.live_is a.ended.now gone c.requires.4 w h l.allowed (sym (ap (cleans_by h) z) ∙ y)
-    (rw k.clock_is at (c.clean.ensures m.settings m.jobs a.live v c.requires.0 z))
+    rw c.clean.ensures.still (leaves_staying m k.sound a.ticket a.at l.found v.live_is a.ended.now gone c.requires.4 w h l.allowed (sym (ap (cleans_by h) z) ∙ y)
+    (rw (k.clock_is, c.clean.ensures.still) at (c.clean.ensures.cleaned m.settings m.jobs v c.requires.0 z)))

@@ -15,11 +15,11 @@ job_is : (c : After-fresh-job) → c.fresh-job.result ≡ arriving c.requires.0
 job_is c =
     c.fresh-job.ensures ∙ ap (λ (x : State). fresh c.args.next c.args.s x c.args.start c.args.start) c.state_at-state.ensures
 
-room : (c : After-append) → c.args.live < slots
+room : (c : After-append) → c.args.columns.now.live < slots
 room c = admit_room c.requires.0
 
-pub take_in-n-requires : goal.take_in-n-requires
-take_in-n-requires c = let q = c.requires.0 in (admit_lays q, q.kept.columns.beside.indexed)
+pub take_in-profile-requires : goal.take_in-profile-requires
+take_in-profile-requires c = let q = c.requires.0 in (admit_lays q, q.kept.columns.beside.indexed)
 
 pub fresh-job-requires : goal.fresh-job-requires
 fresh-job-requires c = admit_order c.requires.0
@@ -32,25 +32,22 @@ append-requires c =
 pub returns : goal.returns
 returns c =
     λ q ended whole.
-    admitted q (rw (job_is (goal.at.returns c).After-fresh-job) at (c.append.ensures _ (core_by_settings q))) c.take_in-n.ensures ended whole c.list_if_now-begun.ensures
+    rw c.append.ensures.one_more (admitted q (rw (job_is (goal.at.returns c).After-fresh-job, c.append.ensures.one_more) at (c.append.ensures.appended _ (core_by_settings q))) c.take_in-profile.ensures ended whole c.list_if_now.ensures)
 
 pub overflow_add-x : goal.overflow_add-x
 overflow_add-x c = omega (arith, c.requires.0.within)
 
-pub offset_bounds-promised-live : goal.offset_bounds-promised-live
-offset_bounds-promised-live c = omega (arith, room c)
+pub offset_bounds-promised-at : goal.offset_bounds-promised-at
+offset_bounds-promised-at c = omega (arith, room c)
 
-pub bounds-promised-live : goal.bounds-promised-live
-bounds-promised-live c = room (goal.at.bounds-promised-live c).After-append
+pub bounds-promised-at : goal.bounds-promised-at
+bounds-promised-at c = room (goal.at.bounds-promised-at c).After-append
 
-pub offset_bounds-promised-live-2 : goal.offset_bounds-promised-live-2
-offset_bounds-promised-live-2 c = omega (arith, room (goal.at.offset_bounds-promised-live-2 c).After-append)
+pub offset_bounds-promised-at-2 : goal.offset_bounds-promised-at-2
+offset_bounds-promised-at-2 c = omega (arith, room (goal.at.offset_bounds-promised-at-2 c).After-append)
 
-pub bounds-promised-live-2 : goal.bounds-promised-live-2
-bounds-promised-live-2 c = room (goal.at.bounds-promised-live-2 c).After-append
+pub bounds-promised-at-2 : goal.bounds-promised-at-2
+bounds-promised-at-2 c = room (goal.at.bounds-promised-at-2 c).After-append
 
 pub overflow_add-result : goal.overflow_add-result
 overflow_add-result c = omega (arith, admit_ticket c.requires.0)
-
-pub overflow_add-result-2 : goal.overflow_add-result-2
-overflow_add-result-2 c = omega (arith, room (goal.at.overflow_add-result-2 c).After-append)

@@ -20,14 +20,14 @@ accepted : (c : Else-not-is_none) → accepts c.leave-left.result.refusal ≡ tr
 accepted c = sym c.is_none.ensures ∙ c.if-not-is_none.false
 
 -- who leaves
-who : (c : Else-not-is_none) (k : let a = c.args in KeptIn a.settings a.clock a.next a.columns.now a.promised.now a.profile.now a.live a.count) → Leaver k c.args.how c.args.ticket c.find-at.result
+who : (c : Else-not-is_none) (k : let a = c.args in KeptIn a.settings a.clock a.next a.columns.now a.promised.now a.profile.now) → Leaver k c.args.how c.args.ticket c.find-at.result
 who c k =
     leaver k c.args.how c.args.ticket c.find-at.result
     (c.find-at.ensures k.model.jobs k.columns.core.tickets_are k.valid.sound.asc k.columns.core.live_is)
     (not_refused k c.args.how c.args.ticket (c.leave-left.ensures (sound_columns k)) (accepted c))
 
 -- what it gives back
-back : (c : Else-not-is_none) (k : let a = c.args in KeptIn a.settings a.clock a.next a.columns.now a.promised.now a.profile.now a.live a.count) → c.freed-x.result ≡ freed k.model.settings k.model.clock c.args.how (get_or k.model.jobs c.find-at.result unused)
+back : (c : Else-not-is_none) (k : let a = c.args in KeptIn a.settings a.clock a.next a.columns.now a.promised.now a.profile.now) → c.freed-x.result ≡ freed k.model.settings k.model.clock c.args.how (get_or k.model.jobs c.find-at.result unused)
 back c k =
     let w = who c k in
     c.freed-x.ensures w.low ∙ back_is k w.low c.args.how c.cleanup-cleanup.result c.cleanup-cleanup.ensures
@@ -64,11 +64,11 @@ shift_own-requires c =
     let g = gone_are k c.args.how c.args.ticket v (accepted (goal.at.shift_own-requires c).Else-not-is_none) in
     (few_live k, g.fewer, v.gone_whole, g.places)
 
-pub move_up-up-requires : goal.move_up-up-requires
-move_up-up-requires c =
+pub move_up-begun-requires : goal.move_up-begun-requires
+move_up-begun-requires c =
     let k = c.requires.0 in (
-      moves_up k c.args.how c.args.ticket (c.leave-left.ensures (sound_columns k)) (accepted (goal.at.move_up-up-requires c).Else-not-is_none) c.shift_own.ensures.0 c.shift_own.ensures.1 (who (goal.at.move_up-up-requires c).Else-not-is_none k)
-          (back (goal.at.move_up-up-requires c).Else-not-is_none k) c.cleanup-cleanup.ensures,
+      moves_up k c.args.how c.args.ticket (c.leave-left.ensures (sound_columns k)) (accepted (goal.at.move_up-begun-requires c).Else-not-is_none) c.shift_own.ensures.0 c.shift_own.ensures.1 (who (goal.at.move_up-begun-requires c).Else-not-is_none k)
+          (back (goal.at.move_up-begun-requires c).Else-not-is_none k) c.cleanup-cleanup.ensures,
       c.requires.3,
     )
 
@@ -76,9 +76,9 @@ pub returns : goal.returns
 returns c =
     λ k.
     let v = c.leave-left.ensures (sound_columns k) in (
-      rw c.move_up-up.ensures.retimed (departed_answer k c.args.how c.args.ticket v (accepted (goal.at.returns c).Else-not-is_none) c.shift_own.ensures.0 c.shift_own.ensures.1 (who (goal.at.returns c).Else-not-is_none k) (back (goal.at.returns c).Else-not-is_none k)
+      rw c.move_up-begun.ensures.retimed (departed_answer k c.args.how c.args.ticket v (accepted (goal.at.returns c).Else-not-is_none) c.shift_own.ensures.0 c.shift_own.ensures.1 (who (goal.at.returns c).Else-not-is_none k) (back (goal.at.returns c).Else-not-is_none k)
           c.cleanup-cleanup.ensures
-          (c.move_up-up.ensures.moved
+          (c.move_up-begun.ensures.moved
           (moves_up k c.args.how c.args.ticket v (accepted (goal.at.returns c).Else-not-is_none) c.shift_own.ensures.0 c.shift_own.ensures.1 (who (goal.at.returns c).Else-not-is_none k) (back (goal.at.returns c).Else-not-is_none k)
           c.cleanup-cleanup.ensures))),
       v.gone_whole,

@@ -9,4 +9,4 @@ use Rattle.conservative_columns.proofs.note_started.Given as goal
 
 abbrev pub invariant-loop-i : goal.invariant-loop-i
 invariant-loop-i l =
-    (l.i ≤ l.live) × (l.n ≤ l.i) × Whole l.started × ((js ks : List Job) (c : Compared js ks l.columns.tickets l.was l.columns.states l.live) → Noted c l.i l.started l.n)
+    (l.i ≤ l.columns.live) × (l.n ≤ l.i) × Whole l.started × ((js ks : List Job) (c : Compared js ks l.columns.tickets l.was l.columns.states l.columns.live) → Noted c l.i l.started l.n)

@@ -7,7 +7,7 @@ use Rattle.conservative_columns.proofs.passes.Given as goal
 
 abbrev pub invariant-loop-turns : goal.invariant-loop-turns
 invariant-loop-turns l =
-    ((q : PassingIn l.initial.columns l.holds l.initial.minutes l.initial.free l.live l.count l.clock l.cleanup)
+    ((q : PassingIn l.initial.columns l.holds l.initial.minutes l.initial.free l.count l.clock l.cleanup)
     → Turns q l.columns.states l.columns.dues l.columns.starts l.at l.turns l.n l.minutes l.free)
     × Retimed l.initial.columns l.columns
 

@@ -2,7 +2,7 @@
 -- Assumes nothing.
 use Prim.Native.Nat.{◌+◌, ◌<◌}
 use native.Mathlib.Omega.{arith}
-use mathlib.Core.Path.{refl, ap}
+use mathlib.Core.Path.{◌≡◌, refl, ap}
 use Rattle.job_columns.specs.declared.Columns.{Columns}
 use Rattle.job_columns.specs.Held.{Retimed, retimed_on}
 use Rattle.conservative_columns.specs.Held.{StartingIn}
@@ -23,7 +23,7 @@ room c =
     omega (arith, low c, few_started q (c.loop-at.invariant.0 q))
 
 -- this place has been looked at too
-one_more : (c : Joined-columns-at-eq1) → (q : StartingIn c.args.columns.now c.args.holds.now c.args.live c.args.starting c.args.minute c.args.cleanup)
+one_more : (c : Joined-columns-at-eq1) → (q : StartingIn c.args.columns.now c.args.holds.now c.args.starting c.args.minute c.args.cleanup)
     → Starts q (c.loop-at.at + 1) c.if-columns-at-eq1.n c.if-columns-at-eq1.columns.states c.if-columns-at-eq1.columns.dues c.if-columns-at-eq1.columns.starts c.if-columns-at-eq1.started
 one_more c q =
     let l = c.loop-at in
@@ -42,6 +42,10 @@ retimed c =
       | then-columns-at-eq1 w ↦ rw w.columns-is (retimed_on c.args.columns.now c.loop-at.columns w.begin.new.self e w.begin.ensures.retimed)
       | else-columns-at-eq1 w ↦ rw w.columns-is e
     ]
+
+-- so many are live
+live : (c : Joined-columns-at-eq1) → c.if-columns-at-eq1.columns.live ≡ c.args.columns.now.live
+live c = ap (λ (x : Columns). x.live) (retimed c)
 
 pub first_due-at-requires : goal.first_due-at-requires
 first_due-at-requires c = (omega arith, c.requires.0.few)
@@ -63,14 +67,15 @@ begin-requires c =
 
 pub first_due-at-requires-in-loop-at : goal.first_due-at-requires-in-loop-at
 first_due-at-requires-in-loop-at c =
-    (omega (arith, c.loop-at-test.true), c.requires.0.few)
+    let e = live (goal.at.first_due-at-requires-in-loop-at c).Joined-columns-at-eq1 in
+    (omega (arith, e, c.loop-at-test.true), omega (arith, e, c.requires.0.few))
 
 pub loop-at-smaller : goal.loop-at-smaller
 loop-at-smaller c = omega (arith, c.first_due-at-in-loop-at.ensures.from_to, c.loop-at-test.true)
 
 pub loop-at-preserved : goal.loop-at-preserved
 loop-at-preserved c =
-    let f = c.first_due-at-in-loop-at.ensures in
+    let f = rw (live (goal.at.loop-at-preserved c).Joined-columns-at-eq1) at c.first_due-at-in-loop-at.ensures in
     (λ q. starts_next q (one_more (goal.at.loop-at-preserved c).Joined-columns-at-eq1 q) f, f.here, retimed (goal.at.loop-at-preserved c).Joined-columns-at-eq1)
 
 pub returns-then-starting-eq0 : goal.returns-then-starting-eq0

@@ -10,7 +10,7 @@ use Rattle.conservative_columns.proofs.start_due.Given as goal
 
 abbrev pub invariant-loop-at : goal.invariant-loop-at
 invariant-loop-at l =
-    ((q : StartingIn l.initial.columns l.holds l.live l.starting l.minute l.cleanup) → Starts q l.at l.n l.columns.states l.columns.dues l.columns.starts l.started)
+    ((q : StartingIn l.initial.columns l.holds l.starting l.minute l.cleanup) → Starts q l.at l.n l.columns.states l.columns.dues l.columns.starts l.started)
     × (l.at < l.live → get_or l.columns.dues l.at 0 ≡ l.minute) × Retimed l.initial.columns l.columns
 
 abbrev pub decreases-loop-at : goal.decreases-loop-at

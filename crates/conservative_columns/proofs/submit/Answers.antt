@@ -17,28 +17,28 @@ use Rattle.conservative_columns.proofs.submit.Goals.{After-hold_time-hold, After
 use Rattle.conservative_columns.proofs.submit.Goals as goal
 
 -- the tests that both kinds share
-why-is : (c : After-submit_refusal-why) (k : let a = c.args in KeptIn a.settings a.clock a.next a.columns.now a.promised.now a.profile.now a.live a.count) → c.submit_refusal-why.result ≡ shared_refusal k.model c.args.s
+why-is : (c : After-submit_refusal-why) (k : let a = c.args in KeptIn a.settings a.clock a.next a.columns.now a.promised.now a.profile.now) → c.submit_refusal-why.result ≡ shared_refusal k.model c.args.s
 why-is c k =
     c.submit_refusal-why.ensures
     ∙ judged k c.args.s c.quota.result c.live_of-own.result c.quota.ensures
     (c.live_of-own.ensures k.model.jobs k.columns.core.tenants_are k.columns.core.live_is)
 
-passed : (c : Else-not-is_none) (k : let a = c.args in KeptIn a.settings a.clock a.next a.columns.now a.promised.now a.profile.now a.live a.count) → accepts (shared_refusal k.model c.args.s) ≡ true
+passed : (c : Else-not-is_none) (k : let a = c.args in KeptIn a.settings a.clock a.next a.columns.now a.promised.now a.profile.now) → accepts (shared_refusal k.model c.args.s) ≡ true
 passed c k =
     ap accepts (sym (why-is c.before.before k)) ∙ sym c.is_none.ensures ∙ c.if-not-is_none.false
 
-hold_is : (c : After-hold_time-hold) (k : let a = c.args in KeptIn a.settings a.clock a.next a.columns.now a.promised.now a.profile.now a.live a.count) → c.hold_time-hold.result ≡ hold_time k.model.settings c.args.s.estimate
+hold_is : (c : After-hold_time-hold) (k : let a = c.args in KeptIn a.settings a.clock a.next a.columns.now a.promised.now a.profile.now) → c.hold_time-hold.result ≡ hold_time k.model.settings c.args.s.estimate
 hold_is c k = c.hold_time-hold.ensures ∙ ap (λ (S : Settings). hold_time S c.args.s.estimate) k.settings_is
 
-start_is : (c : After-search-found) (k : let a = c.args in KeptIn a.settings a.clock a.next a.columns.now a.promised.now a.profile.now a.live a.count) → accepts (shared_refusal k.model c.args.s) ≡ true
+start_is : (c : After-search-found) (k : let a = c.args in KeptIn a.settings a.clock a.next a.columns.now a.promised.now a.profile.now) → accepts (shared_refusal k.model c.args.s) ≡ true
     → c.hold_time-hold.result ≡ hold_time k.model.settings c.args.s.estimate → c.search-found.result.minute ≡ planned k.model c.args.s
 start_is c k p h = sought_start k c.args.s p c.hold_time-hold.result h c.search-found.ensures
 
 -- it is taken in
-admits : (c : Else-start-hold-gt-HORIZON) (k : let a = c.args in KeptIn a.settings a.clock a.next a.columns.now a.promised.now a.profile.now a.live a.count) → accepts (shared_refusal k.model c.args.s) ≡ true
+admits : (c : Else-start-hold-gt-HORIZON) (k : let a = c.args in KeptIn a.settings a.clock a.next a.columns.now a.promised.now a.profile.now) → accepts (shared_refusal k.model c.args.s) ≡ true
     → c.hold_time-hold.result ≡ hold_time k.model.settings c.args.s.estimate
     → let a = c.args in
-    AdmitsIn a.settings a.clock a.next a.columns.now a.promised.now a.profile.now a.live a.count a.s c.search-found.result.minute c.hold_time-hold.result
+    AdmitsIn a.settings a.clock a.next a.columns.now a.promised.now a.profile.now a.s c.search-found.result.minute c.hold_time-hold.result
 admits c k p h = record { kept = k; shared = p; start_is = start_is c.before k p h; hold_is = h; within = c.if-start-hold-gt-HORIZON.false }
 
 -- a test refuses it

@@ -33,8 +33,8 @@ start_due-begun-requires c =
       c.requires.3,
     )
 
-pub advance-n-requires : goal.advance-n-requires
-advance-n-requires c =
+pub advance-profile-requires : goal.advance-profile-requires
+advance-profile-requires c =
     let k = c.requires.0 in
     (advancing k c.if-clock-ge-HORIZON.false refl c.cleanup-cleanup.ensures, k.columns.beside.indexed)
 
@@ -45,6 +45,6 @@ returns c =
     let q = c.cleanup-cleanup.ensures in
     let v = c.expire-e.ensures (minute_columns_of k h refl q) in (
       rw c.start_due-begun.ensures.retimed (ticked_answer k h refl q v c.shift_own.ensures.0 c.shift_own.ensures.1
-          (c.start_due-begun.ensures.started (starting k h refl q v c.shift_own.ensures.0 c.shift_own.ensures.1)) c.advance-n.ensures),
+          (c.start_due-begun.ensures.started (starting k h refl q v c.shift_own.ensures.0 c.shift_own.ensures.1)) c.advance-profile.ensures),
       v.gone_whole,
     )

@@ -8,7 +8,7 @@ use Rattle.lists.specs.Lists.{keep}
 use Rattle.scheduler.specs.Limits.{slots}
 use Rattle.scheduler.specs.Jobs.{is_waiting}
 use Rattle.easy_laws.specs.Validity.{latest_end}
-use Rattle.easy_columns.specs.Held.{AdmitsIn}
+use Rattle.easy_columns.specs.Held.{AdmitsIn, unfinished_as}
 use Rattle.easy_columns.specs.EasySubmit.{few_wait, latest_is, latest_low, settled_core, admit_refused, admit_room, admit_next, admitted, admit_before, admit_gives}
 use Rattle.easy_columns.proofs.admit.Goals.{After-hold_time, After-unit, After-waiting-waits, Else-latest-gt-HORIZON, Start}
 use Rattle.easy_columns.proofs.admit.Goals as goal
@@ -19,7 +19,7 @@ module _ (c : After-waiting-waits) where
   s = c.before
 
   abbrev A : Type 0
-  A = AdmitsIn s.args.columns.now s.args.queue.now s.args.occupancy.now s.args.started.now s.args.live s.args.holding s.args.spare s.args.clock s.args.next s.args.settings s.args.s
+  A = AdmitsIn s.args.columns.now s.args.queue.now s.args.occupancy.now s.args.started.now s.args.clock s.args.next s.args.settings s.args.s
 
   waits : (a : A) → c.waiting-waits.result ≡ length (keep is_waiting a.kept.model.jobs)
   waits a = c.waiting-waits.ensures a.kept.model.jobs a.kept.columns.core.states_are a.kept.columns.core.live_is
@@ -46,7 +46,7 @@ module _ (c : After-hold_time) where
 -- ## It comes in
 -- room for it
 room : (c : Else-latest-gt-HORIZON)
-    → ((s (w c.before)).args.live < slots) × ((s (w c.before)).args.next ≤ 999999)
+    → ((s (w c.before)).args.columns.now.live < slots) × ((s (w c.before)).args.next ≤ 999999)
 room c =
     let a = (s (w c.before)).requires in
     ((admit_room a (w c.before).waiting-waits.result (waits (w c.before) a) _ (latest c.before a) c.if-latest-gt-HORIZON.false).0, admit_next a (w c.before).waiting-waits.result (waits (w c.before) a) _ (latest c.before a) c.if-latest-gt-HORIZON.false)
@@ -85,10 +85,6 @@ enter-requires c =
     let a = (s (w (goal.at.enter-requires c).After-hold_time)).requires in
     admit_room a (w (goal.at.enter-requires c).After-hold_time).waiting-waits.result (waits (w (goal.at.enter-requires c).After-hold_time) a) _ (latest (goal.at.enter-requires c).After-hold_time a) c.if-latest-gt-HORIZON.false
 
-pub overflow_add-live : goal.overflow_add-live
-overflow_add-live c =
-    omega (arith, room (goal.at.overflow_add-live c).Else-latest-gt-HORIZON)
-
 pub overflow_add-next : goal.overflow_add-next
 overflow_add-next c =
     omega (arith, room (goal.at.overflow_add-next c).Else-latest-gt-HORIZON)
@@ -96,14 +92,14 @@ overflow_add-next c =
 pub finish-requires : goal.finish-requires
 finish-requires c =
     let a = (s (w (goal.at.finish-requires c).After-hold_time)).requires in
-    let q = c.enter.ensures a.kept.model.jobs (settled_core a.kept) a.kept.columns.queue in
-    admitted a (w (goal.at.finish-requires c).After-hold_time).waiting-waits.result (waits (w (goal.at.finish-requires c).After-hold_time) a) _ (latest (goal.at.finish-requires c).After-hold_time a) c.if-latest-gt-HORIZON.false q.0 q.1
+    let q = rw c.enter.ensures.one_more at (c.enter.ensures.entered a.kept.model.jobs (settled_core a.kept) a.kept.columns.queue) in
+    unfinished_as _ c.enter.ensures.one_more (admitted a (w (goal.at.finish-requires c).After-hold_time).waiting-waits.result (waits (w (goal.at.finish-requires c).After-hold_time) a) _ (latest (goal.at.finish-requires c).After-hold_time a) c.if-latest-gt-HORIZON.false q.0 q.1)
 
 pub returns : goal.returns
 returns c =
     λ a ended e.
-    let q = c.enter.ensures a.kept.model.jobs (settled_core a.kept) a.kept.columns.queue in
+    let q = rw c.enter.ensures.one_more at (c.enter.ensures.entered a.kept.model.jobs (settled_core a.kept) a.kept.columns.queue) in
     let l = c.if-latest-gt-HORIZON.false in
     rw (c.finish.ensures.retimed, c.finish.ensures.reasked) (admit_gives a (w (goal.at.returns c).After-hold_time).waiting-waits.result (waits (w (goal.at.returns c).After-hold_time) a) _ (latest (goal.at.returns c).After-hold_time a) l q.0 q.1 e
-    (c.finish.ensures.finishes (admitted a (w (goal.at.returns c).After-hold_time).waiting-waits.result (waits (w (goal.at.returns c).After-hold_time) a) _ (latest (goal.at.returns c).After-hold_time a) l q.0 q.1) a.kept.model
+    (c.finish.ensures.finishes (unfinished_as _ c.enter.ensures.one_more (admitted a (w (goal.at.returns c).After-hold_time).waiting-waits.result (waits (w (goal.at.returns c).After-hold_time) a) _ (latest (goal.at.returns c).After-hold_time a) l q.0 q.1)) a.kept.model
     (admit_before a (w (goal.at.returns c).After-hold_time).waiting-waits.result (waits (w (goal.at.returns c).After-hold_time) a) _ (latest (goal.at.returns c).After-hold_time a) l q.0 q.1)))

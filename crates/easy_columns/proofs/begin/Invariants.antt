@@ -11,6 +11,6 @@ use Rattle.easy_columns.proofs.begin.Given as goal
 
 abbrev pub invariant-loop-i : goal.invariant-loop-i
 invariant-loop-i l =
-    (l.i ≤ l.live) × (l.n ≤ l.i) × (l.live ≤ slots)
-    × ((S : Settings) (b : BeginningIn l.columns l.initial.asked l.initial.occupancy l.live S) → l.initial.spare ≡ S.nodes
+    (l.i ≤ l.columns.live) × (l.n ≤ l.i) × (l.columns.live ≤ slots)
+    × ((S : Settings) (b : BeginningIn l.columns l.initial.asked l.initial.occupancy S) → l.initial.spare ≡ S.nodes
     → l.cleanup ≡ cleanupOf S → Looked b.model l.i l.asked l.occupancy.held l.occupancy.ends l.occupancy.holders l.n l.spare)

@@ -22,10 +22,10 @@ close_up-requires c =
     let n = gone_are k l (taken (goal.at.close_up-requires c).Then-is_none) in
     (live_low k, n.fewer, l.gone_whole, n.places)
 
-pub give_back-kept-requires : goal.give_back-kept-requires
-give_back-kept-requires c =
+pub give_back-requires : goal.give_back-requires
+give_back-requires c =
     let k = c.requires.0 in
-    leaver k (c.leave-left.ensures (sound_columns k)) (taken (goal.at.give_back-kept-requires c).Then-is_none) _ c.cleanup.ensures
+    leaver k (c.leave-left.ensures (sound_columns k)) (taken (goal.at.give_back-requires c).Then-is_none) _ c.cleanup.ensures
 
 pub finish-requires : goal.finish-requires
 finish-requires c =
@@ -34,7 +34,7 @@ finish-requires c =
     departed k l (taken (goal.at.finish-requires c).Then-is_none)
     (c.close_up.ensures k.model.settings (select.Departing c.args.how c.args.ticket) k.model.jobs k.model.clock (gone_are k l (taken (goal.at.finish-requires c).Then-is_none))
     k.columns.core.live_is k.columns.queue)
-    (c.give_back-kept.ensures (leaver k l (taken (goal.at.finish-requires c).Then-is_none) _ c.cleanup.ensures)) c.requires.3
+    (c.give_back.ensures (leaver k l (taken (goal.at.finish-requires c).Then-is_none) _ c.cleanup.ensures)) c.requires.3
 
 pub returns-then-is_none : goal.returns-then-is_none
 returns-then-is_none c =
@@ -44,7 +44,7 @@ returns-then-is_none c =
           (departed k l (taken (goal.at.returns-then-is_none c).Then-is_none)
           (c.close_up.ensures k.model.settings (select.Departing c.args.how c.args.ticket) k.model.jobs k.model.clock
           (gone_are k l (taken (goal.at.returns-then-is_none c).Then-is_none)) k.columns.core.live_is k.columns.queue)
-          (c.give_back-kept.ensures (leaver k l (taken (goal.at.returns-then-is_none c).Then-is_none) _ c.cleanup.ensures)) c.requires.3) k.model (depart_before k l (taken (goal.at.returns-then-is_none c).Then-is_none)))),
+          (c.give_back.ensures (leaver k l (taken (goal.at.returns-then-is_none c).Then-is_none) _ c.cleanup.ensures)) c.requires.3) k.model (depart_before k l (taken (goal.at.returns-then-is_none c).Then-is_none)))),
       l.gone_whole,
     )
 

@@ -18,5 +18,8 @@ append-requires c =
 
 pub returns : goal.returns
 returns c =
-    λ js cj cq.
-    (rw (new_is (goal.at.returns c).After-entered-new) at (c.append.ensures js cj), queue_joined _ _ _ _ _ cj.live_is c.requires.0 cq)
+    let e = c.append.ensures in
+    record {
+      one_more = e.one_more;
+      entered = λ js cj cq. (rw (new_is (goal.at.returns c).After-entered-new) at (e.appended js cj), queue_joined _ _ _ _ _ cj.live_is c.requires.0 cq);
+    }

@@ -10,11 +10,11 @@ use Rattle.easy_columns.proofs.finish.Goals.{Start}
 use Rattle.easy_columns.proofs.finish.Goals as goal
 
 -- there are slots for all
-few : (c : Start) → c.args.live ≤ slots
+few : (c : Start) → c.args.columns.now.live ≤ slots
 few c = omega (arith, c.requires.columns.core.live_is, c.requires.ready.sound.few)
 
 pub leading-first-requires : goal.leading-first-requires
-leading-first-requires c = few c
+leading-first-requires c = few (goal.at.leading-first-requires c).Start
 
 pub rests_at-requires : goal.rests_at-requires
 rests_at-requires c = few (goal.at.rests_at-requires c).Start

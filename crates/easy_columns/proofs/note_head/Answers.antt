@@ -12,16 +12,16 @@ use Rattle.job_columns.specs.JobColumns.{forecast_of}
 use Rattle.easy_columns.specs.HeadNoted.{none_heard, head_place, head_stored}
 use Rattle.easy_columns.proofs.note_head.Goals as goal
 
-pub returns-then-at-live : goal.returns-then-at-live
-returns-then-at-live c = λ m o a n t f et em h.
-    head_stored m a o h _ _ _ _ n et em c.if-head-eq0.false (c.find-at.ensures m.jobs t a n) c.if-at-live.true _ f
+pub returns-then-at-columns : goal.returns-then-at-columns
+returns-then-at-columns c = λ m o a n t f et em h.
+    head_stored m a o h _ _ _ _ n et em c.if-head-eq0.false (c.find-at.ensures m.jobs t a n) c.if-at-columns.true _ f
 
-pub returns-else-at-live : goal.returns-else-at-live
-returns-else-at-live c = λ m o a n t f et em h.
+pub returns-else-at-columns : goal.returns-else-at-columns
+returns-else-at-columns c = λ m o a n t f et em h.
     absurd (omega (
       arith,
       head_place m a o h _ _ _ _ n et em c.if-head-eq0.false (c.find-at.ensures m.jobs t a n),
-      c.if-at-live.false,
+      c.if-at-columns.false,
     ))
 
 pub returns-then-head-eq0 : goal.returns-then-head-eq0

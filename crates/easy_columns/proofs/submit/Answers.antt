@@ -13,7 +13,7 @@ module _ (c : After-submit_refusal-why) where
   s = c.before.before.before
 
   abbrev K : Type 0
-  K = KeptIn s.args.columns.now s.args.queue.now s.args.occupancy.now s.args.live s.args.holding s.args.spare s.args.clock s.args.next s.args.settings
+  K = KeptIn s.args.columns.now s.args.queue.now s.args.occupancy.now s.args.clock s.args.next s.args.settings
 
   judged : (k : K) → c.submit_refusal-why.result ≡ shared_refusal k.model s.args.s
   judged k =

@@ -21,8 +21,8 @@ close_up-requires c =
     let x = c.expire-over.ensures (minute_columns_of k c.if-clock-ge-HORIZON.false _ c.cleanup.ensures) in
     (live_low k, x.gone_are.fewer, x.gone_whole, x.gone_are.places)
 
-pub release-kept-requires : goal.release-kept-requires
-release-kept-requires c =
+pub release-requires : goal.release-requires
+release-requires c =
     sift c.requires.0 c.if-clock-ge-HORIZON.false
 
 pub finish-requires : goal.finish-requires
@@ -34,7 +34,7 @@ finish-requires c =
     ticked k l x
     (c.close_up.ensures k.model.settings (ending k.model) k.model.jobs (suc k.model.clock) x.gone_are k.columns.core.live_is
     k.columns.queue)
-    (holders_left k l (c.release-kept.ensures (sift k l))) p.3
+    (holders_left k l (c.release.ensures (sift k l))) p.3
 
 pub returns : goal.returns
 returns c =
@@ -45,6 +45,6 @@ returns c =
           (ticked k l x
           (c.close_up.ensures k.model.settings (ending k.model) k.model.jobs (suc k.model.clock) x.gone_are k.columns.core.live_is
           k.columns.queue)
-          (holders_left k l (c.release-kept.ensures (sift k l))) c.requires.3) k.model (tick_before k l x))),
+          (holders_left k l (c.release.ensures (sift k l))) c.requires.3) k.model (tick_before k l x))),
       x.gone_whole,
     )

@@ -36,13 +36,13 @@ job_at-requires c =
 pub loop-i-preserved : goal.loop-i-preserved
 loop-i-preserved c =
     let l = c.loop-i in
-    let h : l.i < c.args.live = omega arith in (
+    let h : l.i < c.args.columns.now.live = omega arith in (
       omega arith,
       l.invariant.1,
       l.invariant.2,
       λ k.
           pushed k.model.jobs l.jobs c.job_at.result l.i (l.invariant.3 k) (omega (arith, k.columns.core.live_is)) (omega (arith, l.invariant.1))
-          (c.job_at.ensures k.model.settings k.model.jobs c.args.live k.columns h (l.invariant.2 ∙ ap cleanupOf k.settings_is) (row_end k l.i h)),
+          (c.job_at.ensures k.model.settings k.model.jobs k.columns h (l.invariant.2 ∙ ap cleanupOf k.settings_is) (row_end k l.i h)),
     )
 
 pub returns : goal.returns

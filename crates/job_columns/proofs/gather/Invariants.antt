@@ -12,6 +12,6 @@ use Rattle.job_columns.proofs.gather.Given as goal
 
 abbrev pub invariant-loop-i : goal.invariant-loop-i
 invariant-loop-i l =
-    (l.i ≤ l.live) × (l.live ≤ slots) × (l.cleanup ≡ cleanupOf l.settings)
-    × ((k : ColumnsOfScheduler l.settings l.clock l.next l.columns l.promises l.submitted l.ranks l.forecasts l.live)
+    (l.i ≤ l.columns.live) × (l.columns.live ≤ slots) × (l.cleanup ≡ cleanupOf l.settings)
+    × ((k : ColumnsOfScheduler l.settings l.clock l.next l.columns l.promises l.submitted l.ranks l.forecasts)
     → l.jobs ≡ pad slots unused (take l.i k.model.jobs))

@@ -15,11 +15,11 @@ use Rattle.easy_columns.proofs.Occupancy.complete.Goals as goal
 -- where the holder stands
 place : (c : After-holder-i)
     → let a = c.args in
-    (e : EndingIn a.self.now a.holding a.spare a.ticket a.clock a.cleanup)
-    → c.holder-i.result ≡ place_of (position (has_ticket a.ticket) e.held_by.jobs) a.holding
+    (e : EndingIn a.self.now a.ticket a.clock a.cleanup)
+    → c.holder-i.result ≡ place_of (position (has_ticket a.ticket) e.held_by.jobs) a.self.now.holding
 place c e = c.holder-i.ensures e.held_by.jobs e.held_by.holders_are e.held_by.holds.count_is
 
-low : (c : After-holder-i) → (c.holder-i.result < c.args.holding) × (c.args.holding ≤ slots)
+low : (c : After-holder-i) → (c.holder-i.result < c.args.self.now.holding) × (c.args.self.now.holding ≤ slots)
 low c = let e = c.requires in (ending_low e _ (place c e), ending_few e _ (place c e))
 
 pub holder-i-requires : goal.holder-i-requires
@@ -43,9 +43,9 @@ offset_bounds-self-i-2 c = omega (arith, low (goal.at.offset_bounds-self-i-2 c).
 pub bounds-self-i-2 : goal.bounds-self-i-2
 bounds-self-i-2 c = omega (arith, low (goal.at.bounds-self-i-2 c).After-holder-i)
 
-pub overflow_add-left : goal.overflow_add-left
-overflow_add-left c =
-    omega (arith, ending_within c.requires _ (place (goal.at.overflow_add-left c).After-holder-i c.requires) c.if-cleanup-gt0.false)
+pub overflow_add-self-2 : goal.overflow_add-self-2
+overflow_add-self-2 c =
+    omega (arith, ending_within c.requires _ (place (goal.at.overflow_add-self-2 c).After-holder-i c.requires) c.if-cleanup-gt0.false)
 
 pub overflow_sub-last : goal.overflow_sub-last
 overflow_sub-last c = omega (arith, low (goal.at.overflow_sub-last c).After-holder-i)

@@ -22,7 +22,7 @@ returns-then-self-i c =
     let a = c.args in
     λ rs k e.
     let h : l.i < length rs = omega arith in
-    sym (ap (λ o. place_of o a.holding) (sym (l.invariant.1 rs k e)
+    sym (ap (λ o. place_of o a.self.now.holding) (sym (l.invariant.1 rs k e)
     ∙ position_hit unused (has_ticket a.ticket) rs l.i h
     (eq-eqb _ _ (sym (column_at ticket_of rs a.self.now.holders k unused l.i h) ∙ c.if-self-i.true))))
 
@@ -41,4 +41,4 @@ pub returns : goal.returns
 returns c =
     let l = c.loop-i in
     let a = c.args in
-    λ rs k e. sym (ap (λ o. place_of o a.holding) (sym (l.invariant.1 rs k e) ∙ position_end unused (has_ticket a.ticket) rs l.i (omega arith)))
+    λ rs k e. sym (ap (λ o. place_of o a.self.now.holding) (sym (l.invariant.1 rs k e) ∙ position_end unused (has_ticket a.ticket) rs l.i (omega arith)))

@@ -13,5 +13,5 @@ use Rattle.easy_columns.proofs.Occupancy.holder.Given as goal
 
 abbrev pub invariant-loop-i : goal.invariant-loop-i
 invariant-loop-i l =
-    (l.i ≤ l.holding)
-    × ((rs : List Job) → Column ticket_of rs l.self.holders → length rs ≡ l.holding → position_from (has_ticket l.ticket) l.i (drop l.i rs) ≡ position (has_ticket l.ticket) rs)
+    (l.i ≤ l.self.holding)
+    × ((rs : List Job) → Column ticket_of rs l.self.holders → length rs ≡ l.self.holding → position_from (has_ticket l.ticket) l.i (drop l.i rs) ≡ position (has_ticket l.ticket) rs)

@@ -8,8 +8,8 @@ use Rattle.easy_columns.proofs.Occupancy.release.Goals as goal
 pub loop-i-init : goal.loop-i-init
 loop-i-init c = (omega arith, c.requires.few, λ s. sift_first s c.args.minute)
 
-pub overflow_add-left : goal.overflow_add-left
-overflow_add-left c =
+pub overflow_add-self : goal.overflow_add-self
+overflow_add-self c =
     let l = c.loop-i in
     omega (arith, sift_within c.requires c.args.minute (l.invariant.2 c.requires) c.loop-i-test.true c.if-self-i.true)
 
@@ -30,7 +30,7 @@ loop-i-preserved c =
 pub returns : goal.returns
 returns c =
     let l = c.loop-i in
-    let e : l.i ≡ l.n = omega arith in
+    let e : l.i ≡ l.self.holding = omega arith in
     λ s. rw e at (l.invariant.2 s)
 
 pub take_out-requires : goal.take_out-requires

@@ -6,7 +6,8 @@ use Rattle.easy_columns.proofs.Occupancy.release.Given as goal
 
 abbrev pub invariant-loop-i : goal.invariant-loop-i
 invariant-loop-i l =
-    (l.i ≤ l.n) × (l.n ≤ 64) × ((s : SiftIn l.initial.self l.holding l.spare) → SiftedIn s.jobs s.frees l.minute l.spare l.self l.n l.left l.i)
+    (l.i ≤ l.self.holding) × (l.self.holding ≤ 64)
+    × ((s : SiftIn l.initial.self) → SiftedIn s.jobs s.frees l.minute l.initial.self.spare l.self l.i)
 
 abbrev pub decreases-loop-i : goal.decreases-loop-i
-decreases-loop-i l = l.n - l.i
+decreases-loop-i l = l.self.holding - l.i

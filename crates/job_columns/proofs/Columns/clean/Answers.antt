@@ -1,10 +1,13 @@
 -- `job_columns::Columns::clean` meets its contract.
 -- Assumes nothing.
 use Prim.Native.Nat.{ℕ, ◌+◌}
-use mathlib.Core.Path.{ap}
+use mathlib.Core.Path.{refl, ap}
 use Rattle.job_columns.specs.ColumnChanges.{columns_cleaned}
 use Rattle.job_columns.proofs.Columns.clean.Goals as goal
 
 pub returns : goal.returns
-returns c = λ S js live k l e.
-    columns_cleaned k c.args.at l c.args.clock _ (ap (λ (n : ℕ). c.args.clock + n) e)
+returns c = record {
+  still = refl;
+  cleaned = λ S js k l e.
+      columns_cleaned k c.args.at l c.args.clock _ (ap (λ (n : ℕ). c.args.clock + n) e);
+}

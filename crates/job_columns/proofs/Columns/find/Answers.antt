@@ -8,7 +8,7 @@ use Rattle.scheduler.specs.Jobs.{unused}
 use Rattle.scheduler.specs.Table.{ticket_of}
 use Rattle.job_columns.specs.Columns.{column_at}
 use Rattle.job_columns.specs.Searches.{place_of, between_later, between_sooner, between_here, between_none}
-use Rattle.job_columns.proofs.Columns.find.Goals.{else-low-live-via-then-low-live+else-self-low, else-low-live-via-else-low-live}
+use Rattle.job_columns.proofs.Columns.find.Goals.{else-low-self-via-then-low-self+else-self-low, else-low-self-via-else-low-self}
 use Rattle.job_columns.proofs.Columns.find.Goals as goal
 
 pub loop-low-init : goal.loop-low-init
@@ -41,15 +41,15 @@ returns-then-self-low c =
     let l = c.loop-low in
     λ js k a n.
     let h : l.low < length js = omega arith in
-    sym (ap (λ o. place_of o c.args.live) (between_here a (l.invariant.2 js k a n) (omega arith) h
+    sym (ap (λ o. place_of o c.args.self.now.live) (between_here a (l.invariant.2 js k a n) (omega arith) h
     (sym (column_at ticket_of js c.args.self.now.tickets k unused l.low h) ∙ c.if-self-low.true)))
 
-pub returns-else-low-live : goal.returns-else-low-live
-returns-else-low-live c =
+pub returns-else-low-self : goal.returns-else-low-self
+returns-else-low-self c =
     let l = c.loop-low in
     λ js k a n.
     let none = between_none a (l.invariant.2 js k a n) (omega arith) in
-    sym (ap (λ o. place_of o c.args.live) (elim c.else-low-live.branch [
-      | else-low-live-via-then-low-live+else-self-low w ↦ none (λ h q. w.if-self-low.false (column_at ticket_of js c.args.self.now.tickets k unused l.low h ∙ q))
-      | else-low-live-via-else-low-live w ↦ none (λ h q. omega (arith, w.if-low-live.false, n, h))
+    sym (ap (λ o. place_of o c.args.self.now.live) (elim c.else-low-self.branch [
+      | else-low-self-via-then-low-self+else-self-low w ↦ none (λ h q. w.if-self-low.false (column_at ticket_of js c.args.self.now.tickets k unused l.low h ∙ q))
+      | else-low-self-via-else-low-self w ↦ none (λ h q. omega (arith, w.if-low-self.false, n, h))
     ]))

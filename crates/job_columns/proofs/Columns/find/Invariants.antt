@@ -13,7 +13,7 @@ use Rattle.job_columns.proofs.Columns.find.Given as goal
 
 abbrev pub invariant-loop-low : goal.invariant-loop-low
 invariant-loop-low l =
-    (l.low ≤ l.high) × (l.high ≤ l.live) × ((js : List Job) → Column ticket_of js l.self.tickets → Asc 1 js → length js ≡ l.live → Between js l.ticket l.low l.high)
+    (l.low ≤ l.high) × (l.high ≤ l.self.live) × ((js : List Job) → Column ticket_of js l.self.tickets → Asc 1 js → length js ≡ l.self.live → Between js l.ticket l.low l.high)
 
 abbrev pub decreases-loop-low : goal.decreases-loop-low
 decreases-loop-low l = l.high - l.low

@@ -35,5 +35,5 @@ pub returns : goal.returns
 returns c =
     let l = c.loop-i in
     let a = c.args in
-    let e : l.i ≡ a.end = omega (arith, l.auto.i-end, c.requires.0) in
+    let e : l.i ≡ a.self.now.live = omega (arith, l.auto.i-end, c.requires.0) in
     record { from_to = c.requires.0; to_end = omega arith; passed = rw e at l.invariant.2; here = λ h. absurd (omega arith) }

@@ -10,4 +10,4 @@ abbrev pub None : (dues : List ℕ) (from minute i : ℕ) → Type 0
 None dues from minute i = (k : ℕ) → from ≤ k → k < i → get_or dues k 0 ≡ minute → ⊥
 
 abbrev pub invariant-loop-i : goal.invariant-loop-i
-invariant-loop-i l = (l.from ≤ l.i) × (l.i ≤ l.end) × None l.self.dues l.from l.minute l.i
+invariant-loop-i l = (l.from ≤ l.i) × (l.i ≤ l.self.live) × None l.self.dues l.from l.minute l.i

@@ -12,4 +12,4 @@ use Rattle.job_columns.proofs.Columns.next_due.Given as goal
 
 abbrev pub invariant-loop-i : goal.invariant-loop-i
 invariant-loop-i l =
-    (l.i ≤ l.live) × ((f : Job → ℕ) (js : List Job) → Column f js l.self.dues → length js ≡ l.live → l.first ≡ soonest never (map f (take l.i js)))
+    (l.i ≤ l.self.live) × ((f : Job → ℕ) (js : List Job) → Column f js l.self.dues → length js ≡ l.self.live → l.first ≡ soonest never (map f (take l.i js)))

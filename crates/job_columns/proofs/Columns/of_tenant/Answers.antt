@@ -17,7 +17,7 @@ pub returns : goal.returns
 returns c =
     λ js k n.
     c.count_of.ensures
-    ∙ ap (count_by (λ x. x == c.tenant_number.result)) (column_take tenant_of js c.args.self.now.tenants k c.args.live n)
+    ∙ ap (count_by (λ x. x == c.tenant_number.result)) (column_take tenant_of js c.args.self.now.tenants k c.args.self.now.live n)
     ∙ counted tenant_of c.tenant_number.result js
     ∙ ap (λ (m : ℕ). length (keep (λ (j : Job). eqb (tenant_of j) m) js)) c.tenant_number.ensures
     ∙ length_keep (of_tenant c.args.tenant) js

@@ -17,6 +17,6 @@ use Rattle.job_columns.proofs.Columns.waiting.Goals as goal
 pub returns : goal.returns
 returns c = λ js k n.
     c.count_of.ensures
-    ∙ ap (count_by (λ x. x == 1)) (column_take state_of js c.args.self.now.states k c.args.live n)
+    ∙ ap (count_by (λ x. x == 1)) (column_take state_of js c.args.self.now.states k c.args.self.now.live n)
     ∙ counted state_of 1 js
     ∙ ap (λ (xs : List Job). length xs) (keep_cong (λ (j : Job). eqb (state_of j) 1) is_waiting js (λ j i. number_waiting j.state))
