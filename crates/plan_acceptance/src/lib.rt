@@ -110,13 +110,9 @@ impl Survey {
         ensures { (p : Planned self.now.held self.now.froms self.now.untils self.now.count)
             → result ≡ fits_every nodes (spans p.settings p.jobs) clock }
     {
-        for i in 0..self.count {
-            let minute = clock.max(self.froms[i]);
-            if nodes < self.used_at(minute) {
-                return false;
-            }
-        }
-        true
+        self.froms[..self.count]
+            .iter()
+            .all(|&from| self.used_at(clock.max(from)) <= nodes)
     }
 }
 
