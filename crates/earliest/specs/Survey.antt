@@ -1,6 +1,5 @@
 -- The survey of the jobs that hold nodes, each over at its least: the lists that EASY's search takes.
 -- Assumes nothing.
-use Rattle.std.specs.Prelude as std
 use Rattle.std.specs.Prelude.{ℕ, ◌+◌, ◌-◌, ◌≤◌, ◌<◌, ◌≡◌, Bool, false, ◌&&◌, get_or, set, take}
 use native.Mathlib.Omega.{arith}
 use Rattle.std.proofs.Math.Path.{refl, sym, ap, subst}
@@ -43,11 +42,6 @@ use Rattle.easy_engine.specs.SurveyLoop.{sum_first, slot_fits}
 abbrev pub nodes_in : Option Job → ℕ
 nodes_in none = 0
 nodes_in (some j) = j.nodes
-
--- the nodes of a job found, if one is
-abbrev pub Asked : Option Job → std.Option ℕ → Type 0
-Asked f std.None = f ≡ none
-Asked f (std.Some n) = (j : Job) × (f ≡ some j) × (n ≡ j.nodes)
 
 -- the nodes of some jobs that hold nodes, each over at its least
 abbrev pub overs : Scheduler → List Job → List Job

@@ -12,7 +12,8 @@ ghost use Rattle.jobs.specs.Soundness.{Sound};
 ghost use Rattle.jobs.specs.Premise.{Holds};
 ghost use Rattle.jobs.specs.Slots.{Low};
 ghost use Rattle.easy_rules.specs.EarliestStart.{over_at_least, earliest_for, earliest_start};
-ghost use Rattle.earliest.specs.Survey.{Surveyed, Asked};
+ghost use Rattle.earliest.specs.Survey.{Surveyed};
+ghost use Rattle.easy_engine.specs.Found.{Asked};
 
 use scheduler::{Departure, Earliest, Job, Refusal, Scheduler, Settings};
 

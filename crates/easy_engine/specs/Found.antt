@@ -3,7 +3,7 @@
 use Rattle.std.specs.Prelude.{ℕ, ◌+◌, ◌≤◌, ◌<◌, ◌≡◌, refl, Bool, true, false, List, [], ◌∷◌, length, map}
 use Rattle.std.specs.Prelude as std
 use Rattle.std.proofs.Common.{arith, sym, ap, ◌∙◌}
-use Rattle.std.proofs.Math.Option.{Option, none}
+use Rattle.std.proofs.Math.Option.{Option, none, some}
 use Rattle.lists.specs.Chains.{option_of}
 use Rattle.lists.specs.Lists.{first}
 use Rattle.lists.specs.FirstLaws.{first_nowhere}
@@ -15,6 +15,11 @@ use Rattle.scheduler.specs.Jobs.{unused}
 use Rattle.job_columns.specs.Searches.{place_of}
 use Rattle.easy_engine.specs.Survey.{job_in}
 use Rattle.easy_engine.specs.Choices.{no_job_in}
+
+-- the nodes of a job found, if one is
+abbrev pub Asked : Option Job → std.Option ℕ → Type 0
+Asked f std.None = f ≡ none
+Asked f (std.Some n) = (j : Job) × (f ≡ some j) × (n ≡ j.nodes)
 
 -- the place is that of the job chosen, if any is
 abbrev pub Chosen : List Job → ℕ → Option Job → std.Option ℕ → Type 0

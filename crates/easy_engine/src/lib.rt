@@ -52,6 +52,7 @@ pub fn avail_at(held: &[u32; 64], ends: &[u32; 64], running: usize, spare: u32, 
 }
 
 // This end, if it is before the best minute so far and the nodes suffice then; otherwise that minute.
+// Kept: `min` over the ends that suffice is no plainer, and it would add up the nodes at every end, not only at those before the best.
 fn sooner(
     held: &[u32; 64],
     ends: &[u32; 64],
@@ -283,6 +284,7 @@ fn rests(before: u32, asked: &[u32; 64], tickets: &[u32; 64], waiting: usize, sp
 }
 
 // A job that is head now and was not before, with its forecast; 0 if there is none.
+// Kept: the definition `announced` of specs/Survey gives this type, with 0 for none.
 #[derive(Clone, Copy)]
 pub struct Announced {
     pub ticket: u32,
@@ -324,6 +326,7 @@ fn announce(
 }
 
 // Who was head before a call that gave or withdrew a ticket (0 for neither), by the first job that waits now.
+// Kept: the definition `head_before` of specs/Survey takes 0 for neither, and easy_columns calls this by it.
 pub fn head_before(first: u32, ticket: u32, withdrawn: u32) -> u32
     ensures { result ≡ head_before ticket withdrawn first }
 {
@@ -340,6 +343,7 @@ pub fn head_before(first: u32, ticket: u32, withdrawn: u32) -> u32
 }
 
 // What a call answers by settling: how many jobs start, and the new head with its forecast.
+// Kept: the definition `Answers` of specs/Survey reads the head and the forecast as numbers, and `Answer`, which C sees, has them so.
 #[derive(Clone, Copy)]
 pub struct Answered {
     pub started: usize,
@@ -392,6 +396,7 @@ pub fn settle_all(
 // ## By slot: the lists are the columns of all live jobs, those that wait and those that do not.
 
 // The ticket of the first that waits; 0 where nobody does.
+// Kept: the clause says it by `ticket_in`, which gives 0 for nobody, and easy_columns hands it on to `head_before`.
 pub fn leading(asked: &[u32; 64], tickets: &[u32; 64], live: usize) -> u32
     requires { live ≤ slots }
     ensures { (m : Model) → Sound m → Column asks m.jobs asked.now → Column ticket_of m.jobs tickets.now → length m.jobs ≡ live
@@ -416,6 +421,7 @@ pub fn rests_at(before: u32, asked: &[u32; 64], first: u32, live: usize, spare: 
 }
 
 // How many jobs start, the new head with its forecast, and the nodes then free.
+// Kept: the definition `SlotAnswers` of specs/BySlot reads the head and the forecast as numbers.
 #[derive(Clone, Copy)]
 pub struct SlotAnswer {
     pub started: usize,

@@ -5,7 +5,7 @@ use native.Mathlib.Omega.{arith}
 use Rattle.std.proofs.Common.{sym, subst, ◌∙◌}
 use Rattle.std.proofs.Math.Path.{ap}
 use mathlib.Core.List.{List, [], ◌∷◌, head?}
-use Rattle.std.proofs.Math.Option.{Option}
+use Rattle.std.proofs.Math.Option.{Option, none, some}
 use Rattle.lists.specs.Tests.{case, on}
 use Rattle.lists.specs.Lists.{first, In, keep_in, sum_cong, sum_zero, sum_picked}
 use Rattle.lists.specs.FirstLaws.{head_keep}
@@ -146,6 +146,23 @@ module _ {d : Scheduler} {heldₗ froms untils : List ℕ} {count : ℕ} (v : Fi
         by : (q : List Job) → queue m.jobs ≡ q → HeadAsks m need
         by [] e = absurd (z (asked ∙ ap (λ (q : List Job). on_choice (head? q) 0 nodes_of) e))
         by (h ∷ later) e = record { job = h; later = later; first = e; need_is = asked ∙ ap (λ (q : List Job). on_choice (head? q) 0 nodes_of) e }
+
+  pub nobody_waits : first is_waiting d.jobs ≡ none → true ≡ own_plan Easy m
+  nobody_waits e = nobody_asks 0 (sym (ap (λ (o : Option Job). on_choice o 0 nodes_of) e)) refl
+
+  module _ (need : ℕ) (a : (j : Job) × (first is_waiting d.jobs ≡ some j) × (need ≡ j.nodes)) where
+    head_slot : head? (queue m.jobs) ≡ some a.0
+    unfolding view
+    head_slot = ap head? (queue_slots d.jobs) ∙ head_keep is_waiting d.jobs ∙ a.1
+
+    pub somebody_asks : HeadAsks m need
+    somebody_asks = by (queue m.jobs) refl
+      where
+        by : (q : List Job) → queue m.jobs ≡ q → HeadAsks m need
+        by [] e = absurd (let z : none ≡ some a.0 = ap head? (sym e) ∙ head_slot in let y : ◌≡◌ {A = ℕ} 0 1 = cc in omega arith)
+        by (h ∷ later) e =
+            let z : h ≡ a.0 = let w : some h ≡ some a.0 = ap head? (sym e) ∙ head_slot in cc in
+            record { job = h; later = later; first = e; need_is = a.2 ∙ ap nodes_of (sym z) }
 
   -- the clock and the latest minute of the search, as code has them
   pub clock_low : d.clock ≤ limit.horizon

@@ -13,8 +13,8 @@ ghost use Rattle.scheduler.specs.Settings.{until};
 ghost use Rattle.scheduler.specs.Model.{view};
 ghost use Rattle.jobs.specs.Slots.{Low};
 ghost use Rattle.conservative_rules.specs.Conservative.{spans};
-ghost use Rattle.easy_rules.specs.Easy.{queue, on_choice};
-ghost use Rattle.job_columns.specs.Columns.{nodes_of};
+ghost use Rattle.easy_rules.specs.Easy.{queue};
+ghost use Rattle.easy_engine.specs.Found.{Asked};
 ghost use Rattle.checkpoint_laws.specs.Stages.{own_plan, records_accepted, plan_accepted};
 ghost use Rattle.lists.specs.EveryLoop.{every_from};
 ghost use Rattle.plan_acceptance.specs.Plan.{plan_in, in_plan, PlanLow, PlanColumns, Planned};
@@ -110,26 +110,22 @@ impl Survey {
         ensures { (p : Planned self.now.held self.now.froms self.now.untils self.now.count)
             → result ≡ fits_every nodes (spans p.settings p.jobs) clock }
     {
-        for i in 0..self.count {
-            let minute = clock.max(self.froms[i]);
-            if nodes < self.used_at(minute) {
-                return false;
-            }
-        }
-        true
+        self.froms[..self.count]
+            .iter()
+            .all(|&from| self.used_at(clock.max(from)) <= nodes)
     }
 }
 
-// The nodes that the first waiting job asks for; 0 where nobody waits.
-fn asked_first(d: Scheduler) -> u32
-    ensures { result ≡ on_choice (first is_waiting d.jobs) 0 nodes_of }
+// The nodes that the first waiting job asks for, if anybody waits.
+fn asked_first(d: Scheduler) -> Option<u32>
+    ensures { Asked (first is_waiting d.jobs) result }
 {
     for &j in &d.jobs {
         if j.is_waiting() {
-            return j.nodes as u32;
+            return Some(j.nodes as u32);
         }
     }
-    0
+    None
 }
 
 // Whether a waiting job with this many ahead of it passes, where the head can start in this minute. It must keep its bound. The head's forecast
@@ -191,10 +187,9 @@ fn queue_accepted(d: Scheduler, plan: &Survey) -> bool
     requires { Fitting d plan.now.held plan.now.froms plan.now.untils plan.now.count }
     ensures { result ≡ own_plan Kind.Easy (view d) }
 {
-    let need = asked_first(d);
-    if need == 0 {
+    let Some(need) = asked_first(d) else {
         return true;
-    }
+    };
     let settings = d.settings;
     let clock = d.clock;
     let spare = settings.nodes - plan.used_at(clock);

@@ -1,22 +1,20 @@
 -- `plan_acceptance::asked_first` meets its contract. The invariant: the first among the slots that are left is the first among all.
 -- Assumes nothing.
 use native.Mathlib.Omega.{arith}
-use mathlib.Core.Path.{refl, sym, ap, ◌∙◌}
-use mathlib.Core.Option.{Option}
+use mathlib.Core.Path.{refl, sym, ◌∙◌}
 use Rattle.lists.specs.FirstLaws.{first_hit, first_miss, first_end}
-use Rattle.scheduler.specs.declared.Job.{Job}
 use Rattle.scheduler.specs.Jobs.{unused, is_waiting}
 use Rattle.scheduler.proofs.Lengths.{whole}
-use Rattle.easy_rules.specs.Easy.{on_choice}
-use Rattle.job_columns.specs.Columns.{nodes_of}
 use Rattle.plan_acceptance.proofs.asked_first.Goals as goal
 
 pub returns-then-is_waiting : goal.returns-then-is_waiting
 returns-then-is_waiting c =
-    let o = c.loop-j in
-    ap (λ (f : Option Job). on_choice f 0 nodes_of)
-    (sym (first_hit is_waiting c.args.d.jobs unused o.j-index (omega (arith, whole c.args.d c.well_formed.0))
-    (sym c.is_waiting.ensures ∙ c.if-is_waiting.true)) ∙ o.invariant)
+    let o = c.loop-j in (
+      _,
+      sym o.invariant ∙ first_hit is_waiting c.args.d.jobs unused o.j-index (omega (arith, whole c.args.d c.well_formed.0))
+          (sym c.is_waiting.ensures ∙ c.if-is_waiting.true),
+      refl,
+    )
 
 pub loop-j-preserved : goal.loop-j-preserved
 loop-j-preserved c =
@@ -29,7 +27,4 @@ pub returns : goal.returns
 returns c =
     let o = c.loop-j in
     let l = whole c.args.d c.well_formed.0 in
-    ap (λ (f : Option Job). on_choice f 0 nodes_of) (sym (first_end is_waiting c.args.d.jobs unused o.j-index (omega arith)) ∙ o.invariant)
-
-pub loop-j-init : goal.loop-j-init
-loop-j-init c = refl
+    sym o.invariant ∙ first_end is_waiting c.args.d.jobs unused o.j-index (omega arith)

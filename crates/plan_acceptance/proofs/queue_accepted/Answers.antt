@@ -7,14 +7,14 @@ use Rattle.scheduler.specs.Model.{view}
 use Rattle.scheduler.specs.Times.{unit_le}
 use Rattle.easy_rules.specs.Easy.{free}
 use Rattle.easy_engine.specs.Survey.{Lacks}
-use Rattle.plan_acceptance.specs.Rest.{HeadAsks, HeadWaits, plan_by, used_to, spare_free, clock_low, nobody_asks, head_asks, head_fits_lem}
+use Rattle.plan_acceptance.specs.Rest.{HeadAsks, HeadWaits, plan_by, used_to, spare_free, clock_low, nobody_waits, somebody_asks, head_fits_lem}
 use Rattle.plan_acceptance.specs.Rest.{lacks_by, enough, timed, rests_by}
-use Rattle.plan_acceptance.proofs.queue_accepted.Goals.{After-avail_at, After-unit, After-used_at, Else-need-eq0}
+use Rattle.plan_acceptance.proofs.queue_accepted.Goals.{After-avail_at, After-unit, After-used_at, In-Some}
 use Rattle.plan_acceptance.proofs.queue_accepted.Goals as goal
 
 -- somebody waits
-head_is_lem : (e : Else-need-eq0) → HeadAsks (view e.args.d) e.asked_first-need.result
-head_is_lem e = head_asks e.requires _ e.asked_first-need.ensures e.if-need-eq0.false
+head_is_lem : (c : In-Some) → HeadAsks (view c.args.d) c.in-Some.need
+head_is_lem c = somebody_asks c.requires c.in-Some.need (rw c.in-Some.is at c.asked_first.ensures)
 
 -- the nodes that are free now
 spare_is : (u : After-used_at) → u.args.d.settings.nodes - u.used_at.result ≡ free (view u.args.d)
@@ -23,19 +23,19 @@ spare_is u =
 
 -- the head lacks nodes
 abbrev lacks : (c : After-unit)
-    → Lacks c.args.plan.now.held c.args.plan.now.untils c.args.plan.now.count (c.args.d.settings.nodes - c.used_at.result) c.asked_first-need.result
+    → Lacks c.args.plan.now.held c.args.plan.now.untils c.args.plan.now.count (c.args.d.settings.nodes - c.used_at.result) c.in-Some.need
     (c.args.d.clock + c.unit.result)
 lacks c =
-    lacks_by c.requires (head_asks c.requires _ c.asked_first-need.ensures c.if-need-eq0.false) _
+    lacks_by c.requires (somebody_asks c.requires c.in-Some.need (rw c.in-Some.is at c.asked_first.ensures)) _
     (spare_free c.requires c.used_at.result (c.used_at.ensures (plan_by c.requires))) c.if-need-spare.false _
     (ap (λ (x : ℕ). c.args.d.clock + x) c.unit.ensures)
 
 -- until when it waits
 waits : (c : After-avail_at)
-    → HeadWaits (view c.args.d) c.asked_first-need.result (c.args.d.settings.nodes - c.used_at.result) c.shadow-minute.result
+    → HeadWaits (view c.args.d) c.in-Some.need (c.args.d.settings.nodes - c.used_at.result) c.shadow-minute.result
     c.avail_at.result
 waits c =
-    let h = head_asks c.requires _ c.asked_first-need.ensures c.if-need-eq0.false in
+    let h = somebody_asks c.requires c.in-Some.need (rw c.in-Some.is at c.asked_first.ensures) in
     let f = spare_free c.requires c.used_at.result (c.used_at.ensures (plan_by c.requires)) in
     let k = lacks_by c.requires h _ f c.if-need-spare.false _ (ap (λ (x : ℕ). c.args.d.clock + x) c.unit.ensures) in
     record {
@@ -46,9 +46,8 @@ waits c =
       there_is = c.avail_at.ensures k.of;
     }
 
-pub returns-then-need-eq0 : goal.returns-then-need-eq0
-returns-then-need-eq0 c =
-    nobody_asks c.requires _ c.asked_first-need.ensures c.if-need-eq0.true
+pub returns-in_default : goal.returns-in_default
+returns-in_default c = nobody_waits c.requires (rw c.in_default.is at c.asked_first.ensures)
 
 pub used_at-requires : goal.used_at-requires
 used_at-requires c = plan_by c.requires
@@ -59,7 +58,7 @@ overflow_sub-spare c =
 
 pub returns-then-need-spare : goal.returns-then-need-spare
 returns-then-need-spare c =
-    head_fits_lem c.requires (head_is_lem (goal.at.returns-then-need-spare c).Else-need-eq0) _ (spare_is (goal.at.returns-then-need-spare c).After-used_at) c.if-need-spare.true
+    head_fits_lem c.requires (head_is_lem (goal.at.returns-then-need-spare c).In-Some) _ (spare_is (goal.at.returns-then-need-spare c).After-used_at) c.if-need-spare.true
 
 pub overflow_add-latest : goal.overflow_add-latest
 overflow_add-latest c =

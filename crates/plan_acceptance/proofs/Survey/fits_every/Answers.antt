@@ -1,32 +1,28 @@
--- `plan_acceptance::Survey::fits_every` meets its contract. The invariant: whether the jobs that are left fit where they begin is whether all do.
+-- `plan_acceptance::Survey::fits_every` meets its contract: the minutes tried are those in which the jobs begin.
 -- Assumes nothing.
-use native.Mathlib.Omega.{arith}
-use mathlib.Core.Path.{sym, ◌∙◌}
-use Rattle.plan_acceptance.specs.Plan.{fits_first, fits_more, fits_fails, fits_done}
+use Rattle.std.proofs.Common.{rules, refl, ◌≡◌, ◌∙◌, ap, leb, take, max, ℕ, Bool, List, [], ◌∷◌}
+use Rattle.std.specs.List.{list_all}
+use Rattle.std.proofs.lemmas.Iterator.{YieldsList-from_slice}
+use Rattle.std.proofs.lemmas.Iterator.Search.{all_from_yields_List}
+use borrow.Author.Tests.{tests}
+use Rattle.lists.specs.Every.{every, every_map}
+use Rattle.spans.specs.Spans.{used}
+use Rattle.conservative_rules.specs.Conservative.{spans}
+use Rattle.job_columns.specs.Columns.{column_take}
+use Rattle.plan_acceptance.specs.Plan.{start_of, fits_first}
 use Rattle.plan_acceptance.proofs.Survey.fits_every.Goals as goal
 
-pub loop-i-init : goal.loop-i-init
-loop-i-init c = (λ p. fits_first p c.args.nodes c.args.clock)
-
-pub returns-then-nodes-used_at : goal.returns-then-nodes-used_at
-returns-then-nodes-used_at c =
-    let l = c.loop-i in
-    let a = c.args in
-    λ p. sym (fits_fails p a.nodes a.clock l.i c.max-minute.result c.used_at.result (omega arith) c.max-minute.ensures
-    (c.used_at.ensures p) c.if-nodes-used_at.true) ∙ l.invariant p
-
-pub loop-i-preserved : goal.loop-i-preserved
-loop-i-preserved c =
-    let l = c.loop-i in
-    let a = c.args in
-    λ p. sym (fits_more p a.nodes a.clock l.i c.max-minute.result c.used_at.result (omega arith) c.max-minute.ensures
-    (c.used_at.ensures p) c.if-nodes-used_at.false) ∙ l.invariant p
+-- std's word is the lists' own
+all_every : {A : Type 0} (t : A → Bool) (xs : List A) → list_all t xs ≡ every t xs
+all_every t [] = refl
+all_every t (x ∷ xs) = rw (all_every t xs)
 
 pub returns : goal.returns
-returns c =
-    let l = c.loop-i in
+returns c = λ p.
     let a = c.args in
-    λ p. sym (fits_done p a.nodes a.clock l.i (omega arith)) ∙ l.invariant p
-
-pub used_at-requires : goal.used_at-requires
-used_at-requires c = c.requires
+    let test : ℕ → Bool = λ f. leb (used (max a.clock f) (spans p.settings p.jobs)) a.nodes in
+    let e = all_from_yields_List test _ _ c.all.result c.all.ensures.ran (YieldsList-from_slice (take a.self.now.count a.self.now.froms) cc) (λ x b q h. search (rules, tests)) in
+    e ∙ all_every test (take a.self.now.count a.self.now.froms)
+    ∙ ap (every test) (column_take start_of p.jobs a.self.now.froms p.columns.froms_are a.self.now.count p.columns.count_is)
+    ∙ every_map test start_of p.jobs
+    ∙ fits_first p a.nodes a.clock
