@@ -22,6 +22,7 @@ const LAST: usize = Scheduler::LIVE - 1;
 
 // What a call has done on the table: why it is refused, the ticket that it gives, the tickets that it ends, the ticket that it withdraws (0 if
 // none), and the scheduler.
+// Kept: what may not change needs 0 for no ticket (the definitions `Own`, `withdrawn_by` and easy_engine's `head_before`).
 #[derive(Clone, Copy)]
 pub struct Part {
     pub refusal: Refusal,

@@ -40,6 +40,7 @@ pub enum Tenant {
 // it can be over. EASY keeps three more values of a job until it leaves: the minute in which it was submitted, its rank then (document 01: "r") and
 // its forecast, 0 if it has none. In conservative backfilling all three are 0 (document 02, No. 11). Nodes and run lengths have 16 bits: a
 // scheduler copies its 64 jobs wherever it is handed on.
+// Kept: what may not change needs 0 for no end, promise and forecast (the definitions `unused`, `cleaning` and `fresh`).
 #[derive(Clone, Copy)]
 pub struct Job {
     pub ticket: u32,
@@ -90,6 +91,8 @@ pub struct Limits {
 }
 
 // Why a call is refused; `code` gives the documents' number. (4, "64 stacks live", has gone with the quotas.)
+// Kept: what may not change needs None among the refusals, and a value of 0 beside one in Answer, Earliest, Longest and Opened (the definitions
+// `verdict`, `accepts`, `refusing` and `opened`).
 #[derive(Clone, Copy, PartialEq, Eq)]
 pub enum Refusal {
     None = 0,
