@@ -8,7 +8,6 @@ ghost use Rattle.scheduler.specs.declared.Job.{Job};
 ghost use Rattle.scheduler.specs.declared.Settings.{Settings};
 ghost use Rattle.scheduler.specs.Limits.{slots, horizon, longest_estimate, longest_cleanup};
 ghost use Rattle.scheduler.specs.Settings.{cleanup as cleanupOf};
-ghost use Rattle.scheduler.specs.Refusals.{not_there_of};
 ghost use Rattle.scheduler.specs.Table.{live_of};
 ghost use Rattle.job_table.specs.Parts.{ends?, withdrawn_by};
 ghost use Rattle.job_table.specs.Submitting.{Tells};
@@ -21,6 +20,7 @@ ghost use Rattle.column_parts.specs.LeavingColumns.{Leavable};
 ghost use Rattle.column_parts.specs.Held.{turned_away, nobody_left, SoundIn, LeavesIn, MinuteIn, ExpiresIn, DueIn, SweepingIn};
 
 use job_columns::Columns;
+use job_table::not_there;
 use scheduler::{Departure, Refusal, Settings, Tenant};
 
 // What a call answers in numbers, with the clock and the next ticket after it. The tickets ended and started stand first in lent lists. What a
@@ -81,15 +81,6 @@ pub struct Left {
     pub refusal: Refusal,
     pub ended: usize,
     pub withdrawn: u32,
-}
-
-fn not_there(how: Departure) -> Refusal
-    ensures { result ≡ not_there_of how }
-{
-    match how {
-        Departure::Complete => Refusal::NotRunning,
-        Departure::Cancel => Refusal::NotWaiting,
-    }
 }
 
 // The number of the state in which a job can leave so.

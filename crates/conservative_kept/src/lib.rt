@@ -2,9 +2,8 @@
 // Its answer is that of the call by value.
 #![tactic(auto)]
 
-ghost use Rattle.std.specs.Prelude.{◌≡◌, ◌≤◌, length, position};
+ghost use Rattle.std.specs.Prelude.{◌≡◌, ◌≤◌, length};
 ghost use Rattle.scheduler.specs.Limits.{horizon, longest_hold, longest_cleanup};
-ghost use Rattle.scheduler.specs.Jobs.{departs_as};
 ghost use Rattle.scheduler.specs.Model.{view};
 ghost use Rattle.scheduler.specs.Answers.{outcome};
 ghost use Rattle.jobs.specs.Premise.{Holds};
@@ -16,6 +15,7 @@ ghost use Rattle.conservative_table.specs.ListChanges.{rows};
 ghost use Rattle.conservative_kept.specs.Beside.{Beside};
 ghost use Rattle.conservative_kept.specs.Depart.{freed_from, freed_by, freed};
 
+use job_table::slot_of;
 use scheduler::{Departure, Job, Outcome, Refusal, Request, Scheduler, Settings, Submission};
 
 // What a call gives, and how many points there are after it.
@@ -112,13 +112,6 @@ pub fn submit(
         outcome: d.refused(refusal),
         count,
     }
-}
-
-// The slot of the job that departs.
-fn slot_of(jobs: &[Job], how: Departure, ticket: u32) -> Option<usize>
-    ensures { result ≡ position (departs_as how ticket) jobs.now }
-{
-    jobs.iter().position(|j| j.departs(how, ticket))
 }
 
 // The minute from which the nodes of a departing job are free.

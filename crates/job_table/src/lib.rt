@@ -66,7 +66,7 @@ pub fn waiting(d: Scheduler) -> usize
 }
 
 // How many of these jobs are this tenant's.
-fn of_tenant(jobs: &[Job], tenant: Tenant) -> usize
+pub fn of_tenant(jobs: &[Job], tenant: Tenant) -> usize
     ensures { result ≡ length (keep (of_tenant tenant) jobs.now) }
 {
     jobs.iter().filter(|j| j.tenant == tenant).count()
@@ -119,7 +119,8 @@ pub fn past_horizon(minute: u32) -> Refusal
     Refusal::None
 }
 
-fn not_there(how: Departure) -> Refusal
+// Why a job that is not found cannot leave so.
+pub fn not_there(how: Departure) -> Refusal
     ensures { result ≡ not_there_of how }
 {
     match how {
