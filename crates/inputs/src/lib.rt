@@ -10,7 +10,7 @@ use std::rt::Files;
 use std::{fs, io};
 
 // How many bytes were read, and the error with which a read failed.
-// Kept: what was read before a failure is played all the same, so a `Result` would lose the count.
+// Kept: the clause of `read_whole` speaks of the count after a failed read too, and a `Result` would lose it there.
 #[derive(Clone, Copy)]
 pub struct Input {
     pub len: usize,
