@@ -10,6 +10,7 @@ use std::rt::Files;
 use std::{fs, io};
 
 // How many bytes were read, and the error with which a read failed.
+// Kept: the clause of `read_whole` speaks of the count after a failed read too, and a `Result` would lose it there.
 #[derive(Clone, Copy)]
 pub struct Input {
     pub len: usize,
@@ -53,10 +54,7 @@ pub fn read_whole<R: Read>(from: &mut R, space: &mut [u8]) -> Input
 // Whether the program was given so many arguments, its own name not counted.
 pub fn is_given<R: Env>(rt: &R, argument: usize) -> bool {
     let mut path = [0u8; 4096];
-    match rt.arg(argument, &mut path) {
-        Err(FillError::NotPresent) => false,
-        _ => true,
-    }
+    !matches!(rt.arg(argument, &mut path), Err(FillError::NotPresent))
 }
 
 // Opens the file that an argument names.
@@ -71,10 +69,7 @@ fn open<R: Files>(rt: &R, path: &[u8]) -> io::Result<R::File> {
 // and there is no file.
 pub fn open_named<R: Env + Files + Print + Eprint>(rt: &R, argument: usize) -> Option<R::File> {
     let mut path = [0u8; 4096];
-    let n = match rt.arg(argument, &mut path) {
-        Ok(n) => n,
-        Err(_) => 0,
-    };
+    let n = rt.arg(argument, &mut path).unwrap_or(0);
     let name = &path[..n];
     match open(rt, name) {
         Ok(file) => {
