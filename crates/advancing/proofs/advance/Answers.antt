@@ -5,10 +5,6 @@ use Rattle.scheduler.specs.Answers.{accepts}
 use Rattle.advancing.specs.Advances.{given_refused}
 use Rattle.advancing.proofs.advance.Goals as goal
 
-pub pass-requires : goal.pass-requires
-pass-requires c =
-    (c.requires, sym (ap accepts c.wait_refusal-refusal.ensures) ∙ sym c.is_none.ensures ∙ c.if-is_none.true)
-
 pub returns : goal.returns
 returns c =
     let a = sym (ap accepts c.wait_refusal-refusal.ensures) ∙ sym c.is_none.ensures ∙ c.if-is_none.false in

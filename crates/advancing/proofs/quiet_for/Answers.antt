@@ -3,11 +3,8 @@
 use Prim.Native.Nat.{◌+◌}
 use native.Mathlib.Omega.{arith}
 use Rattle.quiet_minutes.specs.QuietCount.{slots_whole, slot_ready}
-use Rattle.advancing.specs.DueSlots.{found_none, found_more, found_all}
+use Rattle.advancing.specs.DueSlots.{found_more, found_all}
 use Rattle.advancing.proofs.quiet_for.Goals as goal
-
-pub loop-j-init : goal.loop-j-init
-loop-j-init c = found_none c.args.d (c.args.d.clock + c.args.minutes) (omega arith)
 
 pub quiet_of-until-requires : goal.quiet_of-until-requires
 quiet_of-until-requires c =
@@ -20,9 +17,6 @@ loop-j-preserved c =
     let d = c.args.d in
     found_more d (d.clock + c.args.minutes) c.loop-j.until c.quiet_of-until.result c.loop-j.j-index (slots_whole d c.requires.0) (omega arith) c.loop-j.invariant
     c.quiet_of-until.ensures
-
-pub overflow_sub-result : goal.overflow_sub-result
-overflow_sub-result c = c.loop-j.invariant.asked.from
 
 pub returns : goal.returns
 returns c =
