@@ -1,26 +1,15 @@
 -- `conservative_columns::start_due` meets its contract: the jobs before place `at` that were due have started.
 -- Assumes nothing.
-use Prim.Native.Nat.{◌+◌, ◌<◌}
+use Prim.Native.Nat.{◌+◌}
 use native.Mathlib.Omega.{arith}
 use mathlib.Core.Path.{◌≡◌, refl, ap}
 use Rattle.job_columns.specs.declared.Columns.{Columns}
 use Rattle.job_columns.specs.Held.{Retimed, retimed_on}
 use Rattle.conservative_columns.specs.Held.{StartingIn}
-use Rattle.scheduler.specs.Limits.{slots}
 use Rattle.conservative_columns.specs.Due.{Starts, starts_begin, few_started, starts_next, clears, run_there, run_low, starts_past, starts_now, starts_end, starts_nobody}
 use Rattle.conservative_columns.proofs.start_due.Goals.{In-loop-at, Joined-columns-at-eq1}
 use Rattle.conservative_columns.proofs.start_due.Goals.{else-columns-at-eq1, then-columns-at-eq1}
 use Rattle.conservative_columns.proofs.start_due.Goals as goal
-
--- the place that is looked at
-low : (c : In-loop-at) → c.loop-at.at < slots
-low c = omega (arith, c.loop-at-test.true, c.requires.0.few)
-
--- and the list of those started has room
-room : (c : In-loop-at) → c.loop-at.n < slots
-room c =
-    let q = c.requires.0 in
-    omega (arith, low c, few_started q (c.loop-at.invariant.0 q))
 
 -- this place has been looked at too
 one_more : (c : Joined-columns-at-eq1) → (q : StartingIn c.args.columns.now c.args.holds.now c.args.starting c.args.minute c.args.cleanup)
@@ -53,7 +42,7 @@ first_due-at-requires c = (omega arith, c.requires.0.few)
 pub loop-at-init : goal.loop-at-init
 loop-at-init c =
     let f = c.first_due-at.ensures in
-    (λ q. starts_next q (starts_begin q _ c.requires.1) f, f.here, refl)
+    (λ q. starts_next q (starts_begin q _ c.requires.1) f, f.here, refl, omega arith, c.requires.0.few)
 
 pub overflow_sub-holds : goal.overflow_sub-holds
 overflow_sub-holds c =
@@ -63,7 +52,7 @@ overflow_sub-holds c =
 pub begin-requires : goal.begin-requires
 begin-requires c =
     let q = c.requires.0 in
-    (low (goal.at.begin-requires c).In-loop-at, q.minute_to, run_low q (c.loop-at.invariant.0 q) c.loop-at-test.true)
+    (omega (arith, c.loop-at-test.true, q.few), q.minute_to, run_low q (c.loop-at.invariant.0 q) c.loop-at-test.true)
 
 pub first_due-at-requires-in-loop-at : goal.first_due-at-requires-in-loop-at
 first_due-at-requires-in-loop-at c =
@@ -75,35 +64,16 @@ loop-at-smaller c = omega (arith, c.first_due-at-in-loop-at.ensures.from_to, c.l
 
 pub loop-at-preserved : goal.loop-at-preserved
 loop-at-preserved c =
-    let f = rw (live (goal.at.loop-at-preserved c).Joined-columns-at-eq1) at c.first_due-at-in-loop-at.ensures in
-    (λ q. starts_next q (one_more (goal.at.loop-at-preserved c).Joined-columns-at-eq1 q) f, f.here, retimed (goal.at.loop-at-preserved c).Joined-columns-at-eq1)
+    let f = rw (live (goal.at.loop-at-preserved c).Joined-columns-at-eq1) at c.first_due-at-in-loop-at.ensures in (
+      λ q. starts_next q (one_more (goal.at.loop-at-preserved c).Joined-columns-at-eq1 q) f,
+      f.here,
+      retimed (goal.at.loop-at-preserved c).Joined-columns-at-eq1,
+      omega (arith, few_started c.requires.0 (one_more (goal.at.loop-at-preserved c).Joined-columns-at-eq1 c.requires.0), f.from_to),
+      c.requires.0.few,
+    )
 
 pub returns-then-starting-eq0 : goal.returns-then-starting-eq0
 returns-then-starting-eq0 c = record { started = λ q. starts_nobody q c.if-starting-eq0.true _ c.requires.1; retimed = refl }
 
 pub returns : goal.returns
 returns c = record { started = λ q. starts_end q (c.loop-at.invariant.0 q) c.loop-at-test.false; retimed = c.loop-at.invariant.2 }
-
-pub offset_bounds-columns-at : goal.offset_bounds-columns-at
-offset_bounds-columns-at c = omega (arith, low c)
-
-pub bounds-columns-at : goal.bounds-columns-at
-bounds-columns-at c = low (goal.at.bounds-columns-at c).In-loop-at
-
-pub offset_bounds-started-n : goal.offset_bounds-started-n
-offset_bounds-started-n c = omega (arith, room (goal.at.offset_bounds-started-n c).In-loop-at)
-
-pub bounds-started-n : goal.bounds-started-n
-bounds-started-n c = room (goal.at.bounds-started-n c).In-loop-at
-
-pub overflow_add-n : goal.overflow_add-n
-overflow_add-n c = omega (arith, room (goal.at.overflow_add-n c).In-loop-at)
-
-pub offset_bounds-holds-at : goal.offset_bounds-holds-at
-offset_bounds-holds-at c = omega (arith, low (goal.at.offset_bounds-holds-at c).In-loop-at)
-
-pub bounds-holds-at : goal.bounds-holds-at
-bounds-holds-at c = low (goal.at.bounds-holds-at c).In-loop-at
-
-pub overflow_add-at : goal.overflow_add-at
-overflow_add-at c = omega (arith, c.loop-at-test.true)
