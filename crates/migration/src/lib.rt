@@ -44,6 +44,7 @@ fn held_slot(job: Job) -> Job
     }
 }
 
+// All slots so.
 fn held_slots(jobs: [Job; 64]) -> [Job; 64]
     requires { length jobs ≡ 64 }
     ensures { result ≡ held_slots jobs }
