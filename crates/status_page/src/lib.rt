@@ -50,8 +50,7 @@ fn put_tenant(page: &mut [u8], at: usize, tenant: Tenant) -> usize
     ensures { Wrote 2 page.old at (right_set 2 (letter_of tenant ∷ [])) page.new result }
 {
     let letter = tenant.letter() as u8;
-    let word = [letter];
-    text::put_word_right(page, at, 2, &word)
+    text::put_word_right(page, at, 2, &[letter])
 }
 
 // A minute that a kind promises: EASY promises none.
@@ -93,9 +92,8 @@ fn put_order(page: &mut [u8], at: usize, j: Job) -> usize
     requires { All Fits (order_columns j) × (at + 14 ≤ length page.old) }
     ensures { Wrote 14 page.old at (flat_map set_right (order_columns j)) page.new result }
 {
-    let tenant = j.tenant;
     let a = text::put_number_right(page, at, 7, j.ticket);
-    let b = put_tenant(page, a, tenant);
+    let b = put_tenant(page, a, j.tenant);
     text::put_number_right(page, b, 5, j.nodes as u32)
 }
 
@@ -117,10 +115,9 @@ fn put_job(page: &mut [u8], at: usize, settings: Settings, j: Job) -> usize
     requires { Fitting (job_columns_of settings j) × (at + line_bytes ≤ length page.old) }
     ensures { Wrote line_bytes page.old at (line (job_columns_of settings j)) page.new result }
 {
-    let state = j.state;
     let a = put_order(page, at, j);
     let b = put_minutes(page, a, settings, j);
-    let c = put_state(page, b, state);
+    let c = put_state(page, b, j.state);
     put_rest(page, c, 26)
 }
 
