@@ -40,6 +40,10 @@ PlaceFits c i clearing = RowFits c.nodes c.states c.dues c.estimates c.leasts i 
 abbrev pub Retimed : (before after : Columns) → Type 0
 Retimed a b = b ≡ record a { states = b.states; dues = b.dues; starts = b.starts }
 
+-- nothing but states and the minutes in which jobs are due
+abbrev pub Restated : (before after : Columns) → Type 0
+Restated a b = b ≡ record a { states = b.states; dues = b.dues }
+
 pub retimed_on : (a b c : Columns) → Retimed a b → Retimed b c → Retimed a c
 retimed_on a b c e f = f ∙ ap (λ (x : Columns). record x { states = c.states; dues = c.dues; starts = c.starts }) e
 

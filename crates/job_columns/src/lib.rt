@@ -24,7 +24,7 @@ ghost use Rattle.job_columns.specs.Columns.{Column, Whole};
 ghost use Rattle.job_columns.specs.JobColumns.{state_number, state_of, tenant_of, due_of, never};
 ghost use Rattle.job_columns.specs.Encoding.{state_at, tenant_at, end_at};
 ghost use Rattle.job_columns.specs.Gathering.{NoEnd};
-ghost use Rattle.job_columns.specs.Held.{ColumnsOf, FieldsOf, BlankColumns, ColumnsOfScheduler, PlaceFits, Retimed, BeginsIn};
+ghost use Rattle.job_columns.specs.Held.{ColumnsOf, FieldsOf, BlankColumns, ColumnsOfScheduler, PlaceFits, Retimed, Restated, BeginsIn};
 ghost use Rattle.job_columns.specs.Searches.{place_of, has_ticket, FirstDue, soonest};
 
 use scheduler::{Job, Scheduler, Settings, State, Tenant};
@@ -133,7 +133,7 @@ impl Columns {
         requires { (at < slots) × (clock ≤ horizon) × (cleanup ≤ longest_cleanup) }
         ensures cleaned { (S : Settings) (js : List Job) → ColumnsOf S js self.old → at < self.old.live → cleanup ≡ cleanupOf S
             → ColumnsOf S (set js at (cleaning clock (get_or js at unused))) self.new }
-        ensures still { self.new.live ≡ self.old.live }
+        ensures restated { Restated self.old self.new }
     {
         self.states[at] = 3;
         self.dues[at] = clock + cleanup;

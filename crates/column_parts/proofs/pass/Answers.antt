@@ -1,8 +1,9 @@
 -- `column_parts::pass` meets its contract: by the state of the job in the place.
 -- Assumes nothing.
 use native.Mathlib.Omega.{arith}
-use mathlib.Core.Path.{◌∙◌}
+use mathlib.Core.Path.{ap, ◌∙◌}
 use Rattle.scheduler.specs.Times.{cleanup_le}
+use Rattle.job_columns.specs.declared.Columns.{Columns}
 use Rattle.column_parts.specs.SweptColumns.{due_low, sweeping_starts, sweeping_released, sweeping_cleans, sweeping_goes}
 use Rattle.column_parts.proofs.pass.Goals as goal
 
@@ -45,10 +46,11 @@ clean-requires c =
 
 pub returns-then-cleanup-gt0 : goal.returns-then-cleanup-gt0
 returns-then-cleanup-gt0 c =
-    let q = c.clean.ensures in record {
-      swept = λ k. rw q.still (sweeping_cleans k.sound k.sweeping k.more (k.due ∙ k.minute_is) c.if-state-eq1.false c.if-state-eq3.false (omega (arith, c.if-cleanup-gt0.true, k.clearing_is))
-          (rw (k.minute_is, q.still) at (q.cleaned k.model.settings _ k.sweeping.columns k.more k.clearing_is)));
-      nearer = (omega (arith, c.requires.more, q.still), omega (arith, c.requires.more, q.still), omega (arith, q.still));
+    let q = c.clean.ensures in
+    let still = ap (λ (x : Columns). x.live) q.restated in record {
+      swept = λ k. rw still (sweeping_cleans k.sound k.sweeping k.more (k.due ∙ k.minute_is) c.if-state-eq1.false c.if-state-eq3.false (omega (arith, c.if-cleanup-gt0.true, k.clearing_is))
+          (rw (k.minute_is, still) at (q.cleaned k.model.settings _ k.sweeping.columns k.more k.clearing_is)));
+      nearer = (omega (arith, c.requires.more, still), omega (arith, c.requires.more, still), omega (arith, still));
     }
 
 pub take_out-requires-2 : goal.take_out-requires-2

@@ -7,7 +7,7 @@ use Rattle.job_columns.proofs.Columns.clean.Goals as goal
 
 pub returns : goal.returns
 returns c = record {
-  still = refl;
+  restated = refl;
   cleaned = λ S js k l e.
       columns_cleaned k c.args.at l c.args.clock _ (ap (λ (n : ℕ). c.args.clock + n) e);
 }
