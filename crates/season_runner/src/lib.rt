@@ -11,6 +11,7 @@ use std::io::{Read, Write};
 use std::rt::Files;
 
 // Plays all of a season. The lines of many turns go out together; if they cannot be written, the rest is not played.
+// Kept: one loop for both is no plainer. It would be over a trait with a premise and a measure, and a season lends two lists with the page.
 fn play<W: Write>(list: &[u8], to: &mut W, page: &mut [u8]) -> io::Result<()>
     requires { page_bytes ≤ length page.old }
 {
