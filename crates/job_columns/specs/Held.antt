@@ -1,12 +1,12 @@
 -- What the lists say, over the struct that has them.
 -- Assumes nothing.
 use Rattle.std.specs.Prelude.{ℕ, ◌<◌, ◌≡◌, List, get_or, set}
-use Rattle.std.proofs.Common.{ap, ◌∙◌}
+use Rattle.std.proofs.Common.{ap, sym, subst, ◌∙◌}
 use Rattle.scheduler.specs.declared.State.TheVariants.{Running}
 use Rattle.scheduler.specs.declared.Settings.{Settings}
 use Rattle.scheduler.specs.declared.Job.{Job}
-use Rattle.scheduler.specs.Jobs.{unused, job_at}
-use Rattle.scheduler.specs.Settings.{run_time}
+use Rattle.scheduler.specs.Jobs.{unused, job_at, cleaning}
+use Rattle.scheduler.specs.Settings.{run_time, cleanup}
 use Rattle.job_columns.specs.declared.Columns.{Columns}
 use Rattle.job_columns.specs.JobColumns.{JobColumns, AllColumns}
 use Rattle.job_columns.specs.Gathering.{Blanks, RowFits, SchedulerColumns}
@@ -54,3 +54,21 @@ BeginsIn at clock run a b =
     → JobColumns S js tickets nodes a.states a.dues a.starts tenants estimates leasts live → at < live
     → run ≡ run_time S (get_or js at unused).estimate
     → JobColumns S (set js at (job_at Running clock (get_or js at unused))) tickets nodes b.states b.dues b.starts tenants estimates leasts live
+
+-- ## A run ends
+
+-- the job in this place is in cleanup from this minute on, whatever the other columns are
+abbrev pub CleansIn : (at clock clearing : ℕ) → (before after : Columns) → Type 0
+CleansIn at clock clearing a b =
+    (S : Settings) (js : List Job) (tickets nodes starts tenants estimates leasts : List ℕ) (live : ℕ)
+    → JobColumns S js tickets nodes a.states a.dues starts tenants estimates leasts live → at < live
+    → clearing ≡ cleanup S
+    → JobColumns S (set js at (cleaning clock (get_or js at unused))) tickets nodes b.states b.dues starts tenants estimates leasts live
+
+-- so the struct has the columns of the jobs with this one in cleanup
+pub cleaned_on : (at clock clearing : ℕ) (a b : Columns) → CleansIn at clock clearing a b → Restated a b
+    → (S : Settings) (js : List Job) → ColumnsOf S js a → at < a.live → clearing ≡ cleanup S
+    → ColumnsOf S (set js at (cleaning clock (get_or js at unused))) b
+cleaned_on at clock clearing a b q e S js k l z =
+    subst (λ (x : Columns). ColumnsOf S (set js at (cleaning clock (get_or js at unused))) x) (sym e)
+    (q S js a.tickets a.nodes a.starts a.tenants a.estimates a.leasts a.live k l z)

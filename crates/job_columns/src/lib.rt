@@ -11,7 +11,7 @@ ghost use Rattle.scheduler.specs.declared.Settings.{Settings};
 ghost use Rattle.scheduler.specs.declared.State.TheVariants.{Running};
 ghost use Rattle.scheduler.specs.Limits.{slots, horizon, longest_hold, longest_cleanup};
 ghost use Rattle.scheduler.specs.Tenants.{number};
-ghost use Rattle.scheduler.specs.Jobs.{unused, is_waiting, job_at, cleaning};
+ghost use Rattle.scheduler.specs.Jobs.{unused, is_waiting, job_at};
 ghost use Rattle.scheduler.specs.Settings.{run_time, cleanup as cleanupOf};
 ghost use Rattle.scheduler.specs.Table.{ticket_of, live_of};
 ghost use Rattle.scheduler.specs.Model.{store, view};
@@ -24,7 +24,7 @@ ghost use Rattle.job_columns.specs.Columns.{Column, Whole};
 ghost use Rattle.job_columns.specs.JobColumns.{state_number, state_of, tenant_of, due_of, never};
 ghost use Rattle.job_columns.specs.Encoding.{state_at, tenant_at, end_at};
 ghost use Rattle.job_columns.specs.Gathering.{NoEnd};
-ghost use Rattle.job_columns.specs.Held.{ColumnsOf, FieldsOf, BlankColumns, ColumnsOfScheduler, PlaceFits, Retimed, Restated, BeginsIn};
+ghost use Rattle.job_columns.specs.Held.{ColumnsOf, FieldsOf, BlankColumns, ColumnsOfScheduler, PlaceFits, Retimed, Restated, BeginsIn, CleansIn};
 ghost use Rattle.job_columns.specs.Searches.{place_of, has_ticket, FirstDue, soonest};
 
 use scheduler::{Job, Scheduler, Settings, State, Tenant};
@@ -131,8 +131,7 @@ impl Columns {
     // Its run ends in this minute, its nodes stay taken for the cleanup.
     pub fn clean(&mut self, at: usize, clock: u32, cleanup: u32)
         requires { (at < slots) × (clock ≤ horizon) × (cleanup ≤ longest_cleanup) }
-        ensures cleaned { (S : Settings) (js : List Job) → ColumnsOf S js self.old → at < self.old.live → cleanup ≡ cleanupOf S
-            → ColumnsOf S (set js at (cleaning clock (get_or js at unused))) self.new }
+        ensures cleaned { CleansIn at clock cleanup self.old self.new }
         ensures restated { Restated self.old self.new }
     {
         self.states[at] = 3;

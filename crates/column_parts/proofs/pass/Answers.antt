@@ -4,6 +4,7 @@ use native.Mathlib.Omega.{arith}
 use mathlib.Core.Path.{ap, ◌∙◌}
 use Rattle.scheduler.specs.Times.{cleanup_le}
 use Rattle.job_columns.specs.declared.Columns.{Columns}
+use Rattle.job_columns.specs.Held.{cleaned_on}
 use Rattle.column_parts.specs.SweptColumns.{due_low, sweeping_starts, sweeping_released, sweeping_cleans, sweeping_goes}
 use Rattle.column_parts.proofs.pass.Goals as goal
 
@@ -49,7 +50,7 @@ returns-then-cleanup-gt0 c =
     let q = c.clean.ensures in
     let still = ap (λ (x : Columns). x.live) q.restated in record {
       swept = λ k. rw still (sweeping_cleans k.sound k.sweeping k.more (k.due ∙ k.minute_is) c.if-state-eq1.false c.if-state-eq3.false (omega (arith, c.if-cleanup-gt0.true, k.clearing_is))
-          (rw (k.minute_is, still) at (q.cleaned k.model.settings _ k.sweeping.columns k.more k.clearing_is)));
+          (rw (k.minute_is, still) at (cleaned_on _ _ _ _ _ q.cleaned q.restated k.model.settings _ k.sweeping.columns k.more k.clearing_is)));
       nearer = (omega (arith, c.requires.more, still), omega (arith, c.requires.more, still), omega (arith, still));
     }
 

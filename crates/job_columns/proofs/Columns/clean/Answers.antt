@@ -8,6 +8,6 @@ use Rattle.job_columns.proofs.Columns.clean.Goals as goal
 pub returns : goal.returns
 returns c = record {
   restated = refl;
-  cleaned = λ S js k l e.
+  cleaned = λ S js tickets nodes starts tenants estimates leasts live k l e.
       columns_cleaned k c.args.at l c.args.clock _ (ap (λ (n : ℕ). c.args.clock + n) e);
 }
