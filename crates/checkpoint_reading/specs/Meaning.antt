@@ -1,14 +1,17 @@
 -- What the readers of a record's line answer, in the words of its definition.
 -- Assumes nothing.
-use Rattle.std.specs.Prelude.{◌≡◌, refl, Some, None, Result, Ok, Err, Bool, cond, ◌||◌, List, ℕ, ltb, length, get_or}
+use Rattle.std.specs.Prelude.{◌≡◌, Some, None, Result, Ok, Err, Bool, cond, ◌||◌, List, [], ◌∷◌, ℕ, ltb, length, get_or}
 use Rattle.std.proofs.Common.{◌∙◌, arith}
 use Rattle.std.proofs.Math.Option.{Option, none, some}
 use Rattle.std.specs.declared.option.Option as rust
+use Rattle.lists.specs.Tests.{case}
 use Rattle.text.specs.declared.Numbers.{Numbers}
 use Rattle.text.specs.Numbers.{numbers_from}
 use Rattle.text.specs.Fields.{fields_of, field_of}
+use Rattle.text.specs.Words.{is_word}
 use Rattle.scheduler.specs.declared.State.{State}
 use Rattle.scheduler.specs.declared.Job.{Job}
+use Rattle.scheduler.specs.States.{live?}
 use Rattle.scheduler.specs.Limits.{max_nodes, longest_estimate}
 use Rattle.scheduler.specs.Tenants.{tenant_of}
 use Rattle.desk_lines.specs.DeskLine.{letter_at, with_number}
@@ -23,14 +26,14 @@ state_from none = None
 state_from (some s) = Some s
 
 abbrev pub on_state : {A : Type 0} → rust.Option State → (State → Option A) → Option A
-on_state (Some s) f = f s
+on_state (Some s) f = cond (live? s) (f s) none
 on_state None f = none
 
 pub state_said : {A : Type 0} (s : List ℕ) (f : State → Option A) → on_state (state_from (state_of s)) f ≡ with_state (state_of s) f
-state_said s f = by (state_of s) where
-  by : (o : Option State) → on_state (state_from o) f ≡ with_state o f
-  by none = refl
-  by (some x) = refl
+unfolding state_of
+state_said s f =
+    case (is_word (119 ∷ []) s) (λ e. rw e) (λ e.
+    rw e (case (is_word (114 ∷ []) s) (λ g. rw g) (λ g. rw g (case (is_word (99 ∷ []) s) (λ h. rw h) (λ h. rw h)))))
 
 -- above all limits
 abbrev pub beyond : (nodes estimate least : ℕ) → Bool

@@ -57,6 +57,9 @@ fn record(
     let Some(state) = state else {
         return Err(Fault::Malformed);
     };
+    if state == State::Unused {
+        return Err(Fault::Malformed);
+    }
     let Some(letter) = house else {
         return Err(Fault::Malformed);
     };

@@ -15,3 +15,7 @@ module _ (xs : List ℕ) (a k : ℕ) where
 
   pub part_at : (j : ℕ) → j < k → get_or (mid_of a k xs) j 0 ≡ get_or xs (a + j) 0
   part_at j l = search (rules, places)
+
+  -- where the part has a place
+  pub part_here : (j : ℕ) → j < length (mid_of a k xs) → get_or (mid_of a k xs) j 0 ≡ get_or xs (a + j) 0
+  part_here j l = search (rules, places)

@@ -152,11 +152,12 @@ fn read_points(
     requires { (length free.now ≡ rows) × (length enough.old ≡ 16) × (from ≤ to) × (to ≤ rows) × (to ≤ from + 16) }
     ensures { Noted nodes (at free.now) from (to - from) result enough.new }
 {
-    let part = &free[from..to];
-    for (k, &left) in part.iter().enumerate() {
-        enough[k] = nodes <= left;
+    let mut reads: usize = 0;
+    for &left in &free[from..to] {
+        enough[reads] = nodes <= left;
+        reads += 1;
     }
-    part.len()
+    reads
 }
 
 // The search passes these points; the notes say which of them have enough nodes. Before them the nodes have been free since a minute, or they have

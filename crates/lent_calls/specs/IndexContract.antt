@@ -20,7 +20,7 @@ use Rattle.calls.specs.declared.Listing.{Listing}
 use Rattle.calls.specs.ListCall.{over, written, Shows, listing, items_by, written_fit}
 use Rattle.calls.specs.IndexCall.{indexed, blocks_of, index_outcome, block_at}
 use Rattle.lent_lemmas.specs.Lists.{tabulate}
-use Rattle.lent_calls.specs.ListContract.{tabulate_front, shows_by, listed_given, listed_fits}
+use Rattle.lent_calls.specs.ListContract.{tabulate_front, shows_by, listed_over, listed_fits}
 
 abbrev pub ShowsBlocks : Scheduler → (lent : List Block) → Shown → (after : List Block) → Type 0
 ShowsBlocks d lent a after = Shows blocks_of d lent a after
@@ -53,8 +53,9 @@ few_by Easy m v = omega arith
 
 -- what `write_to` asks and gives
 pub blocks_few : (d : Scheduler) (room : ℕ) (p : Listing Block block_places) → Premise d → p ≡ index_outcome (view d) room → (p.count ≤ block_places) × (p.count ≤ room)
-blocks_few d room p h e = listed_fits block_places no_block blocks_of d room p (few_by (view d).settings.kind (view d) h.holds) e
+blocks_few d room p h e = ((listed_fits block_places no_block blocks_of d room p (few_by (view d).settings.kind (view d) h.holds) e).0, blocks_fits d room p e)
 
 pub blocks_shown : (d : Scheduler) (lent : List Block) (p : Listing Block block_places) → p ≡ index_outcome (view d) (length lent)
     → ShowsBlocks d lent p.answer (over (take p.count p.items) lent)
-blocks_shown d lent p e = listed_given block_places no_block blocks_of d lent p e
+blocks_shown d lent p e =
+    subst (ShowsBlocks d lent p.answer) (listed_over block_places no_block blocks_of d (length lent) lent p e) (blocks_given d lent p e)

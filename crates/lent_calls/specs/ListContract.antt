@@ -9,7 +9,7 @@ use Rattle.scheduler.specs.declared.Scheduler.{Scheduler}
 use Rattle.scheduler.specs.Model.{Model, view}
 use Rattle.scheduler.specs.Answers.{verdict}
 use Rattle.calls.specs.declared.Listing.{Listing}
-use Rattle.calls.specs.ListCall.{over, list_refusal, written, shown, Shows, listing, refused_over, written_fit}
+use Rattle.calls.specs.ListCall.{over, list_refusal, written, shown, Shows, listing, item_at, refused_over, written_fit}
 use Rattle.lent_lemmas.specs.Lists.{tabulate}
 
 module _ {A : Type 0} where
@@ -46,6 +46,17 @@ module _ {A : Type 0} (n : ℕ) (blank : A) (items : Model → List A) (d : Sche
         writes = ap (λ (ys : List A). over ys lent) t;
         refused = λ a. ap (λ (ys : List A). over ys lent) t ∙ refused_over items d lent a;
       })
+
+  -- written to the list, it stands there place by place
+  pub listed_over : (room : ℕ) (lent : List A) (p : Listing A n) → p ≡ listed room
+      → tabulate p.count (item_at p blank) ++ drop p.count lent ≡ over (take p.count p.items) lent
+  unfolding listing pad
+  listed_over room lent p e =
+      let xs = written items (view d) room in
+      let ys = replicate (n - length xs) blank in
+      let t : take (length xs) (xs ++ ys) ≡ xs = take-append_seam xs ys in
+      subst (λ (q : Listing A n). tabulate q.count (item_at q blank) ++ drop q.count lent ≡ over (take q.count q.items) lent) (sym e)
+      (ap (λ (l : List A). l ++ drop (length xs) lent) (tabulate_front blank xs ys) ∙ ap (λ (l : List A). over l lent) (sym t))
 
   -- it fits the list, and the array if all elements do
   pub listed_fits : (room : ℕ) (p : Listing A n) → length (items (view d)) ≤ n → p ≡ listed room → (p.count ≤ n) × (p.count ≤ room)

@@ -18,7 +18,7 @@ use Rattle.calls.specs.declared.Listing.{Listing}
 use Rattle.calls.specs.ListCall.{over, written, Shows, listing, items_by, written_fit}
 use Rattle.calls.specs.ProfileCall.{points_of, profile_outcome, point_at}
 use Rattle.lent_lemmas.specs.Lists.{tabulate}
-use Rattle.lent_calls.specs.ListContract.{tabulate_front, shows_by, listed_given, listed_fits}
+use Rattle.lent_calls.specs.ListContract.{tabulate_front, shows_by, listed_over, listed_fits}
 
 abbrev pub ShowsPoints : Scheduler → (lent : List Point) → Shown → (after : List Point) → Type 0
 ShowsPoints d lent a after = Shows points_of d lent a after
@@ -42,8 +42,9 @@ few_by Easy m v = omega arith
 
 -- what `write_to` asks and gives
 pub points_few : (d : Scheduler) (room : ℕ) (p : Listing Point places) → Premise d → p ≡ profile_outcome (view d) room → (p.count ≤ places) × (p.count ≤ room)
-points_few d room p h e = listed_fits places no_point points_of d room p (few_by (view d).settings.kind (view d) h.holds) e
+points_few d room p h e = ((listed_fits places no_point points_of d room p (few_by (view d).settings.kind (view d) h.holds) e).0, points_fits d room p e)
 
 pub points_shown : (d : Scheduler) (lent : List Point) (p : Listing Point places) → p ≡ profile_outcome (view d) (length lent)
     → ShowsPoints d lent p.answer (over (take p.count p.items) lent)
-points_shown d lent p e = listed_given places no_point points_of d lent p e
+points_shown d lent p e =
+    subst (ShowsPoints d lent p.answer) (listed_over places no_point points_of d (length lent) lent p e) (points_given d lent p e)

@@ -2,7 +2,8 @@
 #![tactic(auto)]
 
 ghost use Rattle.std.specs.Prelude.{◌≡◌, find};
-ghost use Rattle.walltime.specs.WallTime.{wall_time, bands, reaches};
+ghost use Rattle.walltime.specs.WallTime.{wall_time, reaches};
+ghost use Rattle.walltime.specs.declared.TheConstants.{BANDS};
 ghost use Rattle.walltime.specs.Laws.{LongestWithin};
 
 // Estimates up to `end` are rounded up to a multiple of `width`.
@@ -26,7 +27,7 @@ const BANDS: [Band; 3] = [
 
 // The first band that reaches this many minutes.
 fn band_reaching(minutes: u32) -> Option<Band>
-    ensures { result ≡ find (reaches minutes) bands }
+    ensures { result ≡ find (reaches minutes) BANDS }
 {
     BANDS.iter().copied().find(|b| minutes <= b.end)
 }

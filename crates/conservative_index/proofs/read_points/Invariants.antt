@@ -7,5 +7,7 @@ use Rattle.conservative_index.specs.BuiltIndex.{at}
 use Rattle.conservative_index.specs.Anchors.{has, note}
 use Rattle.conservative_index.proofs.read_points.Given as goal
 
-abbrev pub invariant-loop-k : goal.invariant-loop-k
-invariant-loop-k l = (length l.enough ≡ 16) × ((j : ℕ) → j < l.k → note l.enough j ≡ has l.nodes (at l.free) l.from j)
+-- as many are counted as are read
+abbrev pub invariant-loop-left : goal.invariant-loop-left
+invariant-loop-left l =
+    (l.reads ≡ l.left-index) × (length l.enough ≡ 16) × ((j : ℕ) → j < l.reads → note l.enough j ≡ has l.nodes (at l.free) l.from j)

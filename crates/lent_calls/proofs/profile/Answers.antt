@@ -1,12 +1,13 @@
 -- `lent_calls::profile` meets its contract: what `calls::profile` gives is written to the front of the list.
 -- Assumes nothing.
-use Rattle.std.specs.Prelude.{length}
 use Rattle.std.proofs.Common.{arith}
 use Rattle.lent_calls.specs.ProfileContract.{points_few, points_shown}
 use Rattle.lent_calls.proofs.profile.Goals as goal
 
 pub write_to-requires : goal.write_to-requires
-write_to-requires c = (omega arith, points_few c.args.d.now (length c.args.points.now) _ c.requires c.profile.ensures)
+write_to-requires c =
+    let f = points_few c.args.d.now _ _ c.requires c.profile.ensures in
+    (omega arith, (f.0, omega (arith, f.1)))
 
 pub returns : goal.returns
 returns c =
