@@ -714,7 +714,7 @@ pub extern "C" fn hingerota_open_loose(opening: Opening) -> Opened
 pub extern "C" fn hingerota_restore(text: &[u8]) -> Opened
     ensures { result ≡ restores text.now }
 {
-    calls::restore(text).into()
+    Opened::from(calls::restore(text))
 }
 
 // Whether these numbers, whatever they are, are a desk that may be passed to the other calls: 0, or 23.

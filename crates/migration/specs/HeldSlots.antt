@@ -8,7 +8,7 @@ use mathlib.Core.List.{List, [], ◌∷◌, map}
 use Rattle.std.proofs.lemmas.List.{length-map}
 use Rattle.std.proofs.Math.ListN.{get_or-map}
 use Rattle.lists.specs.Tests.{case, true_false}
-use Rattle.lists.specs.Lists.{keep, All, In, all_of, map_in}
+use Rattle.lists.specs.Lists.{keep, All, In, all_of, all_at, map_in}
 use Rattle.lists.specs.Pads.{keep_pad, all_pad, map_pad}
 use Rattle.spans.specs.Spans.{used}
 use Rattle.scheduler.specs.declared.Job.{Job}
@@ -21,7 +21,7 @@ use Rattle.scheduler.specs.Times.{hold_le, until_is}
 use Rattle.scheduler.specs.Model.{Model, store, view, store_length}
 use Rattle.jobs.specs.Soundness.{SoundJob, Sound}
 use Rattle.jobs.specs.Premise.{Holds, holds_as}
-use Rattle.jobs.specs.Slots.{Low, sound_low, slots_all, slots_low}
+use Rattle.jobs.specs.Slots.{Low, sound_low, slots_are, slots_all, slots_low}
 use Rattle.conservative_table.specs.declared.Row.{Row}
 use Rattle.conservative_table.specs.ListChanges.{rows}
 use Rattle.conservative_table.specs.ProfileLists.{IsProfile, Laying, Changed, exact_few}
@@ -38,6 +38,23 @@ held_slot j = cond (is_holding j) (kept j) unused
 
 abbrev pub held_slots : List Job → List Job
 held_slots js = map held_slot js
+
+-- a slot that is not live is the unused one
+abbrev pub Blank : Job → Type 0
+Blank j = is_live_of j ≡ false → j ≡ unused
+
+pub sound_of : (d : Scheduler) → Holds Valid d → Holds Sound d
+sound_of d h = holds_as Valid Sound d (λ m v. v.ready.sound) h
+
+pub slots_blank : (d : Scheduler) → Holds Sound d → (i : ℕ) → i < 64 → Blank (get_or d.jobs i unused)
+unfolding store
+slots_blank d h i l = all_at Blank d.jobs i unused (subst (All Blank) (sym (slots_are d h)) (stored (view d) live)) (omega (arith, slots_all d h))
+  where
+    live : (j : Job) → In j (view d).jobs → Blank j
+    live j x e = true_false (is_live_of j) (h.holds.each j x).is_live e
+
+    stored : (m : Model) → ((j : Job) → In j m.jobs → Blank j) → All Blank (store m).jobs
+    stored m f = all_pad slots unused Blank m.jobs (λ e. refl) (all_of Blank m.jobs f)
 
 -- the lists are their profile
 abbrev pub HoldersLaid : Scheduler → ℕ → List ℕ → List ℕ → Type 0
@@ -112,7 +129,7 @@ module _ (d : Scheduler) (h : Holds Valid d) where
 
   -- every start and every end is a minute of the clock
   pub slot_low : (i : ℕ) → i < slots → Low (get_or d.jobs i unused)
-  slot_low i l = let s = holds_as Valid Sound d (λ m v. v.ready.sound) h in slots_low d s i (omega (arith, slots_all d s))
+  slot_low i l = let s = sound_of d h in slots_low d s i (omega (arith, slots_all d s))
 
   module _ {i n : ℕ} {ms fs : List ℕ} (low : i < slots) (v : LaidTo d i n ms fs) where
     abbrev j : Job

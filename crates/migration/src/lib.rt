@@ -1,12 +1,13 @@
 // From EASY to conservative backfilling while jobs run (document 02, No. 12: "From the Loose Desk to the new one"), by value.
 #![tactic(auto)]
 
-ghost use Rattle.std.specs.Prelude.{◌≡◌, length};
+ghost use Rattle.std.specs.Prelude.{◌≡◌, ℕ, ◌<◌, length, get_or};
+ghost use Rattle.scheduler.specs.Jobs.{unused};
 ghost use Rattle.scheduler.specs.Model.{store, view};
 ghost use Rattle.jobs.specs.Premise.{Holds};
 ghost use Rattle.easy_laws.specs.Validity.{Valid};
 ghost use Rattle.migration_rules.specs.Migration.{promise_settings, kept, migrated};
-ghost use Rattle.migration.specs.HeldSlots.{held_slot, held_slots};
+ghost use Rattle.migration.specs.HeldSlots.{Blank, held_slot, held_slots};
 
 use scheduler::{Job, Kind, Scheduler, Settings};
 
@@ -44,12 +45,16 @@ fn held_slot(job: Job) -> Job
     }
 }
 
-// All slots so.
-fn held_slots(jobs: [Job; 64]) -> [Job; 64]
-    requires { length jobs ≡ 64 }
-    ensures { result ≡ held_slots jobs }
+// All slots so, in their place. An unused slot is left as it is.
+fn hold_slots(jobs: &mut [Job; 64])
+    requires { (length jobs.old ≡ 64) × ((i : ℕ) → i < 64 → Blank (get_or jobs.old i unused)) }
+    ensures { jobs.new ≡ held_slots jobs.old }
 {
-    jobs.map(held_slot)
+    for job in jobs.iter_mut() {
+        if job.is_live() {
+            *job = held_slot(*job);
+        }
+    }
 }
 
 // Jobs that hold nodes keep their starts, which become their promises. Each waiting job, in ticket order, is planned at its earliest start beside
@@ -60,10 +65,12 @@ pub fn migrate(d: Scheduler) -> Scheduler
 {
     let settings = promise_settings(d.settings);
     let clock = d.clock;
+    let mut held = d.jobs;
+    hold_slots(&mut held);
     let mut minutes = [0u32; 131];
     let mut free = [0u32; 131];
     let mut count = conservative_plan::tabulate_slots(
-        &held_slots(d.jobs),
+        &held,
         settings,
         clock,
         &mut minutes,

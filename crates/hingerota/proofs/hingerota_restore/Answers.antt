@@ -3,4 +3,4 @@
 use Rattle.hingerota.proofs.hingerota_restore.Goals as goal
 
 pub returns : goal.returns
-returns c = rw (c.into.ensures, c.restore.ensures)
+returns c = rw (c.from.ensures, c.restore.ensures)

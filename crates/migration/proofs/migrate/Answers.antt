@@ -1,24 +1,32 @@
 -- `migration::migrate` meets its contract: it is the turn of slot i, and the lists are the profile of the plan and its index.
 -- Assumes nothing.
-use mathlib.Core.Path.{refl, sym, ap, ◌∙◌}
+use mathlib.Core.Path.{◌≡◌, refl, sym, ap, ◌∙◌}
+use mathlib.Core.List.{List}
 use Prim.Native.Nat.{◌<◌}
 use native.Mathlib.Omega.{arith}
-use lib.ListN.{set}
+use Rattle.scheduler.specs.declared.Job.{Job}
 use Rattle.scheduler.specs.declared.Scheduler.{Scheduler}
 use Rattle.scheduler.specs.Table.{with_jobs}
 use Rattle.scheduler.specs.Model.{view}
 use Rattle.conservative_index.specs.BuiltIndex.{built_none}
-use Rattle.migration.specs.HeldSlots.{fits, holders_few}
+use Rattle.jobs.specs.Slots.{slots_all}
+use Rattle.migration.specs.HeldSlots.{sound_of, slots_blank, fits, holders_few}
 use Rattle.migration.specs.Replanning.{replanning_begins, replanning_ends, kept_turn, searches, span_low, lays, planned_turn, changed_scheduler}
 use Rattle.migration.proofs.migrate.Goals.{else-is_waiting, then-is_waiting}
 use Rattle.migration.proofs.migrate.Goals as goal
 
+pub hold_slots-requires : goal.hold_slots-requires
+hold_slots-requires c =
+    let d = c.args.d in
+    let s = sound_of d c.requires in
+    (slots_all d s, slots_blank d s)
+
 pub tabulate_slots-count-requires : goal.tabulate_slots-count-requires
-tabulate_slots-count-requires c = rw (c.promise_settings-settings.ensures, c.held_slots.ensures) (fits c.args.d c.requires, refl, refl)
+tabulate_slots-count-requires c = rw (c.promise_settings-settings.ensures, c.hold_slots.ensures) (fits c.args.d c.requires, refl, refl)
 
 pub build-requires : goal.build-requires
 build-requires c =
-    let t = rw (c.promise_settings-settings.ensures, c.held_slots.ensures) at c.tabulate_slots-count.ensures in
+    let t = rw (c.promise_settings-settings.ensures, c.hold_slots.ensures) at c.tabulate_slots-count.ensures in
     (built_none refl refl, t.free_long, holders_few c.args.d c.requires t, omega arith)
 
 pub loop-i-init : goal.loop-i-init
@@ -27,7 +35,7 @@ loop-i-init c =
     record {
       settings-are = c.promise_settings-settings.ensures;
       scheduler_is = refl;
-      turn = replanning_begins c.requires.holds (ap (λ (e : Scheduler). e.jobs) c.requires.stored) (rw (c.promise_settings-settings.ensures, c.held_slots.ensures) at c.tabulate_slots-count.ensures) c.build.ensures;
+      turn = replanning_begins c.requires.holds (ap (λ (e : Scheduler). e.jobs) c.requires.stored) (rw (c.promise_settings-settings.ensures, c.hold_slots.ensures) at c.tabulate_slots-count.ensures) c.build.ensures;
     }
 
 pub search-found-requires : goal.search-found-requires
@@ -53,6 +61,10 @@ take_in-count-requires c =
       g.turn.indexed,
     )
 
+-- a store into a slot leaves the rest of the scheduler as it was, whatever is stored
+rest_stays : (d e : Scheduler) (js : List Job) → e ≡ with_jobs d e.jobs → with_jobs e js ≡ with_jobs d js
+rest_stays d e js q = ap (λ (f : Scheduler). with_jobs f js) q
+
 pub loop-i-preserved : goal.loop-i-preserved
 unfolding view
 loop-i-preserved c =
@@ -60,7 +72,7 @@ loop-i-preserved c =
     let low : c.loop-i.i < 64 = omega arith in
     record {
       settings-are = g.settings-are;
-      scheduler_is = ap (λ (f : Scheduler). with_jobs f (set c.loop-i.e.jobs c.loop-i.i c.kept.result)) g.scheduler_is;
+      scheduler_is = rest_stays c.args.d c.loop-i.e _ g.scheduler_is;
       turn = rw c.kept.ensures
           (elim c.if-is_waiting.branch [
             | then-is_waiting x ↦ rw (x.minutes-is, x.free-is, x.count-is, x.low-is, x.high-is, x.j-is, x.place-j.ensures)
